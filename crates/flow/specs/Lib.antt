@@ -1,0 +1,6 @@
+pub mod Tests
+pub mod Flow
+pub mod Laws
+pub mod Lifts
+pub mod Overlay
+pub mod OverlayLaws

@@ -1,0 +1,1 @@
+// Theory only: the combinators of reading and their laws stand in specs/.

@@ -1,0 +1,24 @@
+-- `doubles::whole` meets its contract.
+use mathlib.Core.Path.{sym}
+use native.Mathlib.Omega.{arith}
+use mir.Syntax.{w16}
+use mir.ValLaws.{toZ-ofZ}
+use borrow.Author.Needs.{needs}
+use Rattle.scalar.specs.Ieee.{ofInt-no-nan, whole-agrees}
+use Rattle.scalar.proofs.doubles.whole.Statement.{statement}
+use Rattle.scalar.proofs.doubles.whole.Tie as tie
+
+int-to-float-result : tie.Need-int-to-float-result
+int-to-float-result c = search needs
+
+float-to-bits-result : tie.Need-float-to-bits-result
+float-to-bits-result c = ofInt-no-nan _ _
+
+returns : tie.Need-returns
+returns c =
+    let n = c .before .args .n in
+    let f = c .before .fits .n in
+    rw (toZ-ofZ w16 n f) (sym (whole-agrees n (omega (arith, f .sfits))))
+
+pub whole-spec : {M : Type 1} → statement M
+whole-spec = tie.close (tie.spec int-to-float-result float-to-bits-result returns)

@@ -1,0 +1,45 @@
+-- `numbers::store` meets its contract.
+use mathlib.Core.Path.{_∙_}
+use native.Mathlib.Omega.{arith}
+use lib.ListN.{length-set}
+use borrow.Author.Needs.{needs}
+use Rattle.scalar.proofs.Writing.{store-none, store-all}
+use Rattle.scalar.proofs.numbers.store.Statement.{statement}
+use Rattle.scalar.proofs.numbers.store.Tie as tie
+
+returns : tie.Need-returns
+returns c = store-none _ _ _ _ _ (omega arith)
+
+sub-if2 : tie.Need-sub-if2
+sub-if2 c = search needs
+
+returns-2 : tie.Need-returns-2
+returns-2 c = store-none _ _ _ _ _ (omega arith)
+
+slice-write-out : tie.Need-slice-write-out
+slice-write-out c = search needs
+
+add-store-number : tie.Need-add-store-number
+add-store-number c = search needs
+
+store-number-requires : tie.Need-store-number-requires
+store-number-requires c κs = search needs
+
+same-length : tie.Need-same-length
+same-length c = c .before .before .store-number .kept .0 ∙ simp length-set
+
+returns-3 : tie.Need-returns-3
+returns-3 c = store-all _ _ _ _ _ (omega arith) (c .before .before .store-number .ensures)
+
+pub store-spec : {M : Type 1} → statement M
+store-spec =
+    tie.close
+    (tie.spec
+    returns
+    sub-if2
+    returns-2
+    slice-write-out
+    add-store-number
+    store-number-requires
+    same-length
+    returns-3)

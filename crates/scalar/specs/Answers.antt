@@ -1,0 +1,80 @@
+-- What the answers of the code say, in 01's terms: number, count and place.
+use mathlib.Core.Bool.{Bool, true, false}
+use mathlib.Core.List.{List, [], _∷_}
+use mathlib.Core.Option.{Option, none}
+use mathlib.Core.Option as option
+use Prim.Native.Nat.{ℕ, suc, _+_, _^_, _≤_, _<_}
+use lib.Dec.{leb}
+use lib.ListN.{length}
+use Rattle.flow.specs.Tests.{pick}
+use Rattle.flow.specs.Flow.{Answer, Done, Fault}
+use Rattle.flow.specs.Overlay.{stored}
+use Rattle.wire.specs.BigEndian.{be, wider}
+use Rattle.scalar.specs.declared.numbers.Rule.{Rule}
+use Rattle.scalar.specs.declared.numbers.Rule.the-variants.{Exactly, Plain, Offset, Signed, Minutes, WholeByte, WholePair, Float}
+use Rattle.scalar.specs.declared.numbers.NumberRead.{NumberRead}
+use Rattle.scalar.specs.declared.numbers.NumberRead.the-variants.{Value, Refused}
+use Rattle.scalar.specs.declared.numbers.Spelling.{Spelling}
+use Rattle.scalar.specs.declared.numbers.Spelling.the-variants as spelling
+use Rattle.scalar.specs.declared.numbers.NumberWritten.{NumberWritten}
+use Rattle.scalar.specs.declared.numbers.NumberWritten.the-variants.{Stored, NoRoom, NotSuch}
+use Rattle.scalar.specs.Numbers.{Form}
+
+-- a value read, and the bytes it takes; or a refusal's number and place
+abbrev pub told : NumberRead → Answer ℕ
+told (Value v n) = Done n v [] tt
+told (Refused x o) = Fault x o
+
+-- a refusal's number, 0 where accepted; the bytes stored or needed; the place
+pub record Report : Type 0 where
+  pub number : ℕ
+  pub count : ℕ
+  pub place : ℕ
+
+abbrev pub reported : ℕ → ℕ → Report
+reported number count = record { number = number; count = count; place = 0 }
+
+abbrev pub report : NumberWritten → Report
+report (Stored n) = reported 0 n
+report (NoRoom n) = reported 9 n
+report NotSuch = reported 10 0
+
+-- what storing a form from the index at on comes to, in a slice of len bytes; and what the slice then holds
+unfoldable pub reportOf : Option (List ℕ) → ℕ → ℕ → Report
+reportOf none len at = reported 10 0
+reportOf (option.some w) len at = pick (leb (at + length w) len) (reported 0 (length w)) (reported 9 (length w))
+
+unfoldable pub outputOf : Option (List ℕ) → List ℕ → ℕ → List ℕ
+outputOf none l at = l
+outputOf (option.some w) l at = stored l at w
+
+unfoldable pub lengthOf : Option (List ℕ) → ℕ
+lengthOf none = 0
+lengthOf (option.some w) = length w
+
+-- ---- inside the code
+-- the bytes that a spelling is
+abbrev pub spelled : Spelling → Option (List ℕ)
+spelled (spelling.Form c k u) = option.some (c ∷ be k u)
+spelled spelling.Absent = none
+
+abbrev pub some : Option (List ℕ) → Bool
+some none = false
+some (option.some w) = true
+
+-- the numbers that a rule takes
+abbrev pub Takes : Rule → ℕ → Type 0
+Takes (Exactly v) u = Unit {0}
+Takes Plain u = Unit {0}
+Takes (Offset k) u = (u < 2 ^ 63) × (k < 2 ^ 63)
+Takes Signed u = u < 2 ^ 32
+Takes Minutes u = u < 2 ^ 32
+Takes WholeByte u = u < 2 ^ 8
+Takes WholePair u = u < 2 ^ 16
+Takes Float u = u < 2 ^ 32
+
+-- a form of up to five bytes, whose rule takes what it can hold
+pub record Good (w : Form) : Type 0 where
+  pub codes : w .head + w .codes ≤ 256
+  pub few : w .extra ≤ 4
+  pub takes : (u : ℕ) → u < wider (w .extra) (w .codes) → Takes (w .rule) u

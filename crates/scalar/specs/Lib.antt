@@ -1,0 +1,12 @@
+pub mod Doubles
+pub mod Numbers
+pub mod Chart
+pub mod Answers
+pub mod Signed
+pub mod DoubleLaws
+pub mod Ieee
+pub mod ChartLaws
+pub mod NumberLaws
+pub mod NumberAt
+pub mod Sorts
+pub mod NumberTheorems
