@@ -7,7 +7,7 @@ use native.Mathlib.Omega.{arith}
 use native.Mathlib.Decide.{ℕ-discrete}
 use lib.Dec.{T, ltb, eqb, leb, ltb→lt, nltb→le, eqb→eq, lt→ltb, eqb-refl, not-T}
 use lib.Arith.{le→nltb}
-use lib.ListN.{length, take, drop}
+use lib.ListN.{length, take, drop, getD}
 use borrow.Author.Tests.{lt-ltb, le-ltb, le-leb, lt-leb, eq-eqb, ne-eqb, ltb-true, ltb-false, leb-true, leb-false, eqb-true, eqb-false}
 
 -- ---- a choice by a test, over `cond`
@@ -178,6 +178,11 @@ pub bytes-take : (n : ℕ) (s : List ℕ) → Bytes s → Bytes (take n s)
 bytes-take zero s h = tt
 bytes-take (suc n) [] h = tt
 bytes-take (suc n) (b ∷ s) h = (h .0, bytes-take n s (h .1))
+
+-- a list whose elements are all below 256 is bytes
+pub bytes-all : (s : List ℕ) → ((i : ℕ) → getD s i 0 < 256) → Bytes s
+bytes-all [] f = tt
+bytes-all (b ∷ s) f = (f 0, bytes-all s (λ i. f (suc i)))
 
 -- a fact of the first byte
 abbrev pub First : (ℕ → Type 0) → List ℕ → Type 0

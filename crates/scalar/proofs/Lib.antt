@@ -1,3 +1,5 @@
-pub mod Reading
 pub mod Table
+pub mod Reading
 pub mod Writing
+pub mod Rows
+pub mod Strings

@@ -11,7 +11,7 @@ use lib.Dec.{T, leb}
 use lib.ListN.{length, take, drop, getD, length-take, length-drop}
 use mir.Syntax.{w8}
 use mir.Val.{Fits}
-use Rattle.flow.specs.Tests.{and-left, and-right, within-yes, within-is, pick-either, Bytes, bytes-take, bytes-drop}
+use Rattle.flow.specs.Tests.{and-left, and-right, within-yes, within-is, pick-either, Bytes, bytes-take, bytes-drop, bytes-all}
 use Rattle.flow.specs.Flow.{Done, Fault}
 use Rattle.wire.specs.BigEndian.{joined, be}
 use Rattle.wire.specs.Laws.{be-length, be-bytes, joined-below}
@@ -105,11 +105,6 @@ form-suits (w ∷ ws) b h = pick-either Suits (inside w b)
 pub suits : (s : Sort) (b k u : ℕ) (r : Rule) → formAt (formsOf s) b ≡ Starts k u r → Suits (Starts k u r)
 suits s b k u r e = subst Suits e (form-suits (formsOf s) b (rooms s))
 
--- ---- reading at the place p of the message m: x is what the byte there begins, and n the number that the form holds
-bytes-all : (m : List ℕ) → ((i : ℕ) → Fits w8 (getD m i 0)) → Bytes m
-bytes-all [] f = tt
-bytes-all (b ∷ m) f = (f 0 .fits, bytes-all m (λ i. f (suc i)))
-
 module _ (s : Sort) (m : List ℕ) (p : ℕ) where
   pub reads-end : length m ≤ p → Fault 2 (length m) ≡ numberAt s m p
   reads-end l = sym (number-ends s m p l)
@@ -127,7 +122,7 @@ module _ (s : Sort) (m : List ℕ) (p : ℕ) where
         rest = take k (drop (p + 1) m)
 
         suited : (joined u rest < 2 ^ 64) × Takes r (joined u rest)
-        suited = suits s (getD m p 0) k u r (sym is ∙ e) .1 rest (simp (length-take, length-drop) (omega arith)) (bytes-take k (drop (p + 1) m) (bytes-drop (p + 1) m (bytes-all m bytes)))
+        suited = suits s (getD m p 0) k u r (sym is ∙ e) .1 rest (simp (length-take, length-drop) (omega arith)) (bytes-take k (drop (p + 1) m) (bytes-drop (p + 1) m (bytes-all m (λ i. bytes i .fits))))
 
         same : n ≡ joined u rest
         same = at ∙ mod-eq-of-lt (suited .0)

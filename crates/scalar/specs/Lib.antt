@@ -1,7 +1,10 @@
+pub mod Chart
 pub mod Doubles
 pub mod Numbers
-pub mod Chart
+pub mod Texts
+pub mod Scalars
 pub mod Answers
+pub mod TextAnswers
 pub mod Signed
 pub mod DoubleLaws
 pub mod Ieee
@@ -10,3 +13,10 @@ pub mod NumberLaws
 pub mod NumberAt
 pub mod Sorts
 pub mod NumberTheorems
+pub mod Greedy
+pub mod TextUnits
+pub mod TextLaws
+pub mod TextShort
+pub mod TextTheorems
+pub mod TextAt
+pub mod ScalarLaws

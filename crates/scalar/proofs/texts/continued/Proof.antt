@@ -1,0 +1,65 @@
+-- The loop's invariant: what is left reads as the whole does, but for the bytes so far. The measure is how many bytes are left to read.
+use mathlib.Core.Logic.{⊎-elim}
+use native.Mathlib.Omega.{arith}
+use borrow.Author.Tests.{leb-true}
+use borrow.Author.Needs.{needs}
+use Rattle.flow.specs.Tests.{within-below, within-above}
+use Rattle.scalar.specs.Texts.{continued}
+use Rattle.scalar.specs.TextAnswers.{extentAt}
+use Rattle.scalar.specs.TextAt.{continued-none, continued-ends, continued-out, continued-next}
+use Rattle.scalar.proofs.Strings.{Along, along-start, along-end, along-fault, along-more}
+use Rattle.scalar.proofs.texts.continued.Statement.{statement}
+use Rattle.scalar.proofs.texts.continued.Tie as tie
+
+abbrev Inv-loop : tie.InvT-loop
+Inv-loop message place at more from below len here₀ left₀ lo₀ hi₀ here left lo hi = Along (extentAt (continued place more from below) message at) (extentAt (continued place left lo hi) message here) message at here
+
+abbrev μ-loop : tie.MeasureT-loop
+μ-loop message place at more from below len here₀ left₀ lo₀ hi₀ here left lo hi = left
+
+loop-holds : tie.Need-loop-holds Inv-loop μ-loop
+loop-holds c = along-start _ _ _ (c .pre)
+
+returns : tie.Need-returns Inv-loop μ-loop
+returns c = search (along-fault, continued-ends, needs)
+
+shared-slice-read-b : tie.Need-shared-slice-read-b Inv-loop μ-loop
+shared-slice-read-b c = search needs
+
+returns-2 : tie.Need-returns-2 Inv-loop μ-loop
+returns-2 c = ⊎-elim (λ w. search (along-fault, continued-out, within-below, needs)) (λ w. search (along-fault, continued-out, within-above, leb-true, needs)) (c .if2 .came)
+
+add-here : tie.Need-add-here Inv-loop μ-loop
+add-here c = search needs
+
+sub-left : tie.Need-sub-left Inv-loop μ-loop
+sub-left c = search needs
+
+loop-less : tie.Need-loop-less Inv-loop μ-loop
+loop-less c = search needs
+
+loop-again : tie.Need-loop-again Inv-loop μ-loop
+loop-again c = along-more (c .before .before .before .before .before .loop .inv) 1 _ (search (continued-next, needs)) (omega arith)
+
+sub-t18 : tie.Need-sub-t18 Inv-loop μ-loop
+sub-t18 c = search needs
+
+returns-3 : tie.Need-returns-3 Inv-loop μ-loop
+returns-3 c = search (along-end, continued-none, needs)
+
+pub continued-spec : {M : Type 1} → statement M
+continued-spec =
+    tie.close
+    (tie.spec
+    Inv-loop
+    μ-loop
+    loop-holds
+    returns
+    shared-slice-read-b
+    returns-2
+    add-here
+    sub-left
+    loop-less
+    loop-again
+    sub-t18
+    returns-3)

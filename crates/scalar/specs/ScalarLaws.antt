@@ -1,0 +1,292 @@
+-- Scalars: what the layer above uses of their forms.
+use mathlib.Core.Path.{_≡_, refl, sym, _∙_, ap, subst}
+use mathlib.Core.Bool.{Bool, true, false, cond, not}
+use mathlib.Core.List.{List, [], _∷_, _++_}
+use mathlib.Core.Option.{Option, none, some}
+use Prim.Native.Nat.{ℕ, zero, suc, _+_, _≤_, _<_}
+use native.Mathlib.Omega.{arith}
+use lib.Dec.{T, ltb, eqb, eqb→eq}
+use lib.IntN.{pos}
+use borrow.Author.Tests.{le-leb}
+use lib.ListN.{length}
+use Rattle.flow.specs.Tests.{by-test, pick, pass, every, every-at, implies, implied, and-both, within-yes, Bytes, First}
+use Rattle.flow.specs.Flow.{From, Fault, mapped}
+use Rattle.flow.specs.Laws.{Parsed, maps, Quiet, quiet, quietly, Makes, map-makes, Leads}
+use Rattle.scalar.specs.declared.numbers.Sort.{Sort}
+use Rattle.scalar.specs.declared.numbers.Sort.the-variants as sort
+use Rattle.scalar.specs.declared.texts.Kind.{Kind}
+use Rattle.scalar.specs.declared.texts.Kind.the-variants.{Utf8, Binary}
+use Rattle.scalar.specs.declared.chart.Lead.{Lead}
+use Rattle.scalar.specs.declared.chart.Lead.the-variants as lead
+use Rattle.scalar.specs.Chart.{ranges, rangeOf, leadOf, kindOf}
+use Rattle.scalar.specs.ChartLaws.{kind-is}
+use Rattle.scalar.specs.Numbers.{Form, compact, inside, formsOf, numberFrom, held, Number, here, later, guess, fits, shortest}
+use Rattle.scalar.specs.NumberLaws.{number-bytes, number-some, number-scans, number-makes, NumberLed, shortest-is, IsNumber}
+use Rattle.scalar.specs.Sorts.{properly, none-shorter, int-ranges}
+use Rattle.scalar.specs.Texts.{partHead, lastHeads, stringFrom, String, last-chunk, chunk-before, shortestString}
+use Rattle.scalar.specs.TextLaws.{string-bytes, string-scans, string-makes, StringLed}
+use Rattle.scalar.specs.TextShort.{string-short, string-is, IsString}
+use Rattle.scalar.specs.Scalars.{Scalar, Num, Str, isScalar, isText, scalarBy, scalarFrom, intFrom, textFrom, Spelt, a-number, a-string, Int, Text, shortestScalar, shortestInt, shortestText}
+
+-- ---- the first byte says what the scalar is
+abbrev begins : List Form → ℕ → Bool
+begins [] b = false
+begins (w ∷ ws) b = cond (inside w b) true (begins ws b)
+
+number-begins : {ws : List Form} {t : List ℕ} {v : ℕ} → Number ws t v → First (λ b. T (begins ws b)) t
+number-begins (here {w = w} (held q t l e i)) = rw (within-yes (w .head) (w .head + w .codes) (w .head + q) (omega arith) (omega arith)) tt
+number-begins (later {w = w} {ws = ws} {t = t} n) = go t (number-begins n)
+  where
+    go : (t : List ℕ) → First (λ b. T (begins ws b)) t → First (λ b. T (begins (w ∷ ws) b)) t
+    go [] h = h
+    go (b ∷ t) h = by-test T (inside w b) (λ x. tt) (λ x. h)
+
+-- what a scalar's first byte opens, and the forms it may begin
+abbrev pub leadFor : Scalar → Lead
+leadFor (Num s v) = lead.Number s
+leadFor (Str Utf8 cs) = lead.Text
+leadFor (Str Binary cs) = lead.Bytes
+
+abbrev kindLead : Kind → Lead
+kindLead Utf8 = lead.Text
+kindLead Binary = lead.Bytes
+
+abbrev agrees : Lead → List Form → ℕ → Bool
+agrees x ws b = implies (begins ws b) (eqb (kindOf (leadOf b)) (kindOf x))
+
+sorts-agree : (s : Sort) → T (every 256 (agrees (lead.Number s) (formsOf s)))
+unfolding formsOf kindOf leadOf rangeOf ranges pick
+sorts-agree sort.Null = tt
+sorts-agree sort.False = tt
+sorts-agree sort.True = tt
+sorts-agree sort.Int = tt
+sorts-agree sort.Long = tt
+sorts-agree sort.Double = tt
+sorts-agree sort.Date = tt
+
+kinds-agree : (k : Kind) → T (every 256 (agrees (kindLead k) (partHead k ∷ lastHeads k)))
+unfolding partHead lastHeads kindOf leadOf rangeOf ranges pick
+kinds-agree Utf8 = tt
+kinds-agree Binary = tt
+
+agreed : (x : Lead) (ws : List Form) → T (every 256 (agrees x ws)) → (b : ℕ) → b < 256 → T (begins ws b) → leadOf b ≡ x
+agreed x ws h b l t = kind-is (leadOf b) x (eqb→eq (kindOf (leadOf b)) (kindOf x) (implied (begins ws b) (eqb (kindOf (leadOf b)) (kindOf x)) (every-at 256 (agrees x ws) h b l) t))
+
+first-lead : (x : Lead) (ws : List Form) → T (every 256 (agrees x ws)) → (w : List ℕ) → Bytes w → First (λ b. T (begins ws b)) w → First (λ b. (b < 256) × (leadOf b ≡ x)) w
+first-lead x ws h [] l t = t
+first-lead x ws h (b ∷ w) l t = (l .0, agreed x ws h b (l .0) t)
+
+-- a chunk's head begins with one of the heads of its kind
+heads-begin : (k : Kind) (h rest : List ℕ) → First (λ b. T (begins (lastHeads k) b)) h → First (λ b. T (begins (partHead k ∷ lastHeads k) b)) (h ++ rest)
+heads-begin k [] rest t = absurd t
+heads-begin k (b ∷ h) rest t = by-test T (inside (partHead k) b) (λ x. tt) (λ x. t)
+
+part-begins : (k : Kind) (h rest : List ℕ) → First (λ b. T (begins (partHead k ∷ []) b)) h → First (λ b. T (begins (partHead k ∷ lastHeads k) b)) (h ++ rest)
+part-begins k [] rest t = absurd t
+part-begins k (b ∷ h) rest t = go (inside (partHead k) b) t
+  where
+    go : (x : Bool) → T (cond x true false) → T (cond x true (begins (lastHeads k) b))
+    go true t = tt
+    go false t = absurd t
+
+string-begins : {k : Kind} {w cs : List ℕ} → String k w cs → First (λ b. T (begins (partHead k ∷ lastHeads k) b)) w
+string-begins {k} (last-chunk {h = h} {cs = cs} y r) = heads-begin k h cs (number-begins y)
+string-begins {k} (chunk-before {h = h} {cs = cs} {v = v} y r x) = part-begins k h (cs ++ v) (number-begins y)
+
+-- a form of a scalar is bytes
+pub int-bytes : {w : List ℕ} {v : ℕ} → Int w v → Bytes w
+int-bytes n = number-bytes n (properly sort.Int)
+
+pub text-bytes : {w cs : List ℕ} → Text w cs → Bytes w
+text-bytes x = string-bytes x
+
+pub scalar-bytes : {w : List ℕ} {x : Scalar} → Spelt w x → Bytes w
+scalar-bytes (a-number {s = s} n) = number-bytes n (properly s)
+scalar-bytes (a-string x) = string-bytes x
+
+lead-of-string : (k : Kind) (cs : List ℕ) → kindLead k ≡ leadFor (Str k cs)
+lead-of-string Utf8 cs = refl
+lead-of-string Binary cs = refl
+
+-- and its first byte says what it is
+pub scalar-first : {w : List ℕ} {x : Scalar} → Spelt w x → First (λ b. (b < 256) × (leadOf b ≡ leadFor x)) w
+scalar-first (a-number {s = s} {w = w} n) = first-lead (lead.Number s) (formsOf s) (sorts-agree s) w (number-bytes n (properly s)) (number-begins n)
+scalar-first (a-string {k = k} {w = w} {cs = cs} x) =
+    subst (λ (y : Lead). First (λ b. (b < 256) × (leadOf b ≡ y)) w) (lead-of-string k cs) (first-lead (kindLead k) (partHead k ∷ lastHeads k) (kinds-agree k) w (string-bytes x) (string-begins x))
+
+first-only : (P Q : ℕ → Type 0) → ((b : ℕ) → P b → Q b) → (w : List ℕ) → First P w → First Q w
+first-only P Q h [] p = p
+first-only P Q h (b ∷ w) p = h b p
+
+scalar-kind : (x : Scalar) → T (ltb (kindOf (leadFor x)) 9)
+unfolding kindOf
+scalar-kind (Num sort.Null v) = tt
+scalar-kind (Num sort.False v) = tt
+scalar-kind (Num sort.True v) = tt
+scalar-kind (Num sort.Int v) = tt
+scalar-kind (Num sort.Long v) = tt
+scalar-kind (Num sort.Double v) = tt
+scalar-kind (Num sort.Date v) = tt
+scalar-kind (Str Utf8 cs) = tt
+scalar-kind (Str Binary cs) = tt
+
+pub scalar-owned : {w : List ℕ} {x : Scalar} → Spelt w x → First (λ b. (b < 256) × T (isScalar b)) w
+scalar-owned {w} {x} y = first-only (λ b. (b < 256) × (leadOf b ≡ leadFor x)) (λ b. (b < 256) × T (isScalar b)) (λ b h. (h .0, rw (h .1) (scalar-kind x))) w (scalar-first y)
+
+pub text-first : {w cs : List ℕ} → Text w cs → First (λ b. T (isText b)) w
+unfolding kindOf
+text-first {w} {cs} x = first-only (λ b. (b < 256) × (leadOf b ≡ lead.Text)) (λ b. T (isText b)) (λ b h. rw (h .1) tt) w (scalar-first (a-string x))
+
+pub int-first : {w : List ℕ} {v : ℕ} → Int w v → First (λ b. T (not (isText b))) w
+unfolding kindOf
+int-first {w} n = first-only (λ b. (b < 256) × (leadOf b ≡ lead.Number sort.Int)) (λ b. T (not (isText b))) (λ b h. rw (h .1) tt) w (scalar-first (a-number {s = sort.Int} n))
+
+-- ---- reading and the grammar
+module _ {C : Type 0} (I : Type 0) where
+  number-part : (s : Sort) (p b : ℕ) (c : C) (at : ℕ) (t : List ℕ) → Bytes t → Parsed {I = I} (Quiet (λ w x. Spelt (b ∷ w) x) c) t (mapped (Num s) (numberFrom (formsOf s) p b) c at t)
+  number-part s p b c at t l = maps (Quiet (λ w x. Spelt (b ∷ w) x) c) (Num s) t (numberFrom (formsOf s) p b c at t)
+      (quietly (λ w v. Number (formsOf s) (b ∷ w) v) (λ w v is c′. Quiet (λ w x. Spelt (b ∷ w) x) c w (Num s v) is c′) c t (λ w v n. quiet (a-number n)) (numberFrom (formsOf s) p b c at t) (number-scans I (formsOf s) p b c at t l))
+
+  string-part : (k : Kind) (p b : ℕ) (c : C) (at : ℕ) (t : List ℕ) → Bytes t → Parsed {I = I} (Quiet (λ w x. Spelt (b ∷ w) x) c) t (mapped (Str k) (stringFrom k p b) c at t)
+  string-part k p b c at t l = maps (Quiet (λ w x. Spelt (b ∷ w) x) c) (Str k) t (stringFrom k p b c at t)
+      (quietly (λ w cs. String k (b ∷ w) cs) (λ w cs is c′. Quiet (λ w x. Spelt (b ∷ w) x) c w (Str k cs) is c′) c t (λ w cs n. quiet (a-string n)) (stringFrom k p b c at t) (string-scans I k p b c at t l))
+
+  pub scalar-scans : (p b : ℕ) (c : C) (at : ℕ) (s : List ℕ) → Bytes s → Parsed {I = I} (Quiet (λ w x. Spelt (b ∷ w) x) c) s (scalarFrom p b c at s)
+  unfolding scalarFrom
+  scalar-scans p b c at s l = go (leadOf b)
+    where
+      go : (x : Lead) → Parsed {I = I} (Quiet (λ w x. Spelt (b ∷ w) x) c) s (scalarBy x p b c at s)
+      go (lead.Number t) = number-part t p b c at s l
+      go lead.Text = string-part Utf8 p b c at s l
+      go lead.Bytes = string-part Binary p b c at s l
+      go lead.List = tt
+      go lead.TypedList = tt
+      go lead.Map = tt
+      go lead.TypedMap = tt
+      go lead.Object = tt
+      go lead.Reference = tt
+      go lead.Definition = tt
+      go lead.Close = tt
+      go lead.Reserved = tt
+
+  pub int-scans : (p b : ℕ) (c : C) (at : ℕ) (s : List ℕ) → Bytes s → Parsed {I = I} (Quiet (λ w v. Int (b ∷ w) v) c) s (intFrom p b c at s)
+  unfolding intFrom
+  int-scans p b c at s l = number-scans I (formsOf sort.Int) p b c at s l
+
+  pub text-scans : (p b : ℕ) (c : C) (at : ℕ) (s : List ℕ) → Bytes s → Parsed {I = I} (Quiet (λ w cs. Text (b ∷ w) cs) c) s (textFrom p b c at s)
+  unfolding textFrom
+  text-scans p b c at s l = string-scans I Utf8 p b c at s l
+
+  -- by the lead that its first byte has
+  by-lead : (x : Scalar) (c : C) (w : List ℕ) → First (λ b. (b < 256) × (leadOf b ≡ leadFor x)) w → Leads {I = I} (scalarBy (leadFor x)) c w x [] c → Leads {I = I} scalarFrom c w x [] c
+  unfolding scalarFrom
+  by-lead x c [] f h = h
+  by-lead x c (b ∷ w) f h = λ p. rw (f .1) (h p)
+
+  number-leads : (s : Sort) (v : ℕ) (c : C) (w : List ℕ) → NumberLed I (formsOf s) w v c → Leads {I = I} (scalarBy (lead.Number s)) c w (Num s v) [] c
+  number-leads s v c [] h = h
+  number-leads s v c (b ∷ w) h = λ p. map-makes (Num s) (numberFrom (formsOf s) p b) (h p)
+
+  string-leads : (k : Kind) (cs : List ℕ) (c : C) (w : List ℕ) → StringLed I k w cs c → Leads {I = I} (scalarBy (leadFor (Str k cs))) c w (Str k cs) [] c
+  string-leads Utf8 cs c [] h = h
+  string-leads Utf8 cs c (b ∷ w) h = λ p. map-makes (Str Utf8) (stringFrom Utf8 p b) (h p)
+  string-leads Binary cs c [] h = h
+  string-leads Binary cs c (b ∷ w) h = λ p. map-makes (Str Binary) (stringFrom Binary p b) (h p)
+
+  pub scalar-makes : {w : List ℕ} {x : Scalar} → Spelt w x → (c : C) → Leads {I = I} scalarFrom c w x [] c
+  scalar-makes (a-number {s = s} {w = w} {v = v} n) c = by-lead (Num s v) c w (scalar-first (a-number n)) (number-leads s v c w (number-makes I n (properly s) c))
+  scalar-makes (a-string {k = k} {w = w} {cs = cs} x) c = by-lead (Str k cs) c w (scalar-first (a-string x)) (string-leads k cs c w (string-makes I k x c))
+
+  pub int-makes : {w : List ℕ} {v : ℕ} → Int w v → (c : C) → Leads {I = I} intFrom c w v [] c
+  unfolding intFrom
+  int-makes {w} {v} n c = go w (number-makes I n (properly sort.Int) c)
+    where
+      go : (w : List ℕ) → NumberLed I (formsOf sort.Int) w v c → Leads {I = I} (λ p b. numberFrom (formsOf sort.Int) p b) c w v [] c
+      go [] h = h
+      go (b ∷ w) h = h
+
+  pub text-makes : {w cs : List ℕ} → Text w cs → (c : C) → Leads {I = I} textFrom c w cs [] c
+  unfolding textFrom
+  text-makes {w} {cs} n c = go w (string-makes I Utf8 n c)
+    where
+      go : (w : List ℕ) → StringLed I Utf8 w cs c → Leads {I = I} (λ p b. stringFrom Utf8 p b) c w cs [] c
+      go [] h = h
+      go (b ∷ w) h = h
+
+  -- a byte that opens no scalar
+  pub scalar-shut : (e : ℕ) → T (not (isScalar e)) → (p : ℕ) (c : C) (at : ℕ) (s : List ℕ) → scalarFrom {I = I} p e c at s ≡ Fault 3 p
+  unfolding scalarFrom kindOf
+  scalar-shut e h p c at s = go (leadOf e) h
+    where
+      go : (x : Lead) → T (not (ltb (kindOf x) 9)) → scalarBy {I = I} x p e c at s ≡ Fault 3 p
+      go (lead.Number sort.Null) h = absurd h
+      go (lead.Number sort.False) h = absurd h
+      go (lead.Number sort.True) h = absurd h
+      go (lead.Number sort.Int) h = absurd h
+      go (lead.Number sort.Long) h = absurd h
+      go (lead.Number sort.Double) h = absurd h
+      go (lead.Number sort.Date) h = absurd h
+      go lead.Text h = absurd h
+      go lead.Bytes h = absurd h
+      go lead.List h = refl
+      go lead.TypedList h = refl
+      go lead.Map h = refl
+      go lead.TypedMap h = refl
+      go lead.Object h = refl
+      go lead.Reference h = refl
+      go lead.Definition h = refl
+      go lead.Close h = refl
+      go lead.Reserved h = refl
+
+-- ---- no form is shorter than the shortest, and the shortest is a form
+abbrev pub Is : (List ℕ → Type 0) → Option (List ℕ) → Type 0
+Is P none = Unit {0}
+Is P (some w) = P w
+
+pub scalar-short : {w : List ℕ} {x : Scalar} → Spelt w x → (b : List ℕ) × (shortestScalar x ≡ some b) × (length b ≤ length w)
+unfolding shortestScalar
+scalar-short (a-number {s = s} n) = none-shorter s n
+scalar-short (a-string x) = string-short x
+
+pub scalar-is : (x : Scalar) → Is (λ w. Spelt w x) (shortestScalar x)
+unfolding shortestScalar
+scalar-is (Num s v) = go (shortest (formsOf s) v) (shortest-is (formsOf s) v)
+  where
+    go : (o : Option (List ℕ)) → IsNumber (formsOf s) v o → Is (λ w. Spelt w (Num s v)) o
+    go none h = tt
+    go (some w) h = a-number h
+scalar-is (Str k cs) = go (shortestString k cs) (string-is k cs)
+  where
+    go : (o : Option (List ℕ)) → IsString k cs o → Is (λ w. Spelt w (Str k cs)) o
+    go none h = tt
+    go (some w) h = a-string h
+
+pub int-some : {w : List ℕ} {v : ℕ} → Int w v → 0 < length w
+int-some n = number-some n
+
+pub int-short : {w : List ℕ} {v : ℕ} → Int w v → (b : List ℕ) × (shortestInt v ≡ some b) × (length b ≤ length w)
+int-short n = none-shorter sort.Int n
+
+pub int-is : (v : ℕ) → Is (λ w. Int w v) (shortestInt v)
+int-is v = go (shortestInt v) (shortest-is (formsOf sort.Int) v)
+  where
+    go : (o : Option (List ℕ)) → IsNumber (formsOf sort.Int) v o → Is (λ w. Int w v) o
+    go none h = tt
+    go (some w) h = h
+
+pub text-short : {w cs : List ℕ} → Text w cs → (b : List ℕ) × (shortestText cs ≡ some b) × (length b ≤ length w)
+text-short x = string-short x
+
+pub text-is : (cs : List ℕ) → Is (λ w. Text w cs) (shortestText cs)
+text-is cs = go (shortestText cs) (string-is Utf8 cs)
+  where
+    go : (o : Option (List ℕ)) → IsString Utf8 cs o → Is (λ w. Text w cs) o
+    go none h = tt
+    go (some w) h = h
+
+-- a small count takes one byte
+pub small-count : (n : ℕ) → n < 48 → shortestInt n ≡ some ((0x90 + n) ∷ [])
+unfolding shortest formsOf guess
+small-count n l =
+    let t : fits (compact 0x80 64 0 0x90) n ≡ true = int-ranges .0 (pos n) (record { sfits = omega arith }) ∙ le-leb n 47 (omega arith) in
+    pass (fits (compact 0x80 64 0 0x90) n) _ _ (rw t tt) (ap {B = Option (List ℕ)} (λ z. some (z ∷ [])) (omega arith))

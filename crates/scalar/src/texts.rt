@@ -1,0 +1,397 @@
+// Texts and byte strings: reading one at a place. The definitions are in specs/Texts.antt.
+ghost use mathlib.Core.Path.{_≡_};
+ghost use Prim.Native.Nat.{_≤_, _<_};
+ghost use lib.ListN.{length};
+ghost use Rattle.scalar.specs.Texts.{charLead, continued as continuedBy, characters as charactersOf, body as bodyOf};
+ghost use Rattle.scalar.specs.TextAnswers.{extentAt, toldExtent, CharMet, headForm, HeadMet, ChunkMet, measuredAt, toldString};
+
+// What a string holds: characters in UTF-8, or bytes.
+pub enum Kind {
+    Utf8,
+    Binary,
+}
+
+// A character's first byte: how many bytes follow, and from where to below where the first of those lies. A supplementary
+// character has three, and counts two units.
+pub enum CharLead {
+    Basic { more: usize, from: u8, below: u8 },
+    Supplementary { from: u8, below: u8 },
+    NoChar,
+}
+
+// How many bytes something takes; or a refusal's number and place.
+pub enum Extent {
+    Takes { size: usize },
+    Refused { number: u8, place: usize },
+}
+
+// A character: its bytes and its units; or a refusal's number and place.
+pub enum CharRead {
+    Char { size: usize, units: usize },
+    Refused { number: u8, place: usize },
+}
+
+// What the byte begins as a chunk's head: how many bytes follow, what it holds itself, and whether the chunk is the last.
+pub enum HeadForm {
+    Starts { more: usize, held: u64, last: bool },
+    NoHead,
+}
+
+// A chunk's head: how many bytes it takes, the units that it counts, and whether the chunk is the last; or a refusal.
+pub enum HeadRead {
+    Head {
+        size: usize,
+        units: usize,
+        last: bool,
+    },
+    Refused {
+        number: u8,
+        place: usize,
+    },
+}
+
+// A chunk: the bytes of its head and of its content, its units, and whether it is the last; or a refusal.
+pub enum ChunkRead {
+    Chunk {
+        head: usize,
+        size: usize,
+        units: usize,
+        last: bool,
+    },
+    Refused {
+        number: u8,
+        place: usize,
+    },
+}
+
+// What reading a text or byte string finds: its units, its content's bytes, and the bytes that it takes in all; or a refusal.
+pub enum StringRead {
+    Content {
+        units: usize,
+        bytes: usize,
+        size: usize,
+    },
+    Refused {
+        number: u8,
+        place: usize,
+    },
+}
+
+// What the byte says as a character's first.
+fn char_lead(b: u8) -> CharLead
+    ensures { λ r. ⌜ r ≡ charLead b ⌝ }
+{
+    match b {
+        0x00..=0x7f => CharLead::Basic {
+            more: 0,
+            from: 0,
+            below: 0,
+        },
+        0xc2..=0xdf => CharLead::Basic {
+            more: 1,
+            from: 0x80,
+            below: 0xc0,
+        },
+        0xe0 => CharLead::Basic {
+            more: 2,
+            from: 0xa0,
+            below: 0xc0,
+        },
+        0xe1..=0xec => CharLead::Basic {
+            more: 2,
+            from: 0x80,
+            below: 0xc0,
+        },
+        0xed => CharLead::Basic {
+            more: 2,
+            from: 0x80,
+            below: 0xa0,
+        },
+        0xee..=0xef => CharLead::Basic {
+            more: 2,
+            from: 0x80,
+            below: 0xc0,
+        },
+        0xf0 => CharLead::Supplementary {
+            from: 0x90,
+            below: 0xc0,
+        },
+        0xf1..=0xf3 => CharLead::Supplementary {
+            from: 0x80,
+            below: 0xc0,
+        },
+        0xf4 => CharLead::Supplementary {
+            from: 0x80,
+            below: 0x90,
+        },
+        _ => CharLead::NoChar,
+    }
+}
+
+// `more` bytes from `at` on, behind the first of the character at `place`.
+fn continued(message: &[u8], place: usize, at: usize, more: usize, from: u8, below: u8) -> Extent
+    requires { ⌜ at ≤ length (now message) ⌝ }
+    ensures { λ r. ⌜ toldExtent r ≡ extentAt (continuedBy place more from below) (now (message .entry)) at ⌝ }
+{
+    let len = message.len();
+    let mut here = at;
+    let mut left = more;
+    let mut lo = from;
+    let mut hi = below;
+    while 0 < left {
+        if len <= here {
+            return Extent::Refused {
+                number: 2,
+                place: len,
+            };
+        }
+        let b = message[here];
+        if b < lo || hi <= b {
+            return Extent::Refused { number: 4, place };
+        }
+        here += 1;
+        left -= 1;
+        lo = 0x80;
+        hi = 0xc0;
+    }
+    Extent::Takes { size: here - at }
+}
+
+// The character at `at`, where so many units are left.
+fn character(message: &[u8], at: usize, left: usize) -> CharRead
+    requires { ⌜ (at ≤ length (now message)) × (0 < left) ⌝ }
+    ensures { λ r. ⌜ CharMet left (now (message .entry)) at r ⌝ }
+{
+    let len = message.len();
+    if len <= at {
+        return CharRead::Refused {
+            number: 2,
+            place: len,
+        };
+    }
+    match char_lead(message[at]) {
+        CharLead::NoChar => CharRead::Refused {
+            number: 4,
+            place: at,
+        },
+        CharLead::Basic { more, from, below } => {
+            match continued(message, at, at + 1, more, from, below) {
+                Extent::Refused { number, place } => CharRead::Refused { number, place },
+                Extent::Takes { size } => CharRead::Char {
+                    size: size + 1,
+                    units: 1,
+                },
+            }
+        }
+        CharLead::Supplementary { from, below } => {
+            if left == 1 {
+                return CharRead::Refused {
+                    number: 4,
+                    place: at,
+                };
+            }
+            match continued(message, at, at + 1, 3, from, below) {
+                Extent::Refused { number, place } => CharRead::Refused { number, place },
+                Extent::Takes { size } => CharRead::Char {
+                    size: size + 1,
+                    units: 2,
+                },
+            }
+        }
+    }
+}
+
+// Characters of so many units from `at` on.
+fn characters(message: &[u8], at: usize, units: usize) -> Extent
+    requires { ⌜ at ≤ length (now message) ⌝ }
+    ensures { λ r. ⌜ toldExtent r ≡ extentAt (charactersOf units) (now (message .entry)) at ⌝ }
+{
+    let mut here = at;
+    let mut left = units;
+    while 0 < left {
+        match character(message, here, left) {
+            CharRead::Refused { number, place } => {
+                return Extent::Refused { number, place };
+            }
+            CharRead::Char { size, units: u } => {
+                here += size;
+                left -= u;
+            }
+        }
+    }
+    Extent::Takes { size: here - at }
+}
+
+// The content of a chunk of so many units from `at` on. The bytes of a byte string are not looked at.
+fn body(kind: Kind, message: &[u8], at: usize, units: usize) -> Extent
+    requires { ⌜ at ≤ length (now message) ⌝ }
+    ensures { λ r. ⌜ toldExtent r ≡ extentAt (bodyOf kind units) (now (message .entry)) at ⌝ }
+{
+    match kind {
+        Kind::Utf8 => characters(message, at, units),
+        Kind::Binary => {
+            let len = message.len();
+            if len - at < units {
+                Extent::Refused {
+                    number: 2,
+                    place: len,
+                }
+            } else {
+                Extent::Takes { size: units }
+            }
+        }
+    }
+}
+
+// What the byte begins as the head of a chunk of this kind.
+fn head_form(kind: Kind, b: u8) -> HeadForm
+    ensures { λ r. ⌜ r ≡ headForm kind b ⌝ }
+{
+    let w = wire::wide(b);
+    match kind {
+        Kind::Utf8 => match b {
+            0x00..=0x1f => HeadForm::Starts {
+                more: 0,
+                held: w,
+                last: true,
+            },
+            0x30..=0x33 => HeadForm::Starts {
+                more: 1,
+                held: w - 0x30,
+                last: true,
+            },
+            0x53 => HeadForm::Starts {
+                more: 2,
+                held: 0,
+                last: true,
+            },
+            0x52 => HeadForm::Starts {
+                more: 2,
+                held: 0,
+                last: false,
+            },
+            _ => HeadForm::NoHead,
+        },
+        Kind::Binary => match b {
+            0x20..=0x2f => HeadForm::Starts {
+                more: 0,
+                held: w - 0x20,
+                last: true,
+            },
+            0x34..=0x37 => HeadForm::Starts {
+                more: 1,
+                held: w - 0x34,
+                last: true,
+            },
+            0x42 => HeadForm::Starts {
+                more: 2,
+                held: 0,
+                last: true,
+            },
+            0x41 => HeadForm::Starts {
+                more: 2,
+                held: 0,
+                last: false,
+            },
+            _ => HeadForm::NoHead,
+        },
+    }
+}
+
+// The head of the chunk at `at`.
+fn head(kind: Kind, message: &[u8], at: usize) -> HeadRead
+    requires { ⌜ at ≤ length (now message) ⌝ }
+    ensures { λ r. ⌜ HeadMet kind (now (message .entry)) at r ⌝ }
+{
+    let len = message.len();
+    if len <= at {
+        return HeadRead::Refused {
+            number: 2,
+            place: len,
+        };
+    }
+    match head_form(kind, message[at]) {
+        HeadForm::NoHead => HeadRead::Refused {
+            number: 3,
+            place: at,
+        },
+        HeadForm::Starts { more, held, last } => {
+            if len - at <= more {
+                return HeadRead::Refused {
+                    number: 2,
+                    place: len,
+                };
+            }
+            HeadRead::Head {
+                size: more + 1,
+                units: wire::number_at(message, at + 1, more, held) as usize,
+                last,
+            }
+        }
+    }
+}
+
+// The chunk at `at`.
+fn chunk(kind: Kind, message: &[u8], at: usize) -> ChunkRead
+    requires { ⌜ at ≤ length (now message) ⌝ }
+    ensures { λ r. ⌜ ChunkMet kind (now (message .entry)) at r ⌝ }
+{
+    match head(kind, message, at) {
+        HeadRead::Refused { number, place } => ChunkRead::Refused { number, place },
+        HeadRead::Head {
+            size: h,
+            units,
+            last,
+        } => {
+            match body(kind, message, at + h, units) {
+                Extent::Refused { number, place } => ChunkRead::Refused { number, place },
+                Extent::Takes { size } => ChunkRead::Chunk {
+                    head: h,
+                    size,
+                    units,
+                    last,
+                },
+            }
+        }
+    }
+}
+
+// The text or byte string at the place `at` of the message.
+pub fn read_string(kind: Kind, message: &[u8], at: usize) -> StringRead
+    ensures { λ r. ⌜ toldString r ≡ measuredAt kind (now (message .entry)) at ⌝ }
+{
+    let len = message.len();
+    if len <= at {
+        return StringRead::Refused {
+            number: 2,
+            place: len,
+        };
+    }
+    let mut here = at;
+    let mut total: usize = 0;
+    let mut bytes: usize = 0;
+    loop {
+        match chunk(kind, message, here) {
+            ChunkRead::Refused { number, place } => {
+                return StringRead::Refused { number, place };
+            }
+            ChunkRead::Chunk {
+                head: h,
+                size,
+                units,
+                last,
+            } => {
+                here += h + size;
+                total += units;
+                bytes += size;
+                if last {
+                    return StringRead::Content {
+                        units: total,
+                        bytes,
+                        size: here - at,
+                    };
+                }
+            }
+        }
+    }
+}
