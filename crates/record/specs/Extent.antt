@@ -1,0 +1,91 @@
+-- How far a value goes: a record has at most as many items as bytes, and what is read does not depend on what follows.
+use mathlib.Core.Path.{_≡_, refl, sym, _∙_, ap, subst}
+use mathlib.Core.Bool.{Bool, true, false}
+use mathlib.Core.List.{List, [], _∷_, _++_}
+use Prim.Native.Nat.{ℕ, zero, suc, _+_, _≤_, _<_}
+use native.Mathlib.Omega.{arith}
+use lib.ListN.{length, take, length-append}
+use lib.Seq.{length-take-le}
+use Rattle.flow.specs.Tests.{Bytes}
+use Rattle.flow.specs.Flow.{Entry, Outcome, Done, Fault, One, items, byteAt}
+use Rattle.flow.specs.Laws.{Phrase, Parsed, byte-reads, leads-byte, Many, finished, another, Ended, ended, Preceded, alone, first}
+use Rattle.scalar.specs.Scalars.{Spelt, Text}
+use Rattle.scalar.specs.Scalars as scalars
+use Rattle.scalar.specs.NumberLaws.{number-some}
+use Rattle.scalar.specs.TextLaws.{string-some}
+use Rattle.record.specs.Items.{Item, FieldName, Known, start, Ceilings}
+use Rattle.record.specs.Reading.{valueFrom, message, Reads}
+use Rattle.record.specs.Grammar.{NameForm, a-name, TypeForm, type-name, type-number, PairForm, a-pair, DefinitionForm, a-definition, PlainForm, a-leaf, a-few, a-counted, an-open, a-few-typed, a-counted-typed, an-open-typed, a-map, a-typed-map, a-few-object, an-object, a-reference, Nowhere, ValueForm, Message}
+use Rattle.record.specs.Parses.{value-reads}
+use Rattle.record.specs.Derives.{value-makes}
+use Rattle.record.specs.Meaning.{reads-derived}
+
+-- ---- at most as many items as bytes
+abbrev Few : Phrase Known Item → Type 0
+Few G = (c : Known) (w : List ℕ) (is : List Item) (c′ : Known) → G c w is c′ → length is ≤ length w
+
+many-few : (G : Phrase Known Item) → Few G → {n : ℕ} {c c′ : Known} {w : List ℕ} {is : List Item} → Many G n c w is c′ → length is ≤ length w
+many-few G h finished = omega arith
+many-few G h (another {c = c} {c₁ = c₁} {u = u} {v = v} {is = is} {js = js} g r) = omega (arith, length-append is js, length-append u v, h c u is c₁ g, many-few G h r)
+
+end-few : (G : Phrase Known Item) → Few G → {n : ℕ} {c c′ : Known} {w : List ℕ} {is : List Item} → Ended 0x5a G n c w is c′ → length is ≤ length w
+end-few G h (ended {v = v} r) = omega (arith, length-append v (0x5a ∷ []), many-few G h r)
+
+scalar-some : {w : List ℕ} {x : scalars.Scalar} → Spelt w x → 0 < length w
+scalar-some (scalars.a-number n) = number-some n
+scalar-some (scalars.a-string x) = string-some x
+
+name-few : (x : List ℕ → Item) → Few (NameForm x)
+name-few x c w is c′ (a-name r) = omega (arith, string-some r)
+
+type-few : (ℓ : Ceilings) {c c′ : Known} {w : List ℕ} {t : ℕ} {is : List Item} → TypeForm ℓ c w t is c′ → length is ≤ length w
+type-few ℓ (type-name l r) = omega (arith, string-some r)
+type-few ℓ (type-number x l) = omega (arith, number-some x)
+
+pair-few : (G : Phrase Known Item) → Few G → Few (PairForm G)
+pair-few G h c w is c′ (a-pair {c₁ = c₁} {u = u} {v = v} {is = is₁} {js = js} x y) = omega (arith, length-append u v, length-append is₁ js, h c u is₁ c₁ x, h c₁ v js c′ y)
+
+definition-few : (ℓ : Ceilings) → Few (DefinitionForm ℓ)
+definition-few ℓ c w is c′ (a-definition {u = u} {v = v} {w = x} l r i b f y) =
+    omega (arith, length-append u (v ++ x), length-append v x, string-some r, number-some i, many-few (NameForm FieldName) (name-few FieldName) y)
+
+module _ (ℓ : Ceilings) (room : Bool) (G : Phrase Known Item) (h : Few G) where
+  plain-few : Few (PlainForm ℓ room G)
+  plain-few c w is c′ (a-leaf x) = omega (arith, scalar-some x)
+  plain-few c w is c′ (a-few r l y) = omega (arith, many-few G h y)
+  plain-few c w is c′ (a-counted {u = u} {v = v} r i l y) = omega (arith, length-append u v, many-few G h y)
+  plain-few c w is c′ (an-open r y) = omega (arith, end-few G h y)
+  plain-few c w is c′ (a-few-typed {u = u} {v = v} {is = is₁} {js = js} r l q y) = omega (arith, length-append u v, length-append is₁ js, type-few ℓ q, many-few G h y)
+  plain-few c w is c′ (a-counted-typed {u = u} {v = v} {w = x} {is = is₁} {js = js} r q i l y) = omega (arith, length-append u (v ++ x), length-append v x, length-append is₁ js, type-few ℓ q, many-few G h y)
+  plain-few c w is c′ (an-open-typed {u = u} {v = v} {is = is₁} {js = js} r q y) = omega (arith, length-append u v, length-append is₁ js, type-few ℓ q, end-few G h y)
+  plain-few c w is c′ (a-map r y) = omega (arith, end-few (PairForm G) (pair-few G h) y)
+  plain-few c w is c′ (a-typed-map {u = u} {v = v} {is = is₁} {js = js} r q y) = omega (arith, length-append u v, length-append is₁ js, type-few ℓ q, end-few (PairForm G) (pair-few G h) y)
+  plain-few c w is c′ (a-few-object r l i y) = omega (arith, many-few G h y)
+  plain-few c w is c′ (an-object {u = u} {v = v} r q i y) = omega (arith, length-append u v, many-few G h y)
+  plain-few c w is c′ (a-reference q l) = omega arith
+
+preceded-few : (ℓ : Ceilings) (G : Phrase Known Item) → Few G → {c c′ : Known} {w : List ℕ} {is : List Item} → Preceded 0x43 (DefinitionForm ℓ) G c w is c′ → length is ≤ length w
+preceded-few ℓ G h (alone {c = c} {c′ = c′} {w = w} {is = is} x) = h c w is c′ x
+preceded-few ℓ G h (first {c = c} {c₁ = c₁} {u = u} {v = v} {is = is} {js = js} x r) = omega (arith, length-append u v, length-append is js, definition-few ℓ c u is c₁ x, preceded-few ℓ G h r)
+
+value-few : (ℓ : Ceilings) (d : ℕ) → Few (ValueForm ℓ d)
+value-few ℓ zero c w is c′ x = preceded-few ℓ (PlainForm ℓ false Nowhere) (plain-few ℓ false Nowhere (λ c w is c′ x. absurd x)) x
+value-few ℓ (suc d) c w is c′ x = preceded-few ℓ (PlainForm ℓ true (ValueForm ℓ d)) (plain-few ℓ true (ValueForm ℓ d) (value-few ℓ d)) x
+
+module _ (ℓ : Ceilings) (d : ℕ) where
+  -- rows are at most as many as bytes
+  pub rows-few : (m : List ℕ) (r : List Item) → Reads ℓ d m r → length r ≤ length m
+  rows-few m r x = let y = reads-derived ℓ d m r x in value-few ℓ d start m r (y .known) (y .derived)
+
+  -- ---- what is read lies within the message, and does not depend on what follows
+  module _ (c : Known) (at : ℕ) (s : List ℕ) (b : Bytes s) (n : ℕ) (u : One) (es : List (Entry Item)) (c′ : Known) (e : byteAt (valueFrom ℓ d) c at s ≡ Done n u es c′) where
+    value-form : (n ≤ length s) × ValueForm ℓ d c (take n s) (items es) c′
+    value-form = subst (Parsed (λ w u is c′. ValueForm ℓ d c w is c′) s) e (byte-reads (valueFrom ℓ d) (ValueForm ℓ d) (value-reads ℓ d) c at s b)
+
+    pub value-within : n ≤ length s
+    value-within = value-form .0
+
+    pub value-local : (p : ℕ) (tail : List ℕ) → (fs : List (Entry Item)) × (byteAt (valueFrom ℓ d) c p (take n s ++ tail) ≡ Done n tt fs c′) × (items fs ≡ items es)
+    value-local p tail =
+        let q = leads-byte (valueFrom ℓ d) (take n s) (value-makes ℓ d c (take n s) (items es) c′ (value-form .1)) .makes p tail in
+        (q .0, subst (λ (k : ℕ). byteAt (valueFrom ℓ d) c p (take n s ++ tail) ≡ Done k tt (q .0) c′) (length-take-le n s (value-form .0)) (q .1), q .2)

@@ -1,0 +1,206 @@
+-- The theorems over rows: what the writer makes of the rows that it is handed, and of a message's own rows.
+use mathlib.Core.Path.{_≡_, refl, sym, _∙_, ap, subst}
+use mathlib.Core.Logic.{_↔_}
+use mathlib.Core.List.{List, [], _∷_, _++_}
+use mathlib.Core.Option.{Option, none, some}
+use Prim.Native.Nat.{ℕ, _≤_, min}
+use native.Mathlib.Omega.{arith}
+use lib.Dec.{ltb}
+use lib.ListN.{length, drop}
+use borrow.Author.Tests.{le-ltb, ltb-false}
+use Rattle.flow.specs.Tests.{pick, pick-false, pick-either, Bytes}
+use Rattle.flow.specs.Flow.{Entry, Outcome, Done, Fault, One, items, byteAt}
+use Rattle.flow.specs.Laws.{leads-byte}
+use Rattle.scalar.specs.declared.numbers.Sort.the-variants as sort
+use Rattle.scalar.specs.declared.texts.Kind.{Kind}
+use Rattle.scalar.specs.declared.texts.Kind.the-variants.{Utf8, Binary}
+use Rattle.scalar.specs.Texts.{stringFrom, stringAt, String}
+use Rattle.scalar.specs.TextLaws.{string-makes}
+use Rattle.scalar.specs.Scalars.{Num, Str, Spelt, a-string}
+use Rattle.record.specs.Items.{Leaf, UntypedList, TypedList, UntypedMap, TypedMap, Object, Reference, Item, Val, Definition, ClassName, FieldName, TypeName, TypeNumber, Known, start, Ceilings}
+use Rattle.record.specs.Reading.{message, Accepted, Reads}
+use Rattle.record.specs.Rows.{Row, itemRow, rows}
+use Rattle.record.specs.Spelling.{spell}
+use Rattle.record.specs.Meaning.{message-all}
+use Rattle.record.specs.Demands.{no-longer, reads-back}
+use Rattle.record.specs.Places.{Stands, Opens, EntriesOpen, OutcomeOpens, places}
+use Rattle.record.specs.Claims.{contentOf, contentKind, told, contentAt, ClaimAll, no-rows, a-row, onSome, recordOf, all-claimed, claims-exactly}
+use Rattle.record.specs.Answers.{judged, shortestOf, write, Wrote, Has}
+
+-- ---- the writer, of any rows
+module _ (ℓ : Ceilings) (openFrom : ℕ) (most : openFrom ≤ 48) (d : ℕ) (source : List ℕ) (r : List Row) where
+  -- no message that has the record claimed is shorter than the one written
+  pub rows-no-longer : (m : List ℕ) → Has ℓ d source r m → (w : List ℕ) × (shortestOf ℓ openFrom d source r ≡ some w) × (length w ≤ length m)
+  unfolding shortestOf
+  rows-no-longer m x = let p = no-longer ℓ openFrom most d m (x .record-of) (x .read-as) in (p .0, rw (all-claimed source (x .claimed)) (p .1), p .2)
+
+  -- the message written has the record claimed
+  pub rows-back : (w : List ℕ) → shortestOf ℓ openFrom d source r ≡ some w → Has ℓ d source r w
+  unfolding shortestOf
+  rows-back w e = go (recordOf source r) refl e
+    where
+      go : (o : Option (List Item)) → recordOf source r ≡ o → onSome (spell ℓ openFrom d) o ≡ some w → Has ℓ d source r w
+      go none q e = absurd (let z : _≡_ {A = ℕ} 0 1 = cc in omega arith)
+      go (some is) q e = record { record-of = is; claimed = claims-exactly source r is .1 q; read-as = reads-back ℓ openFrom most d is w e }
+
+  -- there is none exactly when no message has the record claimed: the cause of refusal 10
+  pub rows-none : (shortestOf ℓ openFrom d source r ≡ none) ↔ ((m : List ℕ) → Has ℓ d source r m → ⊥)
+  rows-none = (λ e m x. let p = rows-no-longer m x in let q = p .1 in absurd (let z : _≡_ {A = ℕ} 0 1 = cc in omega arith), λ h. go h (shortestOf ℓ openFrom d source r) refl)
+    where
+      go : ((m : List ℕ) → Has ℓ d source r m → ⊥) → (o : Option (List ℕ)) → shortestOf ℓ openFrom d source r ≡ o → o ≡ none
+      go h none e = refl
+      go h (some w) e = absurd (h w (rows-back w e))
+
+-- ---- a message's own rows claim its record
+string-at : (k : Kind) (m : List ℕ) (p : ℕ) (cs : List ℕ) → Stands (λ w. String k w cs) (drop p m) → told (stringAt k m p) ≡ some cs
+unfolding stringAt
+string-at k m p cs x = go (leads-byte (stringFrom k) (x .0) (string-makes One k (x .3) (tt {0})) .makes (min p (length m)) (x .1))
+  where
+    go : (es : List (Entry One)) × (byteAt (stringFrom {C = One} {I = One} k) (tt {0}) (min p (length m)) (x .0 ++ x .1) ≡ Done (length (x .0)) cs es (tt {0})) × (items es ≡ [])
+        → told (byteAt (stringFrom {C = One} {I = One} k) (tt {0}) (min p (length m)) (drop p m)) ≡ some cs
+    go y = rw (x .2, y .1) refl
+
+spelt-string : (k : Kind) (cs s : List ℕ) → Stands (λ w. Spelt w (Str k cs)) s → Stands (λ w. String k w cs) s
+spelt-string k cs s x = (x .0, x .1, x .2, go (x .3))
+  where
+    go : {w : List ℕ} → Spelt w (Str k cs) → String k w cs
+    go (a-string y) = y
+
+content-is : (m : List ℕ) (p : ℕ) (i : Item) → Opens (drop p m) i → contentAt m (itemRow p i .kind) p ≡ some (contentOf i)
+unfolding contentKind pick
+content-is m p (Val (Leaf (Num sort.Null v))) h = refl
+content-is m p (Val (Leaf (Num sort.False v))) h = refl
+content-is m p (Val (Leaf (Num sort.True v))) h = refl
+content-is m p (Val (Leaf (Num sort.Int v))) h = refl
+content-is m p (Val (Leaf (Num sort.Long v))) h = refl
+content-is m p (Val (Leaf (Num sort.Double v))) h = refl
+content-is m p (Val (Leaf (Num sort.Date v))) h = refl
+content-is m p (Val (Leaf (Str Utf8 cs))) h = string-at Utf8 m p cs (spelt-string Utf8 cs (drop p m) h)
+content-is m p (Val (Leaf (Str Binary cs))) h = string-at Binary m p cs (spelt-string Binary cs (drop p m) h)
+content-is m p (Val (UntypedList n)) h = refl
+content-is m p (Val (TypedList n t)) h = refl
+content-is m p (Val (UntypedMap n)) h = refl
+content-is m p (Val (TypedMap n t)) h = refl
+content-is m p (Val (Object k n)) h = refl
+content-is m p (Val (Reference k)) h = refl
+content-is m p (Definition n) h = refl
+content-is m p (ClassName cs) h = string-at Utf8 m p cs h
+content-is m p (FieldName cs) h = string-at Utf8 m p cs h
+content-is m p (TypeName cs) h = string-at Utf8 m p cs h
+content-is m p (TypeNumber k) h = refl
+
+place-is : (p : ℕ) (i : Item) → itemRow p i .place ≡ p
+place-is p (Val (Leaf (Num s v))) = refl
+place-is p (Val (Leaf (Str Utf8 cs))) = refl
+place-is p (Val (Leaf (Str Binary cs))) = refl
+place-is p (Val (UntypedList n)) = refl
+place-is p (Val (TypedList n t)) = refl
+place-is p (Val (UntypedMap n)) = refl
+place-is p (Val (TypedMap n t)) = refl
+place-is p (Val (Object k n)) = refl
+place-is p (Val (Reference k)) = refl
+place-is p (Definition n) = refl
+place-is p (ClassName cs) = refl
+place-is p (FieldName cs) = refl
+place-is p (TypeName cs) = refl
+place-is p (TypeNumber k) = refl
+
+entries-claim : (m : List ℕ) (bytes : Bytes m) (es : List (Entry Item)) → EntriesOpen m bytes es → ClaimAll m (rows es) (items es)
+entries-claim m bytes [] h = no-rows
+entries-claim m bytes (e ∷ es) h =
+    let q = place-is (e .place) (e .item) in
+    a-row (record {
+      agrees = ap (λ (p : ℕ). itemRow p (e .item)) q;
+      content = ap (λ (p : ℕ). contentAt m (itemRow (e .place) (e .item) .kind) p) q ∙ content-is m (e .place) (e .item) (h .0);
+    }) (entries-claim m bytes es (h .1))
+
+-- a message's own rows claim the record that it reads as
+module _ (ℓ : Ceilings) (d : ℕ) (m : List ℕ) (bytes : Bytes m) (n : ℕ) (es : List (Entry Item)) (c : Known) (e : message ℓ d start 0 m ≡ Done n tt es c) where
+  pub own-rows : ClaimAll m (rows es) (items es)
+  own-rows = entries-claim m bytes es (subst (OutcomeOpens m bytes) e (places m bytes ℓ d))
+
+  pub own-record : recordOf m (rows es) ≡ some (items es)
+  own-record = all-claimed m own-rows
+
+  pub own-reads : Reads ℓ d m (items es)
+  own-reads = record { bytes = bytes; accepted = rw e refl }
+
+-- ---- what the writer makes of a message's own rows
+-- an accepted message is not longer than the ceiling
+judged-done : (ℓ : Ceilings) (d longest : ℕ) (m : List ℕ) (n : ℕ) (es : List (Entry Item)) (c : Known) → judged ℓ d longest m ≡ Done n tt es c
+    → (length m ≤ longest) × (message ℓ d start 0 m ≡ Done n tt es c)
+unfolding judged
+judged-done ℓ d longest [] n es c e = absurd (let z : _≡_ {A = ℕ} 0 1 = cc in omega arith)
+judged-done ℓ d longest (b ∷ m) n es c e =
+    pick-either (λ (o : Outcome Known Item One). o ≡ Done n tt es c → (length (b ∷ m) ≤ longest) × (message ℓ d start 0 (b ∷ m) ≡ Done n tt es c)) (ltb longest (length (b ∷ m)))
+    (λ t q. absurd (let z : _≡_ {A = ℕ} 0 1 = cc in omega arith)) (λ t q. (ltb-false longest (length (b ∷ m)) t, q)) e
+
+done-judged : (ℓ : Ceilings) (d longest : ℕ) (m : List ℕ) (n : ℕ) (es : List (Entry Item)) (c : Known) → length m ≤ longest → message ℓ d start 0 m ≡ Done n tt es c
+    → judged ℓ d longest m ≡ Done n tt es c
+unfolding judged message
+done-judged ℓ d longest [] n es c l e = absurd (let z : _≡_ {A = ℕ} 0 1 = cc in omega arith)
+done-judged ℓ d longest (b ∷ m) n es c l e = pick-false _ _ (le-ltb longest (length (b ∷ m)) l) ∙ e
+
+module _ (ℓ : Ceilings) (openFrom : ℕ) (most : openFrom ≤ 48) (d longest : ℕ) where
+  -- the message m, accepted with the entries es, is written anew from its rows
+  pub record Rewritten (m : List ℕ) (es : List (Entry Item)) : Type 0 where
+    pub written : List ℕ
+    -- wherever there is room for it
+    pub wrote : (lent : ℕ) → length written ≤ lent → write ℓ openFrom d longest lent m (rows es) ≡ Wrote written
+    pub no-longer-than : length written ≤ length m
+    -- it is accepted, and has the same record
+    pub entries : List (Entry Item)
+    pub known : Known
+    pub reread : judged ℓ d longest written ≡ Done (length written) tt entries known
+    pub same-record : recordOf written (rows entries) ≡ recordOf m (rows es)
+    -- no message that has the same record is shorter
+    pub shortest : (w : List ℕ) → Bytes w → (n : ℕ) (fs : List (Entry Item)) (c : Known) → message ℓ d start 0 w ≡ Done n tt fs c → recordOf w (rows fs) ≡ recordOf m (rows es)
+        → length written ≤ length w
+
+  -- demand 3: so is every message for which none of refusals 1 to 8 is given
+  pub rewrites : (m : List ℕ) → Bytes m → (n : ℕ) (es : List (Entry Item)) (c : Known) → judged ℓ d longest m ≡ Done n tt es c → Rewritten m es
+  unfolding write shortestOf
+  rewrites m bytes n es c e = go (message ℓ d start 0 w) refl (back .accepted)
+    where
+      done : (length m ≤ longest) × (message ℓ d start 0 m ≡ Done n tt es c)
+      done = judged-done ℓ d longest m n es c e
+
+      own : recordOf m (rows es) ≡ some (items es)
+      own = own-record ℓ d m bytes n es c (done .1)
+
+      short : (w : List ℕ) × (spell ℓ openFrom d (items es) ≡ some w) × (length w ≤ length m)
+      short = no-longer ℓ openFrom most d m (items es) (own-reads ℓ d m bytes n es c (done .1))
+
+      w : List ℕ
+      w = short .0
+
+      back : Reads ℓ d w (items es)
+      back = reads-back ℓ openFrom most d (items es) w (short .1)
+
+      fits : length w ≤ longest
+      fits = omega (arith, short .2, done .0)
+
+      least : (v : List ℕ) → Bytes v → (k : ℕ) (fs : List (Entry Item)) (c : Known) → message ℓ d start 0 v ≡ Done k tt fs c → recordOf v (rows fs) ≡ recordOf m (rows es) → length w ≤ length v
+      least v b k fs c q same =
+          let a = own-record ℓ d v b k fs c q in
+          let is : items fs ≡ items es = cc (own) in
+          let p = no-longer ℓ openFrom most d v (items fs) (own-reads ℓ d v b k fs c q) in
+          let i = p .1 in
+          let j = short .1 in
+          let x : p .0 ≡ w = cc in
+          omega (arith, p .2, ap length x)
+
+      go : (o : Outcome Known Item One) → message ℓ d start 0 w ≡ o → Accepted (items es) o → Rewritten m es
+      go (Fault x o) q a = absurd a
+      go (Done k tt fs c′) q a =
+          let all = message-all ℓ d w (back .bytes) k tt fs c′ q in
+          record {
+            written = w;
+            wrote = λ lent l. pick-false _ _ (le-ltb longest (length m) (done .0)) ∙ rw (own, short .1) (pick-false _ _ (le-ltb longest (length w) fits) ∙ pick-false _ _ (le-ltb lent (length w) l));
+            no-longer-than = short .2;
+            entries = fs;
+            known = c′;
+            reread = done-judged ℓ d longest w (length w) fs c′ fits (subst (λ (z : ℕ). message ℓ d start 0 w ≡ Done z tt fs c′) all q);
+            same-record = own-record ℓ d w (back .bytes) k fs c′ q ∙ ap {B = Option (List Item)} some a ∙ sym own;
+            shortest = least;
+          }
