@@ -13,7 +13,7 @@ use Rattle.scalar.specs.Scalars.{Spelt, Int, Text, shortestScalar, shortestInt,
 use Rattle.scalar.specs.ScalarLaws.{Is, int-is, text-is, scalar-is}
 use Rattle.record.specs.Items.{Value, Leaf, UntypedList, TypedList, UntypedMap, TypedMap, Object, Reference, Item, Val, Definition, ClassName, FieldName, TypeName, TypeNumber, Known, start, opened, typed, defined, Ceilings}
 use Rattle.record.specs.Grammar.{NameForm, a-name, TypeForm, type-name, type-number, PairForm, a-pair, DefinitionForm, a-definition, PlainForm, a-leaf, a-few, a-counted, an-open, a-few-typed, a-counted-typed, an-open-typed, a-map, a-typed-map, a-few-object, an-object, a-reference, Nowhere, ValueForm, Message}
-use Rattle.record.specs.Spelling.{Spelling, Spelled, NoRecord, Put, onSpelled, prefixed, putThen, putMany, putBytes, putNothing, putCode, putChanging, className?, fieldName?, putName, putList, putMap, codeThen, objectCode, putContainer, putIf, putType, putPlainBy, putPlain, putDefined, putDefinition, putPreceded, putPrecededBy, putValue, complete, spell}
+use Rattle.record.specs.Spelling.{Spelling, Spelled, NoRecord, Put, onSpelled, prefixed, putThen, putMany, putBytes, putNothing, putCode, className?, fieldName?, putName, putList, putMap, codeThen, objectCode, putContainer, putIf, putType, putPlainBy, putPlain, putDefined, putDefinition, putPreceded, putPrecededBy, putValue, complete, spell}
 
 -- what is made of the first of the items r, if anything is, is what P says of the bytes, the items and what is known then
 abbrev Back : (List ℕ → List Item → Known → Type 0) → List Item → Spelling → Type 0
@@ -186,8 +186,8 @@ module _ (ℓ : Ceilings) (openFrom : ℕ) (most : openFrom ≤ 48) where
       go c (TypeName cs ∷ r) =
           let same = eqb (c .types) t in
           let given = ltb (c .types) (ℓ .types) in
-          item-back (λ w is c′. TypeForm ℓ c w t is c′) (TypeName cs) r (putIf (same && given) (putChanging typed (putBytes (shortestText cs))) c r)
-          (if-back (λ w is c′. TypeForm ℓ c w t (TypeName cs ∷ is) c′) (same && given) (putChanging typed (putBytes (shortestText cs))) c r
+          item-back (λ w is c′. TypeForm ℓ c w t is c′) (TypeName cs) r (putIf (same && given) (λ c r. putBytes (shortestText cs) (typed c) r) c r)
+          (if-back (λ w is c′. TypeForm ℓ c w t (TypeName cs ∷ is) c′) (same && given) (λ c r. putBytes (shortestText cs) (typed c) r) c r
           (λ x. back-as (Raw (λ w. Text w cs) (typed c)) (λ w is c′. TypeForm ℓ c w t (TypeName cs ∷ is) c′)
           (λ w is c′. written c cs (eqb→eq (c .types) t (and-left same given x)) (ltb→lt (c .types) (ℓ .types) (and-right same given x)))
           r (putBytes (shortestText cs) (typed c) r) (bytes-sound (shortestText cs) (text-is cs) .sound (typed c) r)))

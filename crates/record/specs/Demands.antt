@@ -1,42 +1,159 @@
--- The theorems, for every openFrom up to 48, all ceilings and every allowance d of open containers.
-use mathlib.Core.Path.{_≡_, refl}
-use mathlib.Core.Logic.{_↔_}
-use mathlib.Core.List.{List}
+-- The demands, in their words, for every ceiling, every allowance d of open containers and every threshold openFrom up to 48.
+use mathlib.Core.Path.{_≡_, refl, sym, _∙_, ap, subst}
+use mathlib.Core.Logic.{_↔_, _⊎_, inl, inr}
+use mathlib.Core.Bool.{Bool, true, false}
+use mathlib.Core.List.{List, [], _∷_}
 use mathlib.Core.Option.{Option, none, some}
-use Prim.Native.Nat.{ℕ, _≤_}
+use Prim.Native.Nat.{ℕ, suc, _≤_, _<_}
 use native.Mathlib.Omega.{arith}
+use lib.Dec.{ltb}
 use lib.ListN.{length}
-use Rattle.record.specs.Items.{Item, Ceilings}
-use Rattle.record.specs.Reading.{Reads}
+use borrow.Author.Tests.{le-ltb, lt-ltb, ltb-true, ltb-false}
+use Rattle.flow.specs.Tests.{pick, pick-true, pick-false, pick-either, Bytes}
+use Rattle.flow.specs.Flow.{Entry, Outcome, Done, Fault, One, items}
+use Rattle.record.specs.Items.{Item, Known, start, Ceilings}
+use Rattle.record.specs.Reading.{message, Accepted, Reads}
 use Rattle.record.specs.Grammar.{Message}
-use Rattle.record.specs.Spelling.{spell}
-use Rattle.record.specs.Meaning.{reads-derived, derived-reads}
-use Rattle.record.specs.Short.{message-short}
-use Rattle.record.specs.Back.{message-back}
+use Rattle.record.specs.Rows.{Row, rows}
+use Rattle.record.specs.Meaning.{reads-derived, derived-reads, message-all}
+use Rattle.record.specs.Answers.{WriteAnswer, Wrote, Refused, judged, shortestOf, write, stored, Has}
+use Rattle.record.specs.Writing.{rows-no-longer, rows-back, rows-none, judged-done, done-judged}
 
--- a message reads as a record exactly when the grammar derives it
-pub grammar : (ℓ : Ceilings) (d : ℕ) (m : List ℕ) (r : List Item) → Reads ℓ d m r ↔ Message ℓ d m r
-grammar ℓ d m r = (reads-derived ℓ d m r, derived-reads ℓ d m r)
+never : {A : Type 0} → _≡_ {A = ℕ} 0 1 → A
+never z = absurd (omega arith)
 
-module _ (ℓ : Ceilings) (openFrom : ℕ) (most : openFrom ≤ 48) (d : ℕ) where
-  -- no message that reads as the record is shorter than its spelling
-  pub no-longer : (m : List ℕ) (r : List Item) → Reads ℓ d m r → (w : List ℕ) × (spell ℓ openFrom d r ≡ some w) × (length w ≤ length m)
-  no-longer m r x = message-short ℓ openFrom most d m r (reads-derived ℓ d m r x)
+-- none of refusals 1 to 8 is given for the message m, which reads as the items r
+pub record Accepts (ℓ : Ceilings) (d longest : ℕ) (m : List ℕ) (r : List Item) : Type 0 where
+  pub entries : List (Entry Item)
+  pub known : Known
+  pub done : judged ℓ d longest m ≡ Done (length m) tt entries known
+  pub reads-as : items entries ≡ r
 
-  -- the spelling reads back
-  pub reads-back : (r : List Item) (w : List ℕ) → spell ℓ openFrom d r ≡ some w → Reads ℓ d w r
-  reads-back r w e = derived-reads ℓ d w r (message-back ℓ openFrom most d r w e)
-
-  -- a record has no spelling exactly when no message reads as it
-  no-message : (r : List Item) → spell ℓ openFrom d r ≡ none → (m : List ℕ) → Reads ℓ d m r → ⊥
-  no-message r e m x = let p = no-longer m r x in let q = p .1 in absurd (let z : _≡_ {A = ℕ} 0 1 = cc in omega arith)
-
-  none-spelled : (r : List Item) → ((m : List ℕ) → Reads ℓ d m r → ⊥) → spell ℓ openFrom d r ≡ none
-  none-spelled r h = go (spell ℓ openFrom d r) refl
+module _ (ℓ : Ceilings) (d longest : ℕ) where
+  -- ---- demand 2: a message is accepted exactly when the grammar reads it as one record within the limits
+  reads-accepts : (m : List ℕ) (r : List Item) → length m ≤ longest → Reads ℓ d m r → Accepts ℓ d longest m r
+  reads-accepts m r l x = go (message ℓ d start 0 m) refl (x .accepted)
     where
-      go : (o : Option (List ℕ)) → spell ℓ openFrom d r ≡ o → o ≡ none
-      go none e = refl
-      go (some w) e = absurd (h w (reads-back r w e))
+      go : (o : Outcome Known Item One) → message ℓ d start 0 m ≡ o → Accepted r o → Accepts ℓ d longest m r
+      go (Done n tt es c) e a =
+          let all = message-all ℓ d m (x .bytes) n tt es c e in
+          record { entries = es; known = c; done = done-judged ℓ d longest m (length m) es c l (e ∙ ap (λ (k : ℕ). Done k tt es c) all); reads-as = a }
+      go (Fault y o) e a = absurd a
 
-  pub no-record : (r : List Item) → (spell ℓ openFrom d r ≡ none) ↔ ((m : List ℕ) → Reads ℓ d m r → ⊥)
-  no-record r = (no-message r, none-spelled r)
+  pub accepted-exactly : (m : List ℕ) → Bytes m → (r : List Item) → Accepts ℓ d longest m r ↔ ((length m ≤ longest) × Message ℓ d m r)
+  accepted-exactly m b r = (
+    λ x. let p = judged-done ℓ d longest m (length m) (x .entries) (x .known) (x .done) in
+        (p .0, reads-derived ℓ d m r (record { bytes = b; accepted = rw (p .1) (x .reads-as) })),
+    λ x. reads-accepts m r (x .0) (derived-reads ℓ d m r (x .1)),
+  )
+
+  module _ (openFrom : ℕ) (most : openFrom ≤ 48) (source : List ℕ) (r : List Row) where
+    -- ---- the writer's answer, in the order of its refusals
+    by-answer : (lent : ℕ) (P : WriteAnswer → Type 0)
+        → (longest < length source → P (Refused 1 0))
+        → (length source ≤ longest → shortestOf ℓ openFrom d source r ≡ none → P (Refused 10 0))
+        → (length source ≤ longest → (w : List ℕ) → shortestOf ℓ openFrom d source r ≡ some w → longest < length w → P (Refused 1 0))
+        → (length source ≤ longest → (w : List ℕ) → shortestOf ℓ openFrom d source r ≡ some w → length w ≤ longest → lent < length w → P (Refused 9 (length w)))
+        → (length source ≤ longest → (w : List ℕ) → shortestOf ℓ openFrom d source r ≡ some w → length w ≤ longest → length w ≤ lent → P (Wrote w))
+        → P (write ℓ openFrom d longest lent source r)
+    unfolding write
+    by-answer lent P a b c e f = pick-either P (ltb longest (length source)) (λ t. a (ltb-true longest (length source) t)) (λ t. go (ltb-false longest (length source) t) (shortestOf ℓ openFrom d source r) refl)
+      where
+        go : length source ≤ longest → (o : Option (List ℕ)) → shortestOf ℓ openFrom d source r ≡ o → P (stored longest lent o)
+        go l none q = b l q
+        go l (some w) q = pick-either P (ltb longest (length w)) (λ t. c l w q (ltb-true longest (length w) t)) (λ t. pick-either P (ltb lent (length w))
+            (λ s. e l w q (ltb-false longest (length w) t) (ltb-true lent (length w) s))
+            (λ s. f l w q (ltb-false longest (length w) t) (ltb-false lent (length w) s)))
+
+    wrote-when : (lent : ℕ) (w : List ℕ) → length source ≤ longest → shortestOf ℓ openFrom d source r ≡ some w → length w ≤ longest → length w ≤ lent → write ℓ openFrom d longest lent source r ≡ Wrote w
+    unfolding write
+    wrote-when lent w l q i j = pick-false _ _ (le-ltb longest (length source) l) ∙ rw q (pick-false _ _ (le-ltb longest (length w) i) ∙ pick-false _ _ (le-ltb lent (length w) j))
+
+    needed-when : (k : ℕ) (w : List ℕ) → length source ≤ longest → shortestOf ℓ openFrom d source r ≡ some w → length w ≤ longest → k < length w → write ℓ openFrom d longest k source r ≡ Refused 9 (length w)
+    unfolding write
+    needed-when k w l q i j = pick-false _ _ (le-ltb longest (length source) l) ∙ rw q (pick-false _ _ (le-ltb longest (length w) i) ∙ pick-true _ _ (lt-ltb k (length w) j))
+
+    -- ---- demand 2: what is written is accepted, and reads as the record that it was written from
+    pub written-back : (lent : ℕ) (w : List ℕ) → write ℓ openFrom d longest lent source r ≡ Wrote w → (x : Has ℓ d source r w) × Accepts ℓ d longest w (x .record-of)
+    written-back lent w = by-answer lent (λ a. a ≡ Wrote w → (x : Has ℓ d source r w) × Accepts ℓ d longest w (x .record-of))
+        (λ l e. never cc)
+        (λ l q e. never cc)
+        (λ l v q i e. never cc)
+        (λ l v q i j e. never cc)
+        (λ l v q i j e. let s : v ≡ w = cc in
+        let x = rows-back ℓ openFrom most d source r w (q ∙ ap {B = Option (List ℕ)} some s) in
+        (x, reads-accepts w (x .record-of) (subst (λ (z : List ℕ). length z ≤ longest) s i) (x .read-as)))
+
+    -- ---- refusal 10 is given exactly when, length set aside, no message within the other ceilings has the record
+    pub refused-10 : (lent : ℕ) → length source ≤ longest → (write ℓ openFrom d longest lent source r ≡ Refused 10 0) ↔ ((m : List ℕ) → Has ℓ d source r m → ⊥)
+    refused-10 lent l = (
+      by-answer lent (λ a. a ≡ Refused 10 0 → (m : List ℕ) → Has ℓ d source r m → ⊥)
+          (λ i e. never cc)
+          (λ i q e. rows-none ℓ openFrom most d source r .0 q)
+          (λ i v q j e. never cc)
+          (λ i v q j k e. never cc)
+          (λ i v q j k e. never cc),
+      λ h. by-answer lent (λ a. a ≡ Refused 10 0)
+          (λ i. absurd (omega arith))
+          (λ i q. refl)
+          (λ i v q j. let e = rows-none ℓ openFrom most d source r .1 h in never cc)
+          (λ i v q j k. let e = rows-none ℓ openFrom most d source r .1 h in never cc)
+          (λ i v q j k. let e = rows-none ℓ openFrom most d source r .1 h in never cc),
+    )
+
+    -- refusal 1 where the source is too long, or else where there is a record and its shortest message is too long
+    pub refused-1 : (lent : ℕ) → (write ℓ openFrom d longest lent source r ≡ Refused 1 0) ↔ ((longest < length source) ⊎ ((w : List ℕ) × (shortestOf ℓ openFrom d source r ≡ some w) × (longest < length w)))
+    refused-1 lent = (
+      by-answer lent (λ a. a ≡ Refused 1 0 → (longest < length source) ⊎ ((w : List ℕ) × (shortestOf ℓ openFrom d source r ≡ some w) × (longest < length w)))
+          (λ i e. inl i)
+          (λ i q e. never cc)
+          (λ i v q j e. inr (v, q, j))
+          (λ i v q j k e. never cc)
+          (λ i v q j k e. never cc),
+      λ h. by-answer lent (λ a. a ≡ Refused 1 0)
+          (λ i. refl)
+          (λ i q. long i q h)
+          (λ i v q j. refl)
+          (λ i v q j k. short i v q j h)
+          (λ i v q j k. short i v q j h),
+    )
+      where
+        long : {A : Type 0} → length source ≤ longest → shortestOf ℓ openFrom d source r ≡ none → (longest < length source) ⊎ ((w : List ℕ) × (shortestOf ℓ openFrom d source r ≡ some w) × (longest < length w)) → A
+        long i q (inl x) = absurd (omega arith)
+        long i q (inr x) = let e = x .1 in never cc
+
+        short : {A : Type 0} → length source ≤ longest → (v : List ℕ) → shortestOf ℓ openFrom d source r ≡ some v → length v ≤ longest
+            → (longest < length source) ⊎ ((w : List ℕ) × (shortestOf ℓ openFrom d source r ≡ some w) × (longest < length w)) → A
+        short i v q j (inl x) = absurd (omega arith)
+        short i v q j (inr x) = let e = x .1 in let f : v ≡ x .0 = cc in absurd (omega (arith, x .2, ap length f))
+
+    -- ---- demand 3: what is refused with neither 1 nor 10 is accepted, given room; the message written has the record, and no message that has it,
+    -- of any spelling, is shorter
+    pub record Shortest : Type 0 where
+      pub message-of : List ℕ
+      pub given-room : (lent : ℕ) → length message-of ≤ lent → write ℓ openFrom d longest lent source r ≡ Wrote message-of
+      pub has : Has ℓ d source r message-of
+      pub accepted : Accepts ℓ d longest message-of (has .record-of)
+      pub none-shorter : (m : List ℕ) → Has ℓ d source r m → length message-of ≤ length m
+      -- refusal 9 counts its bytes
+      pub needed : (lent : ℕ) → lent < length message-of → write ℓ openFrom d longest lent source r ≡ Refused 9 (length message-of)
+
+    pub demand-3 : (lent : ℕ) → (write ℓ openFrom d longest lent source r ≡ Refused 1 0 → ⊥) → (write ℓ openFrom d longest lent source r ≡ Refused 10 0 → ⊥) → Shortest
+    demand-3 lent = by-answer lent (λ a. (a ≡ Refused 1 0 → ⊥) → (a ≡ Refused 10 0 → ⊥) → Shortest)
+        (λ i x y. absurd (x refl))
+        (λ i q x y. absurd (y refl))
+        (λ i v q j x y. absurd (x refl))
+        (λ i v q j k x y. shortest i v q j)
+        (λ i v q j k x y. shortest i v q j)
+      where
+        shortest : length source ≤ longest → (w : List ℕ) → shortestOf ℓ openFrom d source r ≡ some w → length w ≤ longest → Shortest
+        shortest i w q j =
+            let x = rows-back ℓ openFrom most d source r w q in
+            record {
+              message-of = w;
+              given-room = λ k l. wrote-when k w i q j l;
+              has = x;
+              accepted = reads-accepts w (x .record-of) j (x .read-as);
+              none-shorter = λ m h. let p = rows-no-longer ℓ openFrom most d source r m h in let e = p .1 in let f : p .0 ≡ w = cc in omega (arith, p .2, ap length f);
+              needed = λ k l. needed-when k w i q j l;
+            }

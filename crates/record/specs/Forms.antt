@@ -115,7 +115,7 @@ formKind (few-object k) = 13
 formKind object = 13
 formKind reference = 14
 
-abbrev chartKind : ℕ → ℕ
+abbrev pub chartKind : ℕ → ℕ
 chartKind k = cond (within 9 15 k) k 0
 
 all-agree : T (every 256 (λ b. eqb (formKind (formOf b)) (chartKind (kindOf (leadOf b)))))

@@ -52,8 +52,7 @@ pub data PlainForm (ℓ : Ceilings) (room : Bool) (G : Phrase Known Item) : Know
 -- text int text*: a class definition, behind its 43
 pub data DefinitionForm (ℓ : Ceilings) : Known → List ℕ → List Item → Known → Type 0 where
   a-definition : {c c₁ : Known} {u v w cs : List ℕ} {n : ℕ} {is : List Item} → length (c .classes) < ℓ .classes → Text u cs → Int v n → n < 2 ^ 63 → n ≤ ℓ .fields
-      → Many (NameForm FieldName) n c w is c₁
-      → DefinitionForm ℓ c (u ++ (v ++ w)) (Definition n ∷ ClassName cs ∷ is) (defined n c₁)
+      → Many (NameForm FieldName) n c w is c₁ → DefinitionForm ℓ c (u ++ (v ++ w)) (Definition n ∷ ClassName cs ∷ is) (defined n c₁)
 
 abbrev pub Nowhere : Phrase Known Item
 Nowhere c w is c′ = ⊥

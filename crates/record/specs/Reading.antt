@@ -109,6 +109,7 @@ module _ (ℓ : Ceilings) where
   unfoldable pub typeFrom : Opening ℕ
   typeFrom p b = cond (isText b) (typeName p b) (bind (intFrom p b) (typeNumber p))
 
+  -- a type, and then what its number says
   abbrev pub withType : {A : Type 0} → (ℕ → Reader A) → Reader A
   withType g = bind (byteAt typeFrom) g
 

@@ -226,7 +226,7 @@ unfolding judged message valueFrom plainBy definition typeFrom formOf pick scala
     write shortestOf itemAt ofKind contentKind stringAt spell putValue putPlain putPlainBy putDefinition putType objectCode shortestScalar shortest guess wholeGuess wholeSize narrowed narrowMagnitude shortestString content longest
 marked-hold = refl
 
-pub samples-hold : Hold (car ++ (accepted ++ (refused-1 ++ (refused-2 ++ (refused-3 ++ (refused-4 ++ (refused-5 ++ (refused-6 ++ (refused-7 ++ (refused-8 ++ (written ++ (list-forms ++ (no-records ++ (placed))))))))))))))
+pub samples-hold : Hold (car ++ (accepted ++ (refused-1 ++ (refused-2 ++ (refused-3 ++ (refused-4 ++ (refused-5 ++ (refused-6 ++ (refused-7 ++ (refused-8 ++ (written ++ (list-forms ++ (no-records ++ placed)))))))))))))
 unfolding judged message valueFrom plainBy definition typeFrom formOf pick scalarFrom intFrom textFrom stringFrom leadOf rangeOf ranges kindOf formsOf formAt value whole widened magnitude scaled leadingZeros partHead lastHeads charLead
     write shortestOf itemAt ofKind contentKind stringAt spell putValue putPlain putPlainBy putDefinition putType objectCode shortestScalar shortest guess wholeGuess wholeSize narrowed narrowMagnitude shortestString content longest
 samples-hold = refl

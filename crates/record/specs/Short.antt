@@ -14,7 +14,7 @@ use Rattle.scalar.specs.Scalars.{Int, Text, shortestScalar, shortestInt, shorte
 use Rattle.scalar.specs.ScalarLaws.{scalar-short, int-short, int-some, small-count, text-short}
 use Rattle.record.specs.Items.{Value, UntypedList, TypedList, UntypedMap, TypedMap, Object, Reference, Item, Val, Definition, ClassName, FieldName, TypeName, TypeNumber, Known, opened, typed, defined, Ceilings}
 use Rattle.record.specs.Grammar.{NameForm, a-name, TypeForm, type-name, type-number, PairForm, a-pair, DefinitionForm, a-definition, PlainForm, a-leaf, a-few, a-counted, an-open, a-few-typed, a-counted-typed, an-open-typed, a-map, a-typed-map, a-few-object, an-object, a-reference, Nowhere, ValueForm, Message}
-use Rattle.record.specs.Spelling.{Spelled, Put, putThen, putMany, putBytes, putNothing, putCode, putChanging, className?, fieldName?, putName, putList, putMap, codeThen, objectCode, putContainer, putIf, putType, putPlainBy, putPlain, putDefined, putDefinition, putPreceded, putPrecededBy, putValue, spell}
+use Rattle.record.specs.Spelling.{Spelled, Put, putThen, putMany, putBytes, putNothing, putCode, className?, fieldName?, putName, putList, putMap, codeThen, objectCode, putContainer, putIf, putType, putPlainBy, putPlain, putDefined, putDefinition, putPreceded, putPrecededBy, putValue, spell}
 
 -- of these items, whatever follows, g makes at most n bytes
 record Spells (g : Put) (c : Known) (is : List Item) (n : ℕ) (c′ : Known) : Type 0 where
@@ -109,7 +109,7 @@ module _ (ℓ : Ceilings) (openFrom : ℕ) (most : openFrom ≤ 48) where
     spells = if-spells (eqb (c .types) (c .types) && ltb (c .types) (ℓ .types)) (rw (eq-eqb (c .types) (c .types) refl, lt-ltb (c .types) (ℓ .types) l)) (known r) .spells;
   }
     where
-      known : Text w cs → Spells (putChanging typed (putBytes (shortestText cs))) c [] (length w) (typed c)
+      known : Text w cs → Spells (λ c r. putBytes (shortestText cs) (typed c) r) c [] (length w) (typed c)
       known r = record { spells = bytes-spell (shortestText cs) {c = typed c} (text-short r) .spells }
   type-spells (type-number {c = c} {k = k} x l) = record {
     spells = if-spells (eqb k k && ltb k (c .types)) {c = c} (rw (eq-eqb k k refl, lt-ltb k (c .types) l)) (bytes-spell (shortestInt k) (int-short x)) .spells;

@@ -13,9 +13,11 @@ pub data Spelling : Type 0 where
   Spelled : List ℕ → List Item → Known → Spelling
   NoRecord : Spelling
 
+-- by what is known and the items left
 abbrev pub Put : Type 0
 Put = Known → List Item → Spelling
 
+-- what is made of the rest; bytes before it
 abbrev pub onSpelled : Spelling → (List ℕ → List Item → Known → Spelling) → Spelling
 onSpelled (Spelled w r c) k = k w r c
 onSpelled NoRecord k = NoRecord
@@ -44,10 +46,6 @@ putBytes (some w) c r = Spelled w r c
 abbrev pub putCode : ℕ → Put
 putCode b = putBytes (some (b ∷ []))
 
--- with what is known changed first
-abbrev pub putChanging : (Known → Known) → Put → Put
-putChanging φ g c r = g (φ c) r
-
 -- where the test holds
 abbrev pub putIf : Bool → Put → Put
 putIf t g = cond t g (λ c r. NoRecord)
@@ -57,6 +55,7 @@ abbrev pub putItem : {A : Type 0} → (Item → Option A) → (A → Put) → Pu
 putItem part k c [] = NoRecord
 putItem part k c (x ∷ r) = elim (part x) [ none ↦ NoRecord | some a ↦ k a c r ]
 
+-- a value, a class definition's number of fields, a class name, a field name, if the item is one
 abbrev pub value? : Item → Option Value
 value? x = elim x [ Val v ↦ some v | Definition n ↦ none | ClassName cs ↦ none | FieldName cs ↦ none | TypeName cs ↦ none | TypeNumber k ↦ none ]
 
@@ -70,17 +69,19 @@ abbrev pub fieldName? : Item → Option (List ℕ)
 fieldName? x = elim x [ Val v ↦ none | Definition n ↦ none | ClassName cs ↦ none | FieldName cs ↦ some cs | TypeName cs ↦ none | TypeNumber k ↦ none ]
 
 -- ---- parts
+-- a name in its shortest form
 abbrev pub putName : (Item → Option (List ℕ)) → Put
 putName part = putItem part (λ cs. putBytes (shortestText cs))
+
+-- the open form of the code b, with 5a
+abbrev pub putMap : ℕ → Put → Put → Put
+putMap b q body = putThen (putCode b) (putThen q (putThen body (putCode 0x5a)))
 
 -- a list of n elements, q its type, if it has one: the one-byte form up to 7, the counted form, from openFrom on the open form with 5a
 abbrev pub putList : ℕ → ℕ → ℕ → ℕ → ℕ → Put → Put → Put
 putList openFrom few counted opening n q body = cond (ltb n 8) (putThen (putCode (few + n)) (putThen q body))
     (cond (ltb n openFrom) (putThen (putCode counted) (putThen q (putThen (putBytes (shortestInt n)) body)))
-    (putThen (putCode opening) (putThen q (putThen body (putCode 0x5a)))))
-
-abbrev pub putMap : ℕ → Put → Put → Put
-putMap b q body = putThen (putCode b) (putThen q (putThen body (putCode 0x5a)))
+    (putMap opening q body))
 
 abbrev pub codeThen : ℕ → Option (List ℕ) → Option (List ℕ)
 codeThen b none = none
@@ -93,7 +94,7 @@ objectCode k = cond (ltb k 16) (some ((0x60 + k) ∷ [])) (codeThen 0x4f (shorte
 -- a list, map or object, where one more may open
 abbrev pub putContainer : Option Put → (Put → Put) → Put
 putContainer none body c r = NoRecord
-putContainer (some g) body c r = putChanging opened (body g) c r
+putContainer (some g) body c r = body g (opened c) r
 
 -- a class of n fields gets its number
 abbrev pub putDefined : ℕ → Put
@@ -113,7 +114,7 @@ module _ (ℓ : Ceilings) where
   putType t c (Definition n ∷ r) = NoRecord
   putType t c (ClassName cs ∷ r) = NoRecord
   putType t c (FieldName cs ∷ r) = NoRecord
-  putType t c (TypeName cs ∷ r) = putIf (eqb (c .types) t && ltb (c .types) (ℓ .types)) (putChanging typed (putBytes (shortestText cs))) c r
+  putType t c (TypeName cs ∷ r) = putIf (eqb (c .types) t && ltb (c .types) (ℓ .types)) (λ c r. putBytes (shortestText cs) (typed c) r) c r
   putType t c (TypeNumber k ∷ r) = putIf (eqb k t && ltb k (c .types)) (putBytes (shortestInt k)) c r
 
   -- a class definition

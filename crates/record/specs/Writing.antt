@@ -22,7 +22,7 @@ use Rattle.record.specs.Reading.{message, Accepted, Reads}
 use Rattle.record.specs.Rows.{Row, itemRow, rows}
 use Rattle.record.specs.Spelling.{spell}
 use Rattle.record.specs.Meaning.{message-all}
-use Rattle.record.specs.Demands.{no-longer, reads-back}
+use Rattle.record.specs.ItemTheorems.{no-longer, reads-back}
 use Rattle.record.specs.Places.{Stands, Opens, EntriesOpen, OutcomeOpens, places}
 use Rattle.record.specs.Claims.{contentOf, contentKind, told, contentAt, ClaimAll, no-rows, a-row, onSome, recordOf, all-claimed, claims-exactly}
 use Rattle.record.specs.Answers.{judged, shortestOf, write, Wrote, Has}
@@ -127,7 +127,7 @@ module _ (ℓ : Ceilings) (d : ℕ) (m : List ℕ) (bytes : Bytes m) (n : ℕ) (
 
 -- ---- what the writer makes of a message's own rows
 -- an accepted message is not longer than the ceiling
-judged-done : (ℓ : Ceilings) (d longest : ℕ) (m : List ℕ) (n : ℕ) (es : List (Entry Item)) (c : Known) → judged ℓ d longest m ≡ Done n tt es c
+pub judged-done : (ℓ : Ceilings) (d longest : ℕ) (m : List ℕ) (n : ℕ) (es : List (Entry Item)) (c : Known) → judged ℓ d longest m ≡ Done n tt es c
     → (length m ≤ longest) × (message ℓ d start 0 m ≡ Done n tt es c)
 unfolding judged
 judged-done ℓ d longest [] n es c e = absurd (let z : _≡_ {A = ℕ} 0 1 = cc in omega arith)
@@ -135,7 +135,7 @@ judged-done ℓ d longest (b ∷ m) n es c e =
     pick-either (λ (o : Outcome Known Item One). o ≡ Done n tt es c → (length (b ∷ m) ≤ longest) × (message ℓ d start 0 (b ∷ m) ≡ Done n tt es c)) (ltb longest (length (b ∷ m)))
     (λ t q. absurd (let z : _≡_ {A = ℕ} 0 1 = cc in omega arith)) (λ t q. (ltb-false longest (length (b ∷ m)) t, q)) e
 
-done-judged : (ℓ : Ceilings) (d longest : ℕ) (m : List ℕ) (n : ℕ) (es : List (Entry Item)) (c : Known) → length m ≤ longest → message ℓ d start 0 m ≡ Done n tt es c
+pub done-judged : (ℓ : Ceilings) (d longest : ℕ) (m : List ℕ) (n : ℕ) (es : List (Entry Item)) (c : Known) → length m ≤ longest → message ℓ d start 0 m ≡ Done n tt es c
     → judged ℓ d longest m ≡ Done n tt es c
 unfolding judged message
 done-judged ℓ d longest [] n es c l e = absurd (let z : _≡_ {A = ℕ} 0 1 = cc in omega arith)
