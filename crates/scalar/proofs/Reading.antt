@@ -46,13 +46,8 @@ nth-starts (w ∷ ws) (suc i) q p l =
     form-skip w ws (nth ws i .head + q) (number-apart w (nth-number ws i q l) (and-left (clear w ws) (leb (w .head + w .codes) 256 && proper ws) p))
     ∙ nth-starts ws i q (and-right (leb (w .head + w .codes) 256) (proper ws) (and-right (clear w ws) (leb (w .head + w .codes) 256 && proper ws) p)) l
 
--- v is the byte b in 64 bits
-pub begins : (s : Sort) (i : ℕ) {b v : ℕ} → v ≡ b → nth (formsOf s) i .head ≤ b → b < nth (formsOf s) i .head + nth (formsOf s) i .codes
-    → Starts (nth (formsOf s) i .extra) (v - nth (formsOf s) i .head) (nth (formsOf s) i .rule) ≡ formAt (formsOf s) b
-begins s i {b} {v} e h k =
-    let w = nth (formsOf s) i in
-    let d : w .head + (b - w .head) ≡ b = omega arith in
-    starts (omega arith) ∙ sym (nth-starts (formsOf s) i (b - w .head) (properly s) (omega arith)) ∙ ap (formAt (formsOf s)) d
+pub begins : (s : Sort) (i : ℕ) {b u : ℕ} → nth (formsOf s) i .head + u ≡ b → u < nth (formsOf s) i .codes → Starts (nth (formsOf s) i .extra) u (nth (formsOf s) i .rule) ≡ formAt (formsOf s) b
+begins s i {u = u} e l = sym (nth-starts (formsOf s) i u (properly s) l) ∙ ap (formAt (formsOf s)) e
 
 -- ---- a byte that no form begins with
 abbrev pub Outside : List Form → ℕ → Type 0

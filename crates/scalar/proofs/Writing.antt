@@ -1,7 +1,7 @@
 -- The shortest form: what the code tries, form by form, and what it then stores.
 use mathlib.Core.Path.{_≡_, refl, sym, ap, subst, _∙_}
 use mathlib.Core.Bool.{Bool, true, false, cond, _&&_}
-use mathlib.Core.List.{List, [], _∷_}
+use mathlib.Core.List.{List, [], _∷_, _++_}
 use mathlib.Core.Option.{Option, none, some}
 use Prim.Native.Nat.{ℕ, zero, suc, _+_, _*_, _/_, _^_, _≤_, _<_}
 use native.Mathlib.Nat.{add-zero, div-div-eq-div-mul}
@@ -22,11 +22,11 @@ use Rattle.scalar.specs.declared.numbers.Sort.the-variants.{Null, False,
 use Rattle.scalar.specs.declared.numbers.Rule.{Rule}
 use Rattle.scalar.specs.declared.numbers.Rule.the-variants.{Plain}
 use Rattle.scalar.specs.declared.numbers.Spelling.{Spelling}
-use Rattle.scalar.specs.declared.numbers.Spelling.the-variants as spelling
+use Rattle.scalar.specs.declared.numbers.Spelling.the-variants as answer
 use Rattle.scalar.specs.DoubleLaws.{powers}
-use Rattle.scalar.specs.Numbers.{value, guess, Form, form, formsOf, fits, tried, shortest}
+use Rattle.scalar.specs.Numbers.{value, guess, Form, form, formsOf, spelling, fits, tried, shortest}
 use Rattle.scalar.specs.NumberLaws.{EachForm, IsNumber, number-fact, shortest-is}
-use Rattle.scalar.specs.Answers.{Takes, Good, spelled, some as isSome, Report, reported, reportOf, outputOf, lengthOf}
+use Rattle.scalar.specs.Answers.{Takes, Good, spelled, orElse, some as isSome, Report, reported, reportOf, outputOf, lengthOf}
 
 -- ---- one form
 -- what stands before the k lowest bytes is the quotient
@@ -54,35 +54,64 @@ module _ (head codes more : ℕ) (rule : Rule) (v u : ℕ) (g : u ≡ guess rule
     pub tried-yes : (r : ℕ) → r ≡ value rule u → r ≡ v → some ((head + u / 2 ^ (8 * more)) ∷ be more u) ≡ tried (form head codes more rule) v none
     tried-yes r e n = rw (← g, lt-ltb (high more u) codes (rw high-is l), ← e, eq-eqb r v n, high-is more u)
 
--- ---- one form after the other: o is what trying a form came to, and b whether it was found
-taken : (t : Bool) (s : List ℕ) (y o : Option (List ℕ)) → o ≡ cond t (some s) none → isSome o ≡ true → o ≡ cond t (some s) y
-taken true s y o e h = e
-taken false s y o e h = let z : true ≡ false = sym h ∙ ap isSome e in cc
+-- ---- one form after the other
+found-stays : (o x : Option (List ℕ)) → isSome o ≡ true → o ≡ orElse o x
+unfolding orElse
+found-stays none x h = cc
+found-stays (some s) x h = refl
 
-left : (t : Bool) (s : List ℕ) (y o : Option (List ℕ)) → o ≡ cond t (some s) none → isSome o ≡ false → y ≡ cond t (some s) y
-left true s y o e h = let z : true ≡ false = sym (ap isSome e) ∙ h in cc
-left false s y o e h = refl
+none-left : (o x : Option (List ℕ)) → isSome o ≡ false → orElse o x ≡ x
+unfolding orElse
+none-left none x h = refl
+none-left (some s) x h = cc
 
-module _ (w : Form) (ws : List Form) (v : ℕ) {o : Option (List ℕ)} (e : o ≡ tried w v none) {b : Bool} (f : b ≡ isSome o) where
-  pub first-found : b ≡ true → o ≡ shortest (w ∷ ws) v
+else-else : (o p q : Option (List ℕ)) → orElse (orElse o p) q ≡ orElse o (orElse p q)
+unfolding orElse
+else-else none p q = refl
+else-else (some s) p q = refl
+
+tried-else : (w : Form) (v : ℕ) (o : Option (List ℕ)) → orElse (tried w v none) o ≡ tried w v o
+unfolding orElse
+tried-else w v o = by-test (fits w v) (spelling w (guess (w .rule) v))
+  where
+    by-test : (t : Bool) (s : List ℕ) → orElse (cond t (some s) none) o ≡ cond t (some s) o
+    by-test true s = refl
+    by-test false s = refl
+
+-- o is what trying w came to
+module _ (w : Form) (ws : List Form) (v : ℕ) {o : Option (List ℕ)} (e : o ≡ tried w v none) where
+  tried-first : orElse o (shortest ws v) ≡ shortest (w ∷ ws) v
   unfolding shortest
-  first-found h = taken (fits w v) _ (shortest ws v) o e (sym f ∙ h)
+  tried-first = rw e (tried-else w v (shortest ws v))
 
-  pub not-found : b ≡ false → shortest (w ∷ ws) v ≡ shortest ws v
-  unfolding shortest
-  not-found h = sym (left (fits w v) _ (shortest ws v) o e (sym f ∙ h))
+  module _ {b : Bool} (f : b ≡ isSome o) where
+    pub first-found : b ≡ true → o ≡ shortest (w ∷ ws) v
+    first-found h = found-stays o (shortest ws v) (sym f ∙ h) ∙ tried-first
+
+    pub not-found : b ≡ false → shortest (w ∷ ws) v ≡ shortest ws v
+    not-found h = sym tried-first ∙ none-left o (shortest ws v) (sym f ∙ h)
 
 pub last-found : (w : Form) (v : ℕ) {o : Option (List ℕ)} → o ≡ tried w v none → o ≡ shortest (w ∷ []) v
 unfolding shortest
 last-found w v e = e
 
-pub plain-found : (head v : ℕ) → v < 2 ^ 64 → some (head ∷ be 8 v) ≡ shortest (form head 1 8 Plain ∷ []) v
-unfolding shortest guess value
-plain-found head v l = let z : high 8 v ≡ 0 = omega arith in rw (z, eq-eqb v v refl, add-zero)
-
 -- the first k forms do not hold v
-abbrev pub Past : Sort → ℕ → ℕ → Type 0
-Past s k v = shortest (formsOf s) v ≡ shortest (drop k (formsOf s)) v
+abbrev pub Past : List Form → ℕ → ℕ → Type 0
+Past ws k v = shortest ws v ≡ shortest (drop k ws) v
+
+-- past all the forms ws, which came to o, w is tried
+pub added : (ws : List Form) (w : Form) (v : ℕ) {o r : Option (List ℕ)} → o ≡ shortest ws v → r ≡ orElse o (tried w v none) → r ≡ shortest (ws ++ (w ∷ [])) v
+unfolding shortest orElse
+added [] w v e f = f ∙ rw e
+added (x ∷ ws) w v e f = f ∙ rw (e, ← tried-else x v (shortest ws v), else-else, added ws w v refl refl, tried-else)
+
+pub added-second : (x w : Form) (v : ℕ) {o r : Option (List ℕ)} → o ≡ tried x v none → r ≡ orElse o (tried w v none) → r ≡ shortest (x ∷ w ∷ []) v
+added-second x w v e f = added (x ∷ []) w v (last-found x v e) f
+
+-- the form of all 64 bits holds any value
+pub plain-holds : (head v : ℕ) → v < 2 ^ 64 → some (head ∷ be 8 v) ≡ tried (form head 1 8 Plain) v none
+unfolding guess value
+plain-holds head v l = let z : high 8 v ≡ 0 = omega arith in rw (z, eq-eqb v v refl, add-zero)
 
 -- ---- how long a form is
 abbrev short : List Form → Bool
@@ -105,7 +134,7 @@ all-short Date = tt
 
 -- ---- what is made of a spelling r, where o is what it spells
 module _ {r : Spelling} {o : Option (List ℕ)} (e : spelled r ≡ o) where
-  module _ (q : r ≡ spelling.Absent) where
+  module _ (q : r ≡ answer.Absent) where
     pub absent-length : 0 ≡ lengthOf o
     unfolding lengthOf
     absent-length = rw (← e, q)
@@ -114,7 +143,7 @@ module _ {r : Spelling} {o : Option (List ℕ)} (e : spelled r ≡ o) where
     unfolding reportOf outputOf
     absent-written l at = (rw (← e, q), rw (← e, q))
 
-  module _ {c k u : ℕ} (q : r ≡ spelling.Form c k u) where
+  module _ {c k u : ℕ} (q : r ≡ answer.Form c k u) where
     pub form-length : k + 1 ≡ lengthOf o
     unfolding lengthOf
     form-length = rw (← e, q, be-length, add-one)
@@ -131,7 +160,7 @@ module _ {r : Spelling} {o : Option (List ℕ)} (e : spelled r ≡ o) where
       written-not i = by-room _ (sym (pick-false _ _ i))
 
 -- a form has up to eight bytes behind its first
-pub few-more : (s : Sort) (v : ℕ) {r : Spelling} → spelled r ≡ shortest (formsOf s) v → {c k u : ℕ} → r ≡ spelling.Form c k u → Fits w64 (k + 1)
+pub few-more : (s : Sort) (v : ℕ) {r : Spelling} → spelled r ≡ shortest (formsOf s) v → {c k u : ℕ} → r ≡ answer.Form c k u → Fits w64 (k + 1)
 few-more s v e {k = k} {u = u} q =
     let n = subst (IsNumber (formsOf s) v) (sym e ∙ ap spelled q) (shortest-is (formsOf s) v) in
     record { fits = omega (arith, be-length k u, number-fact (λ m x. m ≤ 9) n (each-short (formsOf s) (all-short s))) }

@@ -18,7 +18,7 @@ use Rattle.scalar.specs.declared.numbers.Spelling.{Spelling}
 use Rattle.scalar.specs.declared.numbers.Spelling.the-variants as spelling
 use Rattle.scalar.specs.declared.numbers.NumberWritten.{NumberWritten}
 use Rattle.scalar.specs.declared.numbers.NumberWritten.the-variants.{Stored, NoRoom, NotSuch}
-use Rattle.scalar.specs.Numbers.{Form}
+use Rattle.scalar.specs.Numbers.{Form, form}
 
 -- a value read, and the bytes it takes; or a refusal's number and place
 abbrev pub told : NumberRead → Answer ℕ
@@ -58,9 +58,19 @@ abbrev pub spelled : Spelling → Option (List ℕ)
 spelled (spelling.Form c k u) = option.some (c ∷ be k u)
 spelled spelling.Absent = none
 
+-- what was found first, or else the other
+unfoldable pub orElse : Option (List ℕ) → Option (List ℕ) → Option (List ℕ)
+orElse none other = other
+orElse (option.some w) other = option.some w
+
 abbrev pub some : Option (List ℕ) → Bool
 some none = false
 some (option.some w) = true
+
+-- the forms that ints and longs share
+abbrev pub wholeForms : ℕ → ℕ → ℕ → ℕ → ℕ → ℕ → List Form
+wholeForms one codes offset two three five =
+    form one codes 0 (Offset offset) ∷ form two 16 1 (Offset 0x800) ∷ form three 8 2 (Offset 0x4_0000) ∷ form five 1 4 Signed ∷ []
 
 -- the numbers that a rule takes
 abbrev pub Takes : Rule → ℕ → Type 0

@@ -4,13 +4,13 @@ use crate::signed;
 ghost use mathlib.Core.Path.{_≡_};
 ghost use mathlib.Core.List.{[], _∷_};
 ghost use mathlib.Core.Option.{none};
-ghost use Prim.Native.Nat.{suc, _+_};
+ghost use Prim.Native.Nat.{suc, _+_, _≤_};
 ghost use lib.Dec.{leb};
 ghost use lib.ListN.{length};
 ghost use Rattle.flow.specs.Overlay.{stored};
 ghost use Rattle.wire.specs.BigEndian.{be};
 ghost use Rattle.scalar.specs.Numbers.{value as valueOf, guess as guessOf, form, formsOf, formAt, numberAt, tried, shortest};
-ghost use Rattle.scalar.specs.Answers.{Takes, Good, told, spelled, some as isSome, lengthOf, report, reportOf, outputOf};
+ghost use Rattle.scalar.specs.Answers.{Takes, Good, told, spelled, orElse, some as isSome, wholeForms, lengthOf, report, reportOf, outputOf};
 
 // A kind of single value.
 pub enum Sort {
@@ -107,7 +107,7 @@ fn int_form(b: u8) -> Begun
         },
         0x49 => Begun::Starts {
             more: 4,
-            held: w - 0x49,
+            held: 0,
             rule: Rule::Signed,
         },
         _ => Begun::NoForm,
@@ -136,12 +136,12 @@ fn long_form(b: u8) -> Begun
         },
         0x59 => Begun::Starts {
             more: 4,
-            held: w - 0x59,
+            held: 0,
             rule: Rule::Signed,
         },
         0x4c => Begun::Starts {
             more: 8,
-            held: w - 0x4c,
+            held: 0,
             rule: Rule::Plain,
         },
         _ => Begun::NoForm,
@@ -151,36 +151,35 @@ fn long_form(b: u8) -> Begun
 fn double_form(b: u8) -> Begun
     ensures { λ r. ⌜ r ≡ formAt (formsOf Sort.Double) b ⌝ }
 {
-    let w = wire::wide(b);
     match b {
         0x5b => Begun::Starts {
             more: 0,
-            held: w - 0x5b,
+            held: 0,
             rule: Rule::Exactly(0),
         },
         0x5c => Begun::Starts {
             more: 0,
-            held: w - 0x5c,
+            held: 0,
             rule: Rule::Exactly(0x3ff0_0000_0000_0000),
         },
         0x5d => Begun::Starts {
             more: 1,
-            held: w - 0x5d,
+            held: 0,
             rule: Rule::WholeByte,
         },
         0x5e => Begun::Starts {
             more: 2,
-            held: w - 0x5e,
+            held: 0,
             rule: Rule::WholePair,
         },
         0x5f => Begun::Starts {
             more: 4,
-            held: w - 0x5f,
+            held: 0,
             rule: Rule::Float,
         },
         0x44 => Begun::Starts {
             more: 8,
-            held: w - 0x44,
+            held: 0,
             rule: Rule::Plain,
         },
         _ => Begun::NoForm,
@@ -190,16 +189,15 @@ fn double_form(b: u8) -> Begun
 fn date_form(b: u8) -> Begun
     ensures { λ r. ⌜ r ≡ formAt (formsOf Sort.Date) b ⌝ }
 {
-    let w = wire::wide(b);
     match b {
         0x4b => Begun::Starts {
             more: 4,
-            held: w - 0x4b,
+            held: 0,
             rule: Rule::Minutes,
         },
         0x4a => Begun::Starts {
             more: 8,
-            held: w - 0x4a,
+            held: 0,
             rule: Rule::Plain,
         },
         _ => Begun::NoForm,
@@ -322,48 +320,50 @@ fn found(s: Spelling) -> bool
     }
 }
 
+// The form that was found; or else the one with this first byte and all 8 bytes of v.
+fn or_plain(found: Spelling, head: u8, v: u64) -> Spelling
+    ensures { λ r. ⌜ spelled r ≡ orElse (spelled found) (tried (form head 1 8 Rule.Plain) v none) ⌝ }
+{
+    match found {
+        Spelling::Form { code, more, rest } => Spelling::Form { code, more, rest },
+        Spelling::Absent => Spelling::Form {
+            code: head,
+            more: 8,
+            rest: v,
+        },
+    }
+}
+
+// The forms that ints and longs share: compact ones of one, two and three bytes, and the one of 32 bits with a sign.
+fn spell_whole(one: u8, codes: u64, zero: u64, two: u8, three: u8, five: u8, v: u64) -> Spelling
+    requires { ⌜ Good (form one codes 0 (Rule.Offset zero)) × (two ≤ 0xf0) × (three ≤ 0xf8) ⌝ }
+    ensures { λ r. ⌜ spelled r ≡ shortest (wholeForms one codes zero two three five) v ⌝ }
+{
+    let s = try_form(one, codes, 0, Rule::Offset(zero), v);
+    if found(s) {
+        return s;
+    }
+    let s = try_form(two, 16, 1, Rule::Offset(0x800), v);
+    if found(s) {
+        return s;
+    }
+    let s = try_form(three, 8, 2, Rule::Offset(0x4_0000), v);
+    if found(s) {
+        return s;
+    }
+    try_form(five, 1, 4, Rule::Signed, v)
+}
+
 fn spell_int(v: u64) -> Spelling
     ensures { λ r. ⌜ spelled r ≡ shortest (formsOf Sort.Int) v ⌝ }
 {
-    let one = try_form(0x80, 64, 0, Rule::Offset(0x10), v);
-    if found(one) {
-        return one;
-    }
-    let two = try_form(0xc0, 16, 1, Rule::Offset(0x800), v);
-    if found(two) {
-        return two;
-    }
-    let three = try_form(0xd0, 8, 2, Rule::Offset(0x4_0000), v);
-    if found(three) {
-        return three;
-    }
-    try_form(0x49, 1, 4, Rule::Signed, v)
+    spell_whole(0x80, 64, 0x10, 0xc0, 0xd0, 0x49, v)
 }
 
 fn spell_long(v: u64) -> Spelling
     ensures { λ r. ⌜ spelled r ≡ shortest (formsOf Sort.Long) v ⌝ }
 {
-    let one = try_form(0xd8, 24, 0, Rule::Offset(8), v);
-    if found(one) {
-        return one;
-    }
-    let two = try_form(0xf0, 16, 1, Rule::Offset(0x800), v);
-    if found(two) {
-        return two;
-    }
-    let three = try_form(0x38, 8, 2, Rule::Offset(0x4_0000), v);
-    if found(three) {
-        return three;
-    }
-    let five = try_form(0x59, 1, 4, Rule::Signed, v);
-    if found(five) {
-        return five;
-    }
-    Spelling::Form {
-        code: 0x4c,
-        more: 8,
-        rest: v,
-    }
+    or_plain(spell_whole(0xd8, 24, 8, 0xf0, 0x38, 0x59, v), 0x4c, v)
 }
 
 fn spell_double(v: u64) -> Spelling
@@ -385,29 +385,13 @@ fn spell_double(v: u64) -> Spelling
     if found(three) {
         return three;
     }
-    let five = try_form(0x5f, 1, 4, Rule::Float, v);
-    if found(five) {
-        return five;
-    }
-    Spelling::Form {
-        code: 0x44,
-        more: 8,
-        rest: v,
-    }
+    or_plain(try_form(0x5f, 1, 4, Rule::Float, v), 0x44, v)
 }
 
 fn spell_date(v: u64) -> Spelling
     ensures { λ r. ⌜ spelled r ≡ shortest (formsOf Sort.Date) v ⌝ }
 {
-    let five = try_form(0x4b, 1, 4, Rule::Minutes, v);
-    if found(five) {
-        return five;
-    }
-    Spelling::Form {
-        code: 0x4a,
-        more: 8,
-        rest: v,
-    }
+    or_plain(try_form(0x4b, 1, 4, Rule::Minutes, v), 0x4a, v)
 }
 
 // The shortest form of the value v of this kind.

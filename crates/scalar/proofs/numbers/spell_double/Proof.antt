@@ -1,104 +1,45 @@
--- `numbers::spell_double` meets its contract: past k of the forms, the next one is tried.
+-- Past k of the forms, the next one is tried.
 use mathlib.Core.Path.{_∙_}
-use native.Mathlib.Omega.{arith}
 use borrow.Author.Needs.{needs}
 use Rattle.scalar.specs.declared.numbers.Sort.the-variants.{Double}
 use Rattle.scalar.specs.Numbers.{formsOf}
-use Rattle.scalar.proofs.Writing.{first-found, not-found, plain-found, Past}
+use Rattle.scalar.proofs.Writing.{first-found, not-found, added-second, Past}
 use Rattle.scalar.proofs.numbers.spell_double.Statement.{statement}
 use Rattle.scalar.proofs.numbers.spell_double.Tie as tie
 
-past-1 : (c : tie.Else1) → Past Double 1 (c .before .before .before .args .v)
+past-1 : (c : tie.Else1) → Past (formsOf Double) 1 (c .before .before .before .args .v)
 unfolding formsOf
 past-1 c = not-found _ _ _ (c .before .before .try-form .ensures) (c .before .found .ensures) (c .if1 .left)
 
-past-2 : (c : tie.Else2) → Past Double 2 (c .before .before .before .before .before .before .args .v)
+past-2 : (c : tie.Else2) → Past (formsOf Double) 2 (c .before .before .before .before .before .before .args .v)
 unfolding formsOf
 past-2 c = past-1 (c .before .before .before) ∙ not-found _ _ _ (c .before .before .try-form2 .ensures) (c .before .found2 .ensures) (c .if2 .left)
 
-past-3 : (c : tie.Else3) → Past Double 3 (c .before .before .before .before .before .before .before .before .before .args .v)
+past-3 : (c : tie.Else3) → Past (formsOf Double) 3 (c .before .before .before .before .before .before .before .before .before .args .v)
 unfolding formsOf
 past-3 c = past-2 (c .before .before .before) ∙ not-found _ _ _ (c .before .before .try-form3 .ensures) (c .before .found3 .ensures) (c .if3 .left)
 
-past-4 : (c : tie.Else4) → Past Double 4 (c .before .before .before .before .before .before .before .before .before .before .before .before .args .v)
+past-4 : (c : tie.Else4) → Past (formsOf Double) 4 (c .before .before .before .before .before .before .before .before .before .before .before .before .args .v)
 unfolding formsOf
 past-4 c = past-3 (c .before .before .before) ∙ not-found _ _ _ (c .before .before .try-form4 .ensures) (c .before .found4 .ensures) (c .if4 .left)
 
-past-5 : (c : tie.Else5) → Past Double 5 (c .before .before .before .before .before .before .before .before .before .before .before .before .before .before .before .args .v)
-unfolding formsOf
-past-5 c = past-4 (c .before .before .before) ∙ not-found _ _ _ (c .before .before .try-form5 .ensures) (c .before .found5 .ensures) (c .if5 .left)
-
-try-form-requires : tie.Need-try-form-requires
-try-form-requires c κs = search needs
-
-found-requires : tie.Need-found-requires
-found-requires c κs = search needs
-
-returns : tie.Need-returns
-unfolding formsOf
-returns c = first-found _ _ _ (c .before .before .try-form .ensures) (c .before .found .ensures) (c .if1 .taken)
-
-try-form-requires-2 : tie.Need-try-form-requires-2
-try-form-requires-2 c κs = search needs
-
-found-requires-2 : tie.Need-found-requires-2
-found-requires-2 c κs = search needs
-
-returns-2 : tie.Need-returns-2
-unfolding formsOf
-returns-2 c = rw (past-1 (c .before .before .before)) (first-found _ _ _ (c .before .before .try-form2 .ensures) (c .before .found2 .ensures) (c .if2 .taken))
-
-try-form-requires-3 : tie.Need-try-form-requires-3
-try-form-requires-3 c κs = search needs
-
-found-requires-3 : tie.Need-found-requires-3
-found-requires-3 c κs = search needs
-
-returns-3 : tie.Need-returns-3
-unfolding formsOf
-returns-3 c = rw (past-2 (c .before .before .before)) (first-found _ _ _ (c .before .before .try-form3 .ensures) (c .before .found3 .ensures) (c .if3 .taken))
-
-try-form-requires-4 : tie.Need-try-form-requires-4
-try-form-requires-4 c κs = search needs
-
-found-requires-4 : tie.Need-found-requires-4
-found-requires-4 c κs = search needs
-
-returns-4 : tie.Need-returns-4
-unfolding formsOf
-returns-4 c = rw (past-3 (c .before .before .before)) (first-found _ _ _ (c .before .before .try-form4 .ensures) (c .before .found4 .ensures) (c .if4 .taken))
-
-try-form-requires-5 : tie.Need-try-form-requires-5
-try-form-requires-5 c κs = search needs
-
-found-requires-5 : tie.Need-found-requires-5
-found-requires-5 c κs = search needs
-
-returns-5 : tie.Need-returns-5
-unfolding formsOf
-returns-5 c = rw (past-4 (c .before .before .before)) (first-found _ _ _ (c .before .before .try-form5 .ensures) (c .before .found5 .ensures) (c .if5 .taken))
-
-returns-6 : tie.Need-returns-6
-unfolding formsOf
-returns-6 c = rw (past-5 c) (plain-found _ _ (omega arith))
-
 pub spell-double-spec : {M : Type 1} → statement M
+unfolding formsOf
 spell-double-spec =
     tie.close
     (tie.spec
-    try-form-requires
-    found-requires
-    returns
-    try-form-requires-2
-    found-requires-2
-    returns-2
-    try-form-requires-3
-    found-requires-3
-    returns-3
-    try-form-requires-4
-    found-requires-4
-    returns-4
-    try-form-requires-5
-    found-requires-5
-    returns-5
-    returns-6)
+    (λ c κs. search needs)
+    (λ c κs. search needs)
+    (λ c. first-found _ _ _ (c .before .before .try-form .ensures) (c .before .found .ensures) (c .if1 .taken))
+    (λ c κs. search needs)
+    (λ c κs. search needs)
+    (λ c. rw (past-1 (c .before .before .before)) (first-found _ _ _ (c .before .before .try-form2 .ensures) (c .before .found2 .ensures) (c .if2 .taken)))
+    (λ c κs. search needs)
+    (λ c κs. search needs)
+    (λ c. rw (past-2 (c .before .before .before)) (first-found _ _ _ (c .before .before .try-form3 .ensures) (c .before .found3 .ensures) (c .if3 .taken)))
+    (λ c κs. search needs)
+    (λ c κs. search needs)
+    (λ c. rw (past-3 (c .before .before .before)) (first-found _ _ _ (c .before .before .try-form4 .ensures) (c .before .found4 .ensures) (c .if4 .taken)))
+    (λ c κs. search needs)
+    (λ c κs. search needs)
+    (λ c. rw (past-4 (c .before .before)) (added-second _ _ _ (c .before .try-form5 .ensures) (c .or-plain .ensures))))
