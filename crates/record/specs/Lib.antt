@@ -18,4 +18,11 @@ pub mod Tables
 pub mod Writing
 pub mod TableLaws
 pub mod Demands
+pub mod Placed
+pub mod Runs
+pub mod Parts
+pub mod Values
+pub mod Definitions
+pub mod Whole
+pub mod Leads
 pub mod Samples

@@ -1,0 +1,177 @@
+-- A reader at a place of the whole message: the end is a place, the entries are rows. One law for each combinator.
+use mathlib.Core.Path.{_≡_, refl, sym, ap, ap₂, _∙_}
+use mathlib.Core.Bool.{Bool, true, false, cond}
+use mathlib.Core.List.{List, [], _∷_, _++_, append-assoc}
+use Prim.Native.Nat.{ℕ, suc, _+_, _-_, _≤_, _<_}
+use native.Mathlib.Omega.{arith}
+use native.Mathlib.Nat.{add-zero, add-assoc}
+use lib.ListN.{length, drop, getD, length-drop, drop-of-length-le}
+use lib.Seq.{drop-cons, drop-drop}
+use Rattle.flow.specs.Tests.{pick}
+use Rattle.flow.specs.Flow.{Entry, Outcome, Done, Fault, One, then, before, stepped, give, fail, byteAt, changing, asking, renamed, mapped, top, headed, bind}
+use Rattle.record.specs.Items.{Item, Known}
+use Rattle.record.specs.Reading.{Reader, Opening}
+use Rattle.record.specs.Rows.{Row, itemRow, rows}
+
+-- Got: the place of the end, the result, the rows, what is known then. Lost: a refusal's number and place
+pub data Placed (A : Type 0) : Type 0 where
+  Got : ℕ → A → List Row → Known → Placed A
+  Lost : ℕ → ℕ → Placed A
+
+module _ {A : Type 0} where
+  abbrev pub placed : ℕ → Outcome Known Item A → Placed A
+  placed p (Done n a es c) = Got (p + n) a (rows es) c
+  placed p (Fault x o) = Lost x o
+
+  -- f at the place p of the message m, where c is known
+  unfoldable pub run : Reader A → Known → List ℕ → ℕ → Placed A
+  run f c m p = placed p (f c p (drop p m))
+
+  -- these rows before the others
+  abbrev pub front : List Row → Placed A → Placed A
+  front rs (Got e a qs c) = Got e a (rs ++ qs) c
+  front rs (Lost x o) = Lost x o
+
+module _ {A B : Type 0} where
+  -- what follows, with the rows so far in front
+  abbrev pub on : Placed A → (ℕ → A → Known → Placed B) → Placed B
+  on (Got e a rs c) k = front rs (k e a c)
+  on (Lost x o) k = Lost x o
+
+  -- the result through a function
+  abbrev pub through : (A → B) → Placed A → Placed B
+  through φ (Got e a rs c) = Got e (φ a) rs c
+  through φ (Lost x o) = Lost x o
+
+-- the row of an item before the others, by the result
+abbrev pub topped : {A : Type 0} → ℕ → (A → Item) → Placed A → Placed One
+topped p x (Got e a rs c) = Got e tt (itemRow p (x a) ∷ rs) c
+topped p x (Lost y o) = Lost y o
+
+-- ---- rows, and what follows
+rows-append : (es fs : List (Entry Item)) → rows (es ++ fs) ≡ rows es ++ rows fs
+rows-append [] fs = refl
+rows-append (e ∷ es) fs = ap {B = List Row} (λ l. itemRow (e .place) (e .item) ∷ l) (rows-append es fs)
+
+module _ {A : Type 0} where
+  pub front-none : (o : Placed A) → front [] o ≡ o
+  front-none (Got e a rs c) = refl
+  front-none (Lost x o) = refl
+
+  pub front-front : (qs rs : List Row) (o : Placed A) → front qs (front rs o) ≡ front (qs ++ rs) o
+  front-front qs rs (Got e a ts c) = ap (λ (l : List Row). Got e a l c) (sym (append-assoc qs rs ts))
+  front-front qs rs (Lost x o) = refl
+
+module _ {A B : Type 0} where
+  pub front-on : (rs : List Row) (o : Placed A) (k : ℕ → A → Known → Placed B) → front rs (on o k) ≡ on (front rs o) k
+  front-on rs (Got e a qs c) k = front-front rs qs (k e a c)
+  front-on rs (Lost x o) k = refl
+
+  pub on-same : (o : Placed A) (k h : ℕ → A → Known → Placed B) → ((e : ℕ) (a : A) (c : Known) → k e a c ≡ h e a c) → on o k ≡ on o h
+  on-same (Got e a rs c) k h s = ap (λ (o : Placed B). front rs o) (s e a c)
+  on-same (Lost x o) k h s = refl
+
+  pub topped-through : (p : ℕ) (x : B → Item) (φ : A → B) (o : Placed A) → topped p x (through φ o) ≡ topped p (λ a. x (φ a)) o
+  topped-through p x φ (Got e a rs c) = refl
+  topped-through p x φ (Lost y o) = refl
+
+module _ {A B C : Type 0} where
+  pub through-through : (φ : A → B) (ψ : B → C) (o : Placed A) → through ψ (through φ o) ≡ through (λ a. ψ (φ a)) o
+  through-through φ ψ (Got e a rs c) = refl
+  through-through φ ψ (Lost x o) = refl
+
+  pub through-on : (ψ : B → C) (o : Placed A) (k : ℕ → A → Known → Placed B) → through ψ (on o k) ≡ on o (λ e a c. through ψ (k e a c))
+  through-on ψ (Got e a rs c) k = go (k e a c)
+    where
+      go : (o : Placed B) → through ψ (front rs o) ≡ front rs (through ψ o)
+      go (Got e b qs c) = refl
+      go (Lost x o) = refl
+  through-on ψ (Lost x o) k = refl
+
+  pub on-on : (o : Placed A) (k : ℕ → A → Known → Placed B) (h : ℕ → B → Known → Placed C) → on (on o k) h ≡ on o (λ e a c. on (k e a c) h)
+  on-on (Got e a rs c) k h = sym (front-on rs (k e a c) h)
+  on-on (Lost x o) k h = refl
+
+-- ---- one law for each combinator
+module _ {A : Type 0} where
+  placed-before : (p n : ℕ) (es : List (Entry Item)) (o : Outcome Known Item A) → placed p (before n es o) ≡ front (rows es) (placed (p + n) o)
+  placed-before p n es (Done k a fs c) = ap₂ (λ (e : ℕ) (l : List Row). Got e a l c) (sym (add-assoc p n k)) (rows-append es fs)
+  placed-before p n es (Fault x o) = refl
+
+  placed-stepped : (p : ℕ) (o : Outcome Known Item A) → placed p (stepped o) ≡ placed (p + 1) o
+  placed-stepped p (Done n a es c) = ap (λ (e : ℕ). Got e a (rows es) c) (omega arith)
+  placed-stepped p (Fault x o) = refl
+
+  pub run-give : (a : A) (c : Known) (m : List ℕ) (p : ℕ) → run (give a) c m p ≡ Got p a [] c
+  unfolding run
+  run-give a c m p = ap (λ (e : ℕ). Got e a [] c) (add-zero p)
+
+  pub run-fail : (x o : ℕ) (c : Known) (m : List ℕ) (p : ℕ) → run {A = A} (fail x o) c m p ≡ Lost x o
+  unfolding run
+  run-fail x o c m p = refl
+
+  module _ (g : Opening A) (c : Known) (m : List ℕ) (p : ℕ) where
+    pub run-byte : p < length m → run (byteAt g) c m p ≡ run (g p (getD m p 0)) c m (p + 1)
+    unfolding run
+    run-byte l =
+        let e : suc p ≡ p + 1 = omega arith in
+        ap (λ (s : List ℕ). placed p (byteAt g c p s)) (drop-cons m p 0 l ∙ ap {B = List ℕ} (λ (k : ℕ). getD m p 0 ∷ drop k m) e)
+        ∙ placed-stepped p (g p (getD m p 0) c (p + 1) (drop (p + 1) m))
+
+    pub run-end : length m ≤ p → run (byteAt g) c m p ≡ Lost 2 p
+    unfolding run
+    run-end l = ap (λ (s : List ℕ). placed p (byteAt g c p s)) (drop-of-length-le m l)
+
+  pub run-changing : (φ : Known → Known) (f : Reader A) (c : Known) (m : List ℕ) (p : ℕ) → run (changing φ f) c m p ≡ run f (φ c) m p
+  unfolding run
+  run-changing φ f c m p = refl
+
+  pub run-asking : (g : Known → Reader A) (c : Known) (m : List ℕ) (p : ℕ) → run (asking g) c m p ≡ run (g c) c m p
+  unfolding run
+  run-asking g c m p = refl
+
+  pub run-test : (t : Bool) (f g : Reader A) (c : Known) (m : List ℕ) (p : ℕ) → run (cond t f g) c m p ≡ pick t (run f c m p) (run g c m p)
+  unfolding pick
+  run-test true f g c m p = refl
+  run-test false f g c m p = refl
+
+  -- a bound of the recursion that is what is left of the message
+  pub run-bounded : (f : ℕ → Reader A) (c : Known) (m : List ℕ) (p : ℕ) → run (λ c at s. f (length s) c at s) c m p ≡ run (f (length m - p)) c m p
+  unfolding run
+  run-bounded f c m p = ap (λ (k : ℕ). placed p (f k c p (drop p m))) (length-drop p m)
+
+  pub run-headed : (q : ℕ) (x : A → Item) (f : Reader A) (c : Known) (m : List ℕ) (p : ℕ) → run (headed q x f) c m p ≡ topped q x (run f c m p)
+  unfolding run
+  run-headed q x f c m p = go (f c p (drop p m))
+    where
+      go : (o : Outcome Known Item A) → placed p (top q x o) ≡ topped q x (placed p o)
+      go (Done n a es c) = refl
+      go (Fault y o) = refl
+
+module _ {A B : Type 0} where
+  pub run-mapped : (φ : A → B) (f : Reader A) (c : Known) (m : List ℕ) (p : ℕ) → run (mapped φ f) c m p ≡ through φ (run f c m p)
+  unfolding run
+  run-mapped φ f c m p = go (f c p (drop p m))
+    where
+      go : (o : Outcome Known Item A) → placed p (renamed φ o) ≡ through φ (placed p o)
+      go (Done n a es c) = refl
+      go (Fault x o) = refl
+
+  pub run-bind : (f : Reader A) (g : A → Reader B) (c : Known) (m : List ℕ) (p : ℕ) → run (bind f g) c m p ≡ on (run f c m p) (λ e a c′. run (g a) c′ m e)
+  unfolding run
+  run-bind f g c m p = go (f c p (drop p m))
+    where
+      go : (o : Outcome Known Item A) → placed p (then o (λ n a es c′. before n es (g a c′ (p + n) (drop n (drop p m))))) ≡ on (placed p o) (λ e a c′. placed e (g a c′ e (drop e m)))
+      go (Done n a es c′) =
+          placed-before p n es (g a c′ (p + n) (drop n (drop p m)))
+          ∙ ap (λ (s : List ℕ). front (rows es) (placed (p + n) (g a c′ (p + n) s))) (drop-drop n p m)
+      go (Fault x o) = refl
+
+  -- what follows starts no earlier
+  pub run-same : (f : Reader A) (c : Known) (m : List ℕ) (p : ℕ) (k h : ℕ → A → Known → Placed B) → ((e : ℕ) (a : A) (c′ : Known) → p ≤ e → k e a c′ ≡ h e a c′) → on (run f c m p) k ≡ on (run f c m p) h
+  unfolding run
+  run-same f c m p k h s = go (f c p (drop p m))
+    where
+      go : (o : Outcome Known Item A) → on (placed p o) k ≡ on (placed p o) h
+      go (Done n a es c′) = ap (λ (o : Placed B). front (rows es) o) (s (p + n) a c′ (omega arith))
+      go (Fault x o) = refl
