@@ -3,3 +3,4 @@ pub mod Reading
 pub mod Writing
 pub mod Rows
 pub mod Strings
+pub mod Laying

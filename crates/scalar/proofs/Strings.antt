@@ -1,12 +1,13 @@
 -- What the contracts on texts and byte strings ask at each way out of the code.
 use mathlib.Core.Path.{_≡_, refl, sym, _∙_, ap, subst}
 use mathlib.Core.Bool.{Bool, true, false}
-use mathlib.Core.List.{List, [], _∷_, map}
+use mathlib.Core.List.{List, [], _∷_, _++_, map, append-assoc}
 use Prim.Native.Nat.{ℕ, zero, suc, _+_, _-_, _%_, _^_, _≤_, _<_}
 use native.Mathlib.Nat.{mod-eq-of-lt}
 use native.Mathlib.Omega.{arith}
 use lib.Dec.{T}
-use lib.ListN.{length, take, drop, getD, length-take, length-drop}
+use lib.ListN.{length, take, drop, getD, length-append, length-take, length-drop}
+use lib.Seq.{length-take-le}
 use mir.Syntax.{w8, w64}
 use mir.Val.{Fits}
 use Rattle.flow.specs.Tests.{pick, Bytes, bytes-take, bytes-drop, bytes-all}
@@ -30,9 +31,10 @@ use Rattle.scalar.specs.declared.texts.HeadRead.the-variants as head
 use Rattle.scalar.specs.declared.texts.ChunkRead.{ChunkRead}
 use Rattle.scalar.specs.declared.texts.ChunkRead.the-variants as chunk
 use Rattle.scalar.specs.Numbers.{Form, formAt, inside}
-use Rattle.scalar.specs.Texts.{partHead, lastHeads, charLead, continued, characters, body}
-use Rattle.scalar.specs.TextAnswers.{Sizes, sized, measuredAt, extentAt, toldExtent, shifted, CharSays, CharMet, lastForm, headForm, added, ended, HeadSays, HeadMet, ChunkSays, ChunkMet}
-use Rattle.scalar.specs.TextAt.{Opens, basic, supplementary, opens-units, continued-size, characters-ends, characters-other, characters-half, characters-fault, characters-next, octets-done, octets-fault, body-size, head-small, measured-ends, measured-none, measured-cut, measured-there}
+use Rattle.scalar.specs.Texts.{partHead, lastHeads, charLead, units, continued, characters, body, stringAt}
+use Rattle.scalar.specs.TextUnits.{units-append}
+use Rattle.scalar.specs.TextAnswers.{sized, measuredAt, extentAt, toldExtent, shifted, CharSays, CharMet, lastForm, headForm, prefixed, chunked, HeadSays, HeadMet, ChunkSays, ChunkMet}
+use Rattle.scalar.specs.TextAt.{Opens, basic, supplementary, opens-units, continued-size, characters-ends, characters-other, characters-half, characters-fault, characters-next, octets-done, octets-fault, body-there, body-fault, head-small, string-ends, string-none, string-cut, string-there, measured-as}
 use Rattle.scalar.proofs.Rows.{Row, row, chosen, nth, apart, Outside, chosen-at, chosen-none}
 
 -- ---- a loop over what is read: what is left reads as the whole does, but for the bytes so far
@@ -151,17 +153,18 @@ module _ (k : Kind) (n : ℕ) (m : List ℕ) (p : ℕ) where
   pub content-cut : k ≡ Binary → p ≤ length m → length m - p < n → Fault 2 (length m) ≡ extentAt (body k n) m p
   content-cut e l h = rw e (sym (octets-fault n m p l h))
 
+-- ---- a chunk's head
 module _ (k : Kind) (m : List ℕ) (p : ℕ) where
   pub head-ends : length m ≤ p → HeadMet k m p (head.Refused 2 (length m))
-  head-ends l = record { says = measured-ends k m p l }
+  head-ends l = record { says = string-ends k m p l }
 
   module _ (l : p < length m) (x : HeadForm) (is : x ≡ headForm k (getD m p 0)) where
     pub head-other : x ≡ NoHead → HeadMet k m p (head.Refused 3 p)
-    head-other e = record { says = measured-none k m p l (sym is ∙ e) }
+    head-other e = record { says = string-none k m p l (sym is ∙ e) }
 
     module _ (j u : ℕ) (a : Bool) (e : x ≡ Starts j u a) where
       pub head-cut : length m - p ≤ j → HeadMet k m p (head.Refused 2 (length m))
-      head-cut h = record { says = measured-cut k m p l j u a (sym is ∙ e) h }
+      head-cut h = record { says = string-cut k m p l j u a (sym is ∙ e) h }
 
       -- n: the number that the head holds, in 64 bits
       module _ (bytes : (i : ℕ) → Fits w8 (getD m i 0)) (h : j < length m - p) (n : ℕ) (at : n ≡ joined u (take j (drop (p + 1) m)) % 2 ^ 64) where
@@ -178,7 +181,7 @@ module _ (k : Kind) (m : List ℕ) (p : ℕ) where
             go (suc (suc (suc j))) l w = absurd (omega arith)
 
         pub head-there : HeadMet k m p (head.Head (j + 1) n a)
-        head-there = record { says = (measured-there k m p l j u a (sym is ∙ e) h n (at ∙ mod-eq-of-lt fits), omega arith, omega arith) }
+        head-there = record { says = (string-there k m p l j u a (sym is ∙ e) h n (at ∙ mod-eq-of-lt fits), omega arith, omega arith) }
 
 pub head-says : {k : Kind} {m : List ℕ} {p : ℕ} {x y : HeadRead} → HeadMet k m p x → x ≡ y → HeadSays k m p y
 head-says {k} {m} {p} t e = subst (HeadSays k m p) e (t .says)
@@ -190,63 +193,74 @@ module _ (k : Kind) (m : List ℕ) (p : ℕ) (x : HeadRead) (t : HeadMet k m p x
 
   -- r: what is read of the content
   module _ (h u : ℕ) (a : Bool) (e : x ≡ head.Head h u a) (r : Extent) (s : toldExtent r ≡ extentAt (body k u) m (p + h)) where
-    measured : (z : Extent) → r ≡ z → measuredAt k m p ≡ ended k m p h u a (toldExtent z)
-    measured z d = head-says t e .0 ∙ ap (ended k m p h u a) (sym s ∙ ap toldExtent d)
-
     pub chunk-cut : (y o : ℕ) → r ≡ extent.Refused y o → ChunkMet k m p (chunk.Refused y o)
-    chunk-cut y o d = record { says = measured (extent.Refused y o) d ∙ go a }
+    chunk-cut y o d = record { says = head-says t e .0 ∙ ap (chunked k m p h a) (body-fault k u m (p + h) y o (ap toldExtent (sym d) ∙ s)) ∙ go a }
       where
-        go : (a : Bool) → ended k m p h u a (Fault y o) ≡ Fault y o
+        go : (a : Bool) → chunked k m p h a (Fault y o) ≡ Fault y o
         go true = refl
         go false = refl
 
-    pub chunk-there : (n : ℕ) → r ≡ extent.Takes n → ChunkMet k m p (chunk.Chunk h n u a)
-    chunk-there n d =
+    pub chunk-there : ((i : ℕ) → Fits w8 (getD m i 0)) → (n : ℕ) → r ≡ extent.Takes n → ChunkMet k m p (chunk.Chunk h n u a)
+    chunk-there bytes n d =
         let w = head-says t e in
-        let z = body-size k u m (p + h) n (w .2) (ap toldExtent (sym d) ∙ s) in
-        record { says = (measured (extent.Takes n) d, w .1, omega (arith, z .0), z .1) }
+        let z = body-there k u m (p + h) (bytes-all m (λ i. bytes i .fits)) n (w .2) (ap toldExtent (sym d) ∙ s) in
+        record { says = (w .0 ∙ ap (chunked k m p h a) (z .0), w .1, omega (arith, z .1), z .2, z .3) }
 
 pub chunk-says : {k : Kind} {m : List ℕ} {p : ℕ} {x y : ChunkRead} → ChunkMet k m p x → x ≡ y → ChunkSays k m p y
 chunk-says {k} {m} {p} t e = subst (ChunkSays k m p) e (t .says)
 
--- ---- the loop over the chunks: what is left reads as the whole does, but for the units, the content and the bytes so far
+-- ---- the loop over the chunks: what is left reads as the whole does, but for the content and the bytes so far
 pub record Joining (k : Kind) (m : List ℕ) (at here total bytes : ℕ) : Type 0 where
-  pub says : added total bytes (here - at) (measuredAt k m here) ≡ measuredAt k m at
+  pub front : List ℕ
+  pub says : prefixed (here - at) front (stringAt k m here) ≡ stringAt k m at
+  pub units-are : units k front ≡ total
+  pub bytes-are : length front ≡ bytes
   pub few : total ≤ bytes
   pub onward : at + bytes ≤ here
   pub inside : here ≤ length m
 
-added-none : (r : Answer Sizes) → added 0 0 0 r ≡ r
-added-none (Done n s es c) = let e : 0 + n ≡ n = omega arith in let f : 0 + s .units ≡ s .units = omega arith in let g : 0 + s .bytes ≡ s .bytes = omega arith in rw (e, f, g) refl
-added-none (Fault x o) = refl
+prefixed-none : (r : Answer (List ℕ)) → prefixed 0 [] r ≡ r
+prefixed-none (Done n cs es c) = let e : 0 + n ≡ n = omega arith in rw e refl
+prefixed-none (Fault x o) = refl
 
-added-twice : (u b n v d i : ℕ) (r : Answer Sizes) → added u b n (added v d i r) ≡ added (u + v) (b + d) (n + i) r
-added-twice u b n v d i (Done j s es c) =
-    let e : n + (i + j) ≡ n + i + j = omega arith in
-    let f : u + (v + s .units) ≡ u + v + s .units = omega arith in
-    let g : b + (d + s .bytes) ≡ b + d + s .bytes = omega arith in
-    rw (e, f, g) refl
-added-twice u b n v d i (Fault x o) = refl
+prefixed-twice : (i j : ℕ) (bs cs : List ℕ) (r : Answer (List ℕ)) → prefixed i bs (prefixed j cs r) ≡ prefixed (i + j) (bs ++ cs) r
+prefixed-twice i j bs cs (Done n ds es c) = let e : i + (j + n) ≡ i + j + n = omega arith in rw (e, append-assoc bs cs ds) refl
+prefixed-twice i j bs cs (Fault x o) = refl
 
 pub joining-start : (k : Kind) (m : List ℕ) (at : ℕ) → at < length m → Joining k m at at 0 0
-joining-start k m at l = let e : at - at ≡ 0 = omega arith in record { says = rw e (added-none (measuredAt k m at)); few = omega arith; onward = omega arith; inside = omega arith }
+joining-start k m at l = let e : at - at ≡ 0 = omega arith in
+    record { front = []; says = rw e (prefixed-none (stringAt k m at)); units-are = refl; bytes-are = refl; few = omega arith; onward = omega arith; inside = omega arith }
 
 module _ {k : Kind} {m : List ℕ} {at here total bytes : ℕ} (R : Joining k m at here total bytes) {x : ChunkRead} (t : ChunkMet k m here x) where
   pub joining-fault : (y o : ℕ) → x ≡ chunk.Refused y o → Fault y o ≡ measuredAt k m at
-  joining-fault y o e = rw (chunk-says t e) at (R .says)
+  joining-fault y o e = sym (measured-as k m at (rw (chunk-says t e) at (sym (R .says))))
 
   module _ (h n u : ℕ) (a : Bool) (e : x ≡ chunk.Chunk h n u a) where
+    abbrev joint : List ℕ
+    joint = R .front ++ take n (drop (here + h) m)
+
+    joint-units : units k joint ≡ total + u
+    joint-units = omega (arith, units-append k (R .front) (take n (drop (here + h) m)), R .units-are, chunk-says t e .4)
+
+    joint-length : length joint ≡ bytes + n
+    joint-length =
+        let s = chunk-says t e in
+        omega (arith, length-append (R .front) (take n (drop (here + h) m)), R .bytes-are, length-take-le n (drop (here + h) m) (omega (arith, length-drop (here + h) m, s .2)))
+
+    size : here + (h + n) - at ≡ here - at + (h + n)
+    size = omega (arith, R .onward)
+
     pub joining-last : a ≡ true → Done (here + (h + n) - at) (sized (total + u) (bytes + n)) [] tt ≡ measuredAt k m at
-    joining-last d =
-        let f : here + (h + n) - at ≡ here - at + (h + n) = omega (arith, R .onward) in
-        rw f (rw (chunk-says t e .0, d) at (R .says))
+    joining-last d = rw (size, ← joint-units, ← joint-length) (sym (measured-as k m at (rw (chunk-says t e .0, d) at (sym (R .says)))))
 
     pub joining-more : a ≡ false → Joining k m at (here + (h + n)) (total + u) (bytes + n)
     joining-more d =
         let s = chunk-says t e in
-        let f : here + (h + n) - at ≡ here - at + (h + n) = omega (arith, R .onward) in
         record {
-          says = rw f (sym (added-twice total bytes (here - at) u n (h + n) (measuredAt k m (here + (h + n)))) ∙ rw (s .0, d) at (R .says));
+          front = joint;
+          says = rw size (sym (prefixed-twice (here - at) (h + n) (R .front) (take n (drop (here + h) m)) (stringAt k m (here + (h + n)))) ∙ rw (s .0, d) at (R .says));
+          units-are = joint-units;
+          bytes-are = joint-length;
           few = omega (arith, R .few, s .3);
           onward = omega (arith, R .onward);
           inside = s .2;

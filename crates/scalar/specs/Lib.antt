@@ -5,6 +5,7 @@ pub mod Texts
 pub mod Scalars
 pub mod Answers
 pub mod TextAnswers
+pub mod TextWriting
 pub mod Signed
 pub mod DoubleLaws
 pub mod Ieee
@@ -19,4 +20,7 @@ pub mod TextLaws
 pub mod TextShort
 pub mod TextTheorems
 pub mod TextAt
+pub mod TextHeads
+pub mod TextCursor
+pub mod TextLaying
 pub mod ScalarLaws

@@ -1,9 +1,9 @@
 -- What the answers of the code on texts and byte strings say.
 use mathlib.Core.Path.{_≡_}
 use mathlib.Core.Bool.{Bool, true, false}
-use mathlib.Core.List.{List, []}
+use mathlib.Core.List.{List, [], _++_}
 use Prim.Native.Nat.{ℕ, _+_, _-_, _≤_, _<_}
-use lib.ListN.{length, drop}
+use lib.ListN.{length, take, drop}
 use Rattle.flow.specs.Flow.{Read, One, Answer, Done, Fault, renamed}
 use Rattle.flow.specs.Tests.{pick}
 use Rattle.scalar.specs.declared.numbers.Begun.{Begun}
@@ -73,27 +73,29 @@ lastForm begun.NoForm = NoHead
 unfoldable pub headForm : Kind → ℕ → HeadForm
 headForm k b = pick (inside (partHead k) b) (Starts 2 0 false) (lastForm (formAt (lastHeads k) b))
 
--- units, content and bytes in all before it
-abbrev pub added : ℕ → ℕ → ℕ → Answer Sizes → Answer Sizes
-added u b n (Done m s es c) = Done (n + m) (sized (u + s .units) (b + s .bytes)) es c
-added u b n (Fault x o) = Fault x o
+-- so many bytes before it, of which cs are content
+abbrev pub prefixed : ℕ → List ℕ → Answer (List ℕ) → Answer (List ℕ)
+prefixed n cs (Done m ds es c) = Done (n + m) (cs ++ ds) es c
+prefixed n cs (Fault x o) = Fault x o
 
--- what a chunk whose content is of so many units says, where the extent of that content is known
-abbrev pub ended : Kind → List ℕ → ℕ → ℕ → ℕ → Bool → Answer ℕ → Answer Sizes
-ended k m p h u true (Done n a es c) = Done (h + n) (sized u n) [] tt
-ended k m p h u false (Done n a es c) = added u n (h + n) (measuredAt k m (p + (h + n)))
-ended k m p h u l (Fault x o) = Fault x o
+-- a chunk at p, by the bytes of its head and what is read of its content: the last, or one before others
+abbrev pub chunked : Kind → List ℕ → ℕ → ℕ → Bool → Answer (List ℕ) → Answer (List ℕ)
+chunked k m p h true (Done n cs es c) = Done (h + n) cs [] tt
+chunked k m p h false (Done n cs es c) = prefixed (h + n) cs (stringAt k m (p + (h + n)))
+chunked k m p h l (Fault x o) = Fault x o
 
 abbrev pub HeadSays : Kind → List ℕ → ℕ → HeadRead → Type 0
-HeadSays k m p (head.Head h u l) = (measuredAt k m p ≡ ended k m p h u l (extentAt (body k u) m (p + h))) × (0 < h) × (p + h ≤ length m)
-HeadSays k m p (head.Refused x o) = measuredAt k m p ≡ Fault x o
+HeadSays k m p (head.Head h u l) = (stringAt k m p ≡ chunked k m p h l (body k u tt (p + h) (drop (p + h) m))) × (0 < h) × (p + h ≤ length m)
+HeadSays k m p (head.Refused x o) = stringAt k m p ≡ Fault x o
 
 pub record HeadMet (k : Kind) (m : List ℕ) (p : ℕ) (r : HeadRead) : Type 0 where
   pub says : HeadSays k m p r
 
+-- its content is the n bytes behind the head
 abbrev pub ChunkSays : Kind → List ℕ → ℕ → ChunkRead → Type 0
-ChunkSays k m p (chunk.Chunk h n u l) = (measuredAt k m p ≡ ended k m p h u l (Done n n [] tt)) × (0 < h) × (p + (h + n) ≤ length m) × (u ≤ n)
-ChunkSays k m p (chunk.Refused x o) = measuredAt k m p ≡ Fault x o
+ChunkSays k m p (chunk.Chunk h n u l) =
+    (stringAt k m p ≡ chunked k m p h l (Done n (take n (drop (p + h) m)) [] tt)) × (0 < h) × (p + (h + n) ≤ length m) × (u ≤ n) × (units k (take n (drop (p + h) m)) ≡ u)
+ChunkSays k m p (chunk.Refused x o) = stringAt k m p ≡ Fault x o
 
 pub record ChunkMet (k : Kind) (m : List ℕ) (p : ℕ) (r : ChunkRead) : Type 0 where
   pub says : ChunkSays k m p r

@@ -9,8 +9,9 @@ use native.Mathlib.Numerals.{add-one}
 use native.Mathlib.Omega.{arith}
 use lib.ListN.{length, take, drop, getD, length-append, length-take, length-drop, drop-of-length-le}
 use lib.Seq.{drop-cons, drop-drop}
-use Rattle.flow.specs.Tests.{by-test, split, pick, pick-either, within, within-yes, within-is}
+use Rattle.flow.specs.Tests.{by-test, split, pick, pick-either, within, within-yes, within-is, Bytes, bytes-drop}
 use Rattle.flow.specs.Flow.{Entry, Read, From, One, Done, Fault, Answer, then, before, stepped, renamed, fail, byteAt, mapped, bind}
+use Rattle.flow.specs.Laws.{Parsed, quiet}
 use Rattle.wire.specs.BigEndian.{joined}
 use Rattle.scalar.specs.declared.numbers.Rule.the-variants.{Plain}
 use Rattle.scalar.specs.declared.numbers.Begun.{Begun}
@@ -25,8 +26,9 @@ use Rattle.scalar.specs.Numbers.{value, Form, formAt, inside, bytesOf, n
 use Rattle.scalar.specs.NumberLaws.{form-here}
 use Rattle.scalar.specs.NumberAt.{bytes-there, bytes-cut}
 use Rattle.scalar.specs.Texts.{partHead, lastHeads, charLead, units, continued, character, characters, octets, body, chunk, chunks, stringFrom, stringAt, Continued, no-more, follows, Char, one-unit, two-units, Body, empty, with-char}
-use Rattle.scalar.specs.TextUnits.{units-append, body-units}
-use Rattle.scalar.specs.TextAnswers.{sizes, measuredAt, extentAt, shifted, lastForm, headForm, added, ended}
+use Rattle.scalar.specs.TextUnits.{body-units}
+use Rattle.scalar.specs.TextLaws.{body-read, Whole}
+use Rattle.scalar.specs.TextAnswers.{sizes, measuredAt, extentAt, shifted, lastForm, headForm, prefixed, chunked}
 
 -- ---- what is read: the bytes consumed are the content, of which P holds, and there are no items
 abbrev Takes : (List ℕ → Type 0) → List ℕ → Answer (List ℕ) → Type 0
@@ -292,9 +294,29 @@ module _ (n : ℕ) (m : List ℕ) (p : ℕ) (l : p ≤ length m) where
   pub octets-fault : length m - p < n → extentAt (octets n) m p ≡ Fault 2 (length m)
   octets-fault h = rw (octets-cut n p (drop p m) (omega (arith, length-drop p m))) (ap (λ (o : ℕ). Fault 2 o) (omega (arith, length-drop p m)))
 
--- a content lies in the message, and has no more units than bytes
-pub body-size : (k : Kind) (n : ℕ) (m : List ℕ) (p j : ℕ) → p ≤ length m → Done j j [] tt ≡ extentAt (body k n) m p → (p + j ≤ length m) × (n ≤ j)
-body-size k n m p j l e = let t = extent-takes (Counts k n) (body k n) m p j (body-takes k n) l e in (t .0, omega (arith, t .2, t .3 .1))
+-- a content of which the extent is known: the bytes there, no fewer than its units; or the refusal
+module _ (k : Kind) (n : ℕ) (m : List ℕ) (p : ℕ) where
+  pub body-there : Bytes m → (j : ℕ) → p ≤ length m → Done j j [] tt ≡ extentAt (body k n) m p
+      → (_≡_ {A = Answer (List ℕ)} (body k n tt p (drop p m)) (Done j (take j (drop p m)) [] tt)) × (p + j ≤ length m) × (n ≤ j) × (units k (take j (drop p m)) ≡ n)
+  body-there b j l = go (body k n tt p (drop p m)) (body-takes k n p (drop p m)) (body-read One k n (tt {0}) p (drop p m) (bytes-drop p m b))
+    where
+      consumed : {w cs : List ℕ} {is : List One} {c : One} → Whole One k n (tt {0}) w cs is c → cs ≡ w
+      consumed (quiet x) = sym (x .0)
+
+      go : (r : Answer (List ℕ)) → Takes (Counts k n) (drop p m) r → Parsed {I = One} (Whole One k n (tt {0})) (drop p m) r → Done j j [] tt ≡ renamed length r
+          → (r ≡ Done j (take j (drop p m)) [] tt) × (p + j ≤ length m) × (n ≤ j) × (units k (take j (drop p m)) ≡ n)
+      go (Done i cs es c) t q e =
+          let d : i ≡ j = cc in
+          let f : cs ≡ take j (drop p m) = consumed (q .1) ∙ ap (λ (z : ℕ). take z (drop p m)) d in
+          (rw (d, f, t .2) refl, omega (arith, t .0, length-drop p m), omega (arith, t .1, t .3 .1), rw f at (t .3 .0))
+      go (Fault x o) t q e = apart e
+
+  pub body-fault : (x o : ℕ) → Fault x o ≡ extentAt (body k n) m p → _≡_ {A = Answer (List ℕ)} (body k n tt p (drop p m)) (Fault x o)
+  body-fault x o = go (body k n tt p (drop p m))
+    where
+      go : (r : Answer (List ℕ)) → Fault x o ≡ renamed length r → r ≡ Fault x o
+      go (Done i cs es c) e = apart (sym e)
+      go (Fault y q) e = cc
 
 -- ---- chunks: a bound of the recursion that is no less than the bytes left does not matter
 -- f and g read the same where no more than n bytes are left
@@ -339,10 +361,10 @@ chunks-same k (suc i) zero at (b ∷ s) l h = absurd (omega arith)
 chunks-same k (suc i) (suc j) at (b ∷ s) l h =
     ap stepped (chunk-same k (length s) (chunks k i) (chunks k j) (λ at t r. chunks-same k i j at t (omega arith) (omega arith)) at b (at + 1) s (omega arith))
 
-measured-chunks : (k : Kind) (m : List ℕ) (p j : ℕ) → p ≤ length m → length m - p ≤ j → measuredAt k m p ≡ renamed (sizes k) (chunks k j tt p (drop p m))
-unfolding measuredAt stringAt stringFrom
-measured-chunks k m p j l h =
-    rw (min-eq-left {n = p} {m = length m} l) (ap (renamed (sizes k)) (as-chunks p (drop p m) ∙ chunks-same k (length (drop p m)) j p (drop p m) (omega arith) (omega (arith, length-drop p m))))
+string-chunks : (k : Kind) (m : List ℕ) (p j : ℕ) → p ≤ length m → length m - p ≤ j → stringAt k m p ≡ chunks k j tt p (drop p m)
+unfolding stringAt stringFrom
+string-chunks k m p j l h =
+    rw (min-eq-left {n = p} {m = length m} l) (as-chunks p (drop p m) ∙ chunks-same k (length (drop p m)) j p (drop p m) (omega arith) (omega (arith, length-drop p m)))
   where
     as-chunks : (at : ℕ) (s : List ℕ) → _≡_ {A = Answer (List ℕ)} (byteAt (stringFrom k) tt at s) (chunks k (length s) tt at s)
     as-chunks at [] = refl
@@ -418,58 +440,56 @@ chunk-form k next p b at s = go (inside (partHead k) b) refl
 -- ---- a text or byte string, at a place
 -- a head of j + 1 bytes at p, and from q on a content of n units: the last chunk, or one before others
 module _ (k : Kind) (m : List ℕ) (p j n q : ℕ) (at : q ≡ p + (j + 1)) (within : q ≤ length m) where
-  last-ends : (r : Answer (List ℕ)) → Takes (Counts k n) (drop q m) r → renamed (sizes k) (stepped (before j [] r)) ≡ ended k m p (j + 1) n true (renamed length r)
-  last-ends (Done i cs es c) t =
-      let d : suc (j + i) ≡ j + 1 + i = omega arith in
-      let f : length cs ≡ i = omega (arith, t .1) in
-      rw (d, t .2, t .3 .0, f) refl
+  last-ends : (r : Answer (List ℕ)) → Takes (Counts k n) (drop q m) r → stepped (before j [] r) ≡ chunked k m p (j + 1) true r
+  last-ends (Done i cs es c) t = let d : suc (j + i) ≡ j + 1 + i = omega arith in rw (d, t .2) refl
   last-ends (Fault x o) t = refl
 
-  goes-on : (i : ℕ) (cs : List ℕ) → (i ≡ length cs) × (units k cs ≡ n) → (r : Answer (List ℕ))
-      → renamed (sizes k) (stepped (before j [] (before i [] (renamed (λ ds. cs ++ ds) r)))) ≡ added n i (j + 1 + i) (renamed (sizes k) r)
-  goes-on i cs t (Done x ds fs c) =
-      let d : suc (j + (i + x)) ≡ j + 1 + i + x = omega arith in
-      let f : units k (cs ++ ds) ≡ n + units k ds = omega (arith, units-append k cs ds, t .1) in
-      let g : length (cs ++ ds) ≡ i + length ds = omega (arith, length-append cs ds, t .0) in
-      rw (d, f, g) refl
-  goes-on i cs t (Fault x o) = refl
+  goes-on : (i : ℕ) (cs : List ℕ) (r : Answer (List ℕ)) → stepped (before j [] (before i [] (renamed (λ ds. cs ++ ds) r))) ≡ prefixed (j + 1 + i) cs r
+  goes-on i cs (Done x ds fs c) = let d : suc (j + (i + x)) ≡ j + 1 + i + x = omega arith in rw d refl
+  goes-on i cs (Fault x o) = refl
 
   part-ends : (r : Answer (List ℕ)) → Takes (Counts k n) (drop q m) r
-      → renamed (sizes k) (stepped (before j [] (then r (λ i cs es c. before i es (mapped (λ ds. cs ++ ds) (chunks k (length m)) c (q + i) (drop i (drop q m))))))) ≡ ended k m p (j + 1) n false (renamed length r)
+      → stepped (before j [] (then r (λ i cs es c. before i es (mapped (λ ds. cs ++ ds) (chunks k (length m)) c (q + i) (drop i (drop q m)))))) ≡ chunked k m p (j + 1) false r
   part-ends (Done i cs es c) t =
       let z = p + (j + 1 + i) in
       let d : q + i ≡ p + (j + 1 + i) = omega arith in
       rw (t .2, drop-drop i q m, d)
-      (goes-on i cs (t .1, t .3 .0) (chunks k (length m) tt z (drop z m)) ∙ ap (added n i (j + 1 + i)) (sym (measured-chunks k m z (length m) (omega (arith, t .0, length-drop q m)) (omega arith))))
+      (goes-on i cs (chunks k (length m) tt z (drop z m)) ∙ ap (prefixed (j + 1 + i) cs) (sym (string-chunks k m z (length m) (omega (arith, t .0, length-drop q m)) (omega arith))))
   part-ends (Fault x o) t = refl
 
-  chunk-ends : (a : Bool) → renamed (sizes k) (stepped (before j [] (contents k (chunks k (length m)) a n tt q (drop q m)))) ≡ ended k m p (j + 1) n a (extentAt (body k n) m q)
+  chunk-ends : (a : Bool) → stepped (before j [] (contents k (chunks k (length m)) a n tt q (drop q m))) ≡ chunked k m p (j + 1) a (body k n tt q (drop q m))
   chunk-ends true = last-ends (body k n tt q (drop q m)) (body-takes k n q (drop q m))
   chunk-ends false = part-ends (body k n tt q (drop q m)) (body-takes k n q (drop q m))
 
 module _ (k : Kind) (m : List ℕ) (p : ℕ) where
-  pub measured-ends : length m ≤ p → measuredAt k m p ≡ Fault 2 (length m)
-  unfolding measuredAt stringAt
-  measured-ends l = rw (drop-of-length-le m l, min-eq-right l)
+  pub string-ends : length m ≤ p → stringAt k m p ≡ Fault 2 (length m)
+  unfolding stringAt
+  string-ends l = rw (drop-of-length-le m l, min-eq-right l)
 
   module _ (l : p < length m) where
-    measured-first : measuredAt k m p ≡ renamed (sizes k) (stepped (byForm k (chunks k (length m)) (headForm k (getD m p 0)) p tt (p + 1) (drop (p + 1) m)))
-    measured-first =
-        measured-chunks k m p (suc (length m)) (omega arith) (omega arith)
-        ∙ ap (renamed (sizes k)) (byte-at (chunk k (chunks k (length m))) m p l ∙ ap stepped (chunk-form k (chunks k (length m)) p (getD m p 0) (p + 1) (drop (p + 1) m)))
+    string-first : stringAt k m p ≡ stepped (byForm k (chunks k (length m)) (headForm k (getD m p 0)) p tt (p + 1) (drop (p + 1) m))
+    string-first =
+        string-chunks k m p (suc (length m)) (omega arith) (omega arith)
+        ∙ byte-at (chunk k (chunks k (length m))) m p l
+        ∙ ap stepped (chunk-form k (chunks k (length m)) p (getD m p 0) (p + 1) (drop (p + 1) m))
 
-    pub measured-none : headForm k (getD m p 0) ≡ NoHead → measuredAt k m p ≡ Fault 3 p
-    measured-none e = measured-first ∙ rw e refl
+    pub string-none : headForm k (getD m p 0) ≡ NoHead → stringAt k m p ≡ Fault 3 p
+    string-none e = string-first ∙ rw e refl
 
     module _ (j u : ℕ) (a : Bool) (e : headForm k (getD m p 0) ≡ Starts j u a) where
-      pub measured-cut : length m - p ≤ j → measuredAt k m p ≡ Fault 2 (length m)
-      measured-cut h =
-          measured-first
+      pub string-cut : length m - p ≤ j → stringAt k m p ≡ Fault 2 (length m)
+      string-cut h =
+          string-first
           ∙ rw (e, bytes-cut {I = One} j u (tt {0}) (p + 1) (drop (p + 1) m) (omega (arith, length-drop (p + 1) m))) (ap (λ (o : ℕ). Fault 2 o) (omega (arith, length-drop (p + 1) m)))
 
-      pub measured-there : j < length m - p → (n : ℕ) → n ≡ joined u (take j (drop (p + 1) m)) → measuredAt k m p ≡ ended k m p (j + 1) n a (extentAt (body k n) m (p + (j + 1)))
-      measured-there h n is =
+      pub string-there : j < length m - p → (n : ℕ) → n ≡ joined u (take j (drop (p + 1) m)) → stringAt k m p ≡ chunked k m p (j + 1) a (body k n tt (p + (j + 1)) (drop (p + (j + 1)) m))
+      string-there h n is =
           let d : p + 1 + j ≡ p + (j + 1) = omega arith in
-          measured-first
+          string-first
           ∙ rw (e, bytes-there {I = One} j u (tt {0}) (p + 1) (drop (p + 1) m) (omega (arith, length-drop (p + 1) m)), sym is, drop-drop j (p + 1) m, d)
           (chunk-ends k m p j n (p + (j + 1)) refl (omega arith) a)
+
+-- ---- by sizes
+pub measured-as : (k : Kind) (m : List ℕ) (p : ℕ) {o : Answer (List ℕ)} → stringAt k m p ≡ o → measuredAt k m p ≡ renamed (sizes k) o
+unfolding measuredAt
+measured-as k m p e = ap (renamed (sizes k)) e

@@ -142,7 +142,7 @@ string-priced {k} (chunk-before {n = n} {h = h} {cs = cs} {v = v} {ds = ds} y r 
     omega (arith, length-append h (cs ++ v), length-append cs v, length-append cs ds, part-price k f cs ds l (omega arith))
 
 -- ---- the spelling: its length, and that it is a form
-longest-is : longest ≡ 65535
+pub longest-is : longest ≡ 65535
 unfolding longest
 longest-is = refl
 
@@ -158,10 +158,10 @@ weights-take k (suc n) (b ∷ cs) = ap {B = List ℕ} (λ z. weight k b ∷ z) (
 
 -- a content longer than a chunk: its first chunk fits, and what is behind is shorter
 module _ (k : Kind) (cs : List ℕ) (h : 65535 < units k cs) where
-  front-fits : units k (take (span longest (weights k cs)) cs) ≤ 65535
+  pub front-fits : units k (take (span longest (weights k cs)) cs) ≤ 65535
   front-fits = rw (weights-take, longest-is) (span-fits 65535 (weights k cs) .1)
 
-  rest-shorter : (f : ℕ) → length cs < suc f → length (drop (span longest (weights k cs)) cs) < f
+  pub rest-shorter : (f : ℕ) → length cs < suc f → length (drop (span longest (weights k cs)) cs) < f
   rest-shorter f l = rw (longest-is, length-drop) (simp (length-drop, length-map) at
       (shorter 65535 (omega arith) (last k) (last-grows k) (last-three k) (weights k cs) (weights-chars k cs) h f (rw length-map l)))
 

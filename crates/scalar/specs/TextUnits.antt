@@ -17,16 +17,16 @@ use Rattle.scalar.specs.Texts.{charLead, weight, weights, total, units, 
 use Rattle.scalar.specs.Greedy.{Chars}
 
 -- ---- what a byte of a text weighs
-light : (b : ℕ) → 0x80 ≤ b → b < 0xc0 → weight Utf8 b ≡ 0
+pub light : (b : ℕ) → 0x80 ≤ b → b < 0xc0 → weight Utf8 b ≡ 0
 light b h k = rw (within-yes 0x80 0xc0 b h k)
 
-single-low : (b : ℕ) → b < 0x80 → weight Utf8 b ≡ 1
+pub single-low : (b : ℕ) → b < 0x80 → weight Utf8 b ≡ 1
 single-low b h = rw (within-below 0x80 0xc0 b h, lt-ltb b 0xf0 (omega arith))
 
-single-high : (b : ℕ) → 0xc0 ≤ b → b < 0xf0 → weight Utf8 b ≡ 1
+pub single-high : (b : ℕ) → 0xc0 ≤ b → b < 0xf0 → weight Utf8 b ≡ 1
 single-high b h k = rw (within-above 0x80 0xc0 b h, lt-ltb b 0xf0 k)
 
-double : (b : ℕ) → 0xf0 ≤ b → weight Utf8 b ≡ 2
+pub double : (b : ℕ) → 0xf0 ≤ b → weight Utf8 b ≡ 2
 double b h = rw (within-above 0x80 0xc0 b (omega arith), le-ltb b 0xf0 h)
 
 pub weight-few : (k : Kind) (b : ℕ) → weight k b ≤ 2

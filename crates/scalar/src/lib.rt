@@ -3,4 +3,5 @@ pub mod chart;
 pub mod doubles;
 pub mod numbers;
 pub mod signed;
+pub mod text_writer;
 pub mod texts;

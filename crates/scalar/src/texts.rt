@@ -332,7 +332,7 @@ fn head(kind: Kind, message: &[u8], at: usize) -> HeadRead
 }
 
 // The chunk at `at`.
-fn chunk(kind: Kind, message: &[u8], at: usize) -> ChunkRead
+pub(crate) fn chunk(kind: Kind, message: &[u8], at: usize) -> ChunkRead
     requires { ⌜ at ≤ length (now message) ⌝ }
     ensures { λ r. ⌜ ChunkMet kind (now (message .entry)) at r ⌝ }
 {

@@ -1,10 +1,10 @@
--- The loop's invariant: what is left reads as the whole does, but for the units, the content and the bytes so far. The measure is how many bytes are left.
+-- The loop's invariant: what is left reads as the whole does, but for the content and the bytes so far. The measure is how many bytes are left.
 use mathlib.Core.Path.{sym}
 use Prim.Native.Nat.{_-_}
 use native.Mathlib.Omega.{arith}
 use borrow.Author.Needs.{needs}
 use lib.ListN.{length}
-use Rattle.scalar.specs.TextAt.{measured-ends}
+use Rattle.scalar.specs.TextAt.{string-ends, measured-as}
 use Rattle.scalar.proofs.Strings.{Joining, chunk-says, joining-start, joining-fault, joining-last, joining-more}
 use Rattle.scalar.proofs.texts.read_string.Statement.{statement}
 use Rattle.scalar.proofs.texts.read_string.Tie as tie
@@ -16,7 +16,7 @@ abbrev μ-loop : tie.MeasureT-loop
 μ-loop kind message at len here₀ total₀ bytes₀ here total bytes = length message - here
 
 returns : tie.Need-returns Inv-loop μ-loop
-returns c = sym (measured-ends _ _ _ (c .if1 .taken))
+returns c = sym (measured-as _ _ _ (string-ends _ _ _ (c .if1 .taken)))
 
 loop-holds : tie.Need-loop-holds Inv-loop μ-loop
 loop-holds c = search (joining-start, needs)
