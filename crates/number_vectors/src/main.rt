@@ -9,8 +9,8 @@
 // Anything else is `bad`. vectors.py writes the cases, stdin, and what is to be printed, stdout.
 use libc::STDIN_FILENO;
 use libc::STDOUT_FILENO;
+use scalar::Written;
 use scalar::numbers::NumberRead;
-use scalar::numbers::NumberWritten;
 use scalar::numbers::Sort;
 ghost use Prim.Native.Nat.{_≤_};
 
@@ -117,9 +117,9 @@ fn refused(sort: Sort, value: u64, length: usize, at: usize, lent: usize) -> boo
         return false;
     }
     match written {
-        NumberWritten::Stored { size: _ } => false,
-        NumberWritten::NoRoom { needed } => needed == length && 0 < length,
-        NumberWritten::NotSuch => length == 0,
+        Written::Stored { size: _ } => false,
+        Written::NoRoom { needed } => needed == length && 0 < length,
+        Written::NotSuch => length == 0,
     }
 }
 
@@ -193,9 +193,9 @@ fn write_case(sort: Sort, value: u64) {
     let length = scalar::numbers::number_length(sort, value);
     let mut out = [BLANK; 16];
     match scalar::numbers::write_number(sort, value, &mut out, PLACE) {
-        NumberWritten::Stored { size } => say_stored(sort, value, length, size, &out),
-        NumberWritten::NoRoom { needed: _ } => say(b"no room"),
-        NumberWritten::NotSuch => say_none(sort, value, length, &out),
+        Written::Stored { size } => say_stored(sort, value, length, size, &out),
+        Written::NoRoom { needed: _ } => say(b"no room"),
+        Written::NotSuch => say_none(sort, value, length, &out),
     }
 }
 

@@ -16,8 +16,8 @@ use Rattle.scalar.specs.declared.numbers.NumberRead.{NumberRead}
 use Rattle.scalar.specs.declared.numbers.NumberRead.the-variants.{Value, Refused}
 use Rattle.scalar.specs.declared.numbers.Spelling.{Spelling}
 use Rattle.scalar.specs.declared.numbers.Spelling.the-variants as spelling
-use Rattle.scalar.specs.declared.numbers.NumberWritten.{NumberWritten}
-use Rattle.scalar.specs.declared.numbers.NumberWritten.the-variants.{Stored, NoRoom, NotSuch}
+use Rattle.scalar.specs.declared.Written.{Written}
+use Rattle.scalar.specs.declared.Written.the-variants.{Stored, NoRoom, NotSuch}
 use Rattle.scalar.specs.Numbers.{Form, form}
 
 -- a value read, and the bytes it takes; or a refusal's number and place
@@ -34,7 +34,7 @@ pub record Report : Type 0 where
 abbrev pub reported : ℕ → ℕ → Report
 reported number count = record { number = number; count = count; place = 0 }
 
-abbrev pub report : NumberWritten → Report
+abbrev pub report : Written → Report
 report (Stored n) = reported 0 n
 report (NoRoom n) = reported 9 n
 report NotSuch = reported 10 0

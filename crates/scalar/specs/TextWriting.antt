@@ -12,9 +12,6 @@ use Rattle.scalar.specs.declared.texts.Kind.{Kind}
 use Rattle.scalar.specs.declared.text_writer.Cursor.{Cursor}
 use Rattle.scalar.specs.declared.text_writer.Heads.{Heads}
 use Rattle.scalar.specs.declared.text_writer.Span.{Span}
-use Rattle.scalar.specs.declared.text_writer.StringWritten.{StringWritten}
-use Rattle.scalar.specs.declared.text_writer.StringWritten.the-variants.{Stored, NoRoom, NotSuch}
-use Rattle.scalar.specs.Answers.{Report, reported}
 use Rattle.scalar.specs.Numbers.{form}
 use Rattle.scalar.specs.Texts.{partHead, lastHeads, weights, units, span, stringAt, spelled, shortestString}
 
@@ -25,11 +22,6 @@ formOf k (Fault x o) = none
 
 unfoldable pub itemForm : Kind → List ℕ → ℕ → Option (List ℕ)
 itemForm k m p = formOf k (stringAt k m p)
-
-abbrev pub reportString : StringWritten → Report
-reportString (Stored n) = reported 0 n
-reportString (NoRoom n) = reported 9 n
-reportString NotSuch = reported 10 0
 
 -- ---- inside the code
 abbrev pub contentOf : Answer (List ℕ) → List ℕ

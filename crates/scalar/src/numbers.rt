@@ -1,4 +1,5 @@
 // Single values: reading one at a place, and the shortest form of each. The definitions are in specs/Numbers.antt.
+use crate::Written;
 use crate::doubles;
 use crate::signed;
 ghost use mathlib.Core.Path.{_≡_};
@@ -59,13 +60,6 @@ pub enum NumberRead {
 pub enum Spelling {
     Form { code: u8, more: usize, rest: u64 },
     Absent,
-}
-
-// What storing a value's shortest form comes to: the bytes stored; the bytes needed, where they do not fit; or there is no form.
-pub enum NumberWritten {
-    Stored { size: usize },
-    NoRoom { needed: usize },
-    NotSuch,
 }
 
 // ---- reading
@@ -439,16 +433,16 @@ fn store(out: &mut [u8], at: usize, code: u8, more: usize, rest: u64) -> bool
 }
 
 // The shortest form of the value in `out` from `at` on: stored whole or not at all.
-pub fn write_number(sort: Sort, value: u64, out: &mut [u8], at: usize) -> NumberWritten
+pub fn write_number(sort: Sort, value: u64, out: &mut [u8], at: usize) -> Written
     ensures { λ r. ⌜ (report r ≡ reportOf (shortest (formsOf sort) value) (length (now (out .entry))) at) × (now (out .exit) ≡ outputOf (shortest (formsOf sort) value) (now (out .entry)) at) ⌝ }
 {
     match spell(sort, value) {
-        Spelling::Absent => NumberWritten::NotSuch,
+        Spelling::Absent => Written::NotSuch,
         Spelling::Form { code, more, rest } => {
             if store(out, at, code, more, rest) {
-                return NumberWritten::Stored { size: more + 1 };
+                return Written::Stored { size: more + 1 };
             }
-            NumberWritten::NoRoom { needed: more + 1 }
+            Written::NoRoom { needed: more + 1 }
         }
     }
 }

@@ -1,4 +1,5 @@
 // The shortest form of a text or byte string, from a place in a source: its length, and the form stored in a lent slice.
+use crate::Written;
 use crate::texts;
 use crate::texts::ChunkRead;
 use crate::texts::Kind;
@@ -9,8 +10,8 @@ ghost use Prim.Native.Nat.{_+_, _^_, _≤_, _<_, min};
 ghost use lib.ListN.{length, take, drop};
 ghost use Rattle.flow.specs.Overlay.{stored};
 ghost use Rattle.scalar.specs.Texts.{weight as weightOf, partHead, lastHeads, shortestHead};
-ghost use Rattle.scalar.specs.Answers.{reportOf, outputOf, lengthOf};
-ghost use Rattle.scalar.specs.TextWriting.{itemForm, reportString, Opens, Going, rest as restOf, Spans, Copies, HeadsOf, Item, Lays};
+ghost use Rattle.scalar.specs.Answers.{report, reportOf, outputOf, lengthOf};
+ghost use Rattle.scalar.specs.TextWriting.{itemForm, Opens, Going, rest as restOf, Spans, Copies, HeadsOf, Item, Lays};
 
 // Where the content of a text or byte string goes on: the place of its next byte, the bytes left in that chunk, and whether the
 // chunk is the last.
@@ -33,13 +34,6 @@ pub struct Heads {
 pub struct Span {
     pub bytes: usize,
     pub units: usize,
-}
-
-// What storing a string's shortest form comes to: the bytes stored; the bytes needed, where they do not fit; or no string stands there.
-pub enum StringWritten {
-    Stored { size: usize },
-    NoRoom { needed: usize },
-    NotSuch,
 }
 
 // The units that a byte of a content adds to its length.
@@ -274,20 +268,14 @@ pub fn string_length(kind: Kind, source: &[u8], at: usize) -> usize
 }
 
 // The shortest form of the string at the place `at` of the source, in `out` from `to` on: stored whole or not at all.
-pub fn write_string(
-    kind: Kind,
-    source: &[u8],
-    at: usize,
-    out: &mut [u8],
-    to: usize,
-) -> StringWritten
-    ensures { λ r. ⌜ (reportString r ≡ reportOf (itemForm kind (now (source .entry)) at) (length (now (out .entry))) to) × (now (out .exit) ≡ outputOf (itemForm kind (now (source .entry)) at) (now (out .entry)) to) ⌝ }
+pub fn write_string(kind: Kind, source: &[u8], at: usize, out: &mut [u8], to: usize) -> Written
+    ensures { λ r. ⌜ (report r ≡ reportOf (itemForm kind (now (source .entry)) at) (length (now (out .entry))) to) × (now (out .exit) ≡ outputOf (itemForm kind (now (source .entry)) at) (now (out .entry)) to) ⌝ }
 {
     match texts::read_string(kind, source, at) {
         StringRead::Refused {
             number: _,
             place: _,
-        } => StringWritten::NotSuch,
+        } => Written::NotSuch,
         StringRead::Content {
             units,
             bytes,
@@ -297,13 +285,13 @@ pub fn write_string(
             let needed = lay(kind, source, at, units, bytes, &mut none, 0);
             let len = out.len();
             if len < to {
-                return StringWritten::NoRoom { needed };
+                return Written::NoRoom { needed };
             }
             if len - to < needed {
-                return StringWritten::NoRoom { needed };
+                return Written::NoRoom { needed };
             }
             lay(kind, source, at, units, bytes, out, to);
-            StringWritten::Stored { size: needed }
+            Written::Stored { size: needed }
         }
     }
 }

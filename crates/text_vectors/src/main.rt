@@ -1,0 +1,572 @@
+// Runs the functions on texts and byte strings over cases from standard input, and prints a line for each case.
+//
+// A case is a line: `u` for a text or `b` for a byte string, the place in decimal, and the message in segments, one space between. A
+// segment is bytes, two hexadecimal digits each; `*` and a number behind them say how often they stand there.
+//
+// Where a string stands at the place, the line has its units, its content's bytes, and the bytes that it takes; its shortest form's
+// length, and that form in segments; and what holds:
+//   rest ok   the bytes around the stored form stay
+//   back ok   it is read back, with the same units and bytes
+//   short ok  with one byte less of room the length is answered, and nothing stored
+// Else it has `refused`, number and place; and `none ok` where there is no length, and nothing is stored.
+// In a form, bytes that stand four times or more in a row, up to four at once, are a segment of their own, as few at once as do.
+// What is no case is `bad`. vectors.py writes the cases, stdin, and what is to be printed, stdout.
+use libc::STDIN_FILENO;
+use libc::STDOUT_FILENO;
+use scalar::Written;
+use scalar::texts::Kind;
+use scalar::texts::StringRead;
+ghost use Prim.Native.Nat.{_≤_, _<_};
+ghost use lib.ListN.{length};
+
+// What the output holds before anything is stored.
+const BLANK: u8 = 0xee;
+
+// Where the form is stored.
+const PLACE: usize = 5;
+
+// How many bytes are lent behind it.
+const BEHIND: usize = 6;
+
+// The longest message and the longest form that are looked at.
+const LARGEST: usize = 270_000;
+
+// A form that is longer is stored less often, to save time.
+const LONG: usize = 5_000;
+
+// Bytes that stand this often are a segment of their own.
+const OFTEN: usize = 4;
+
+enum Scanned {
+    Number { value: usize, next: usize },
+    NoNumber,
+}
+
+// How far a line is read: where it goes on, and the bytes of the message so far.
+enum Step {
+    On { next: usize, size: usize },
+    Stuck,
+}
+
+enum Case {
+    Of { kind: Kind, at: usize, size: usize },
+    NoCase,
+}
+
+// Bytes that repeat: how many at once, how often, and how many in all.
+struct Group {
+    width: usize,
+    times: usize,
+    bytes: usize,
+}
+
+// ---- cases
+
+// The worth of a hexadecimal digit; 16 for any other byte.
+fn digit(b: u8) -> u8
+    ensures { λ r. ⌜ r ≤ 16 ⌝ }
+{
+    match b {
+        b'0'..=b'9' => b - b'0',
+        b'a'..=b'f' => b - b'a' + 10,
+        _ => 16,
+    }
+}
+
+// The number that the decimal digits from `at` on are.
+fn decimal(line: &[u8], at: usize) -> Scanned {
+    let mut here = at;
+    let mut value: usize = 0;
+    while here < line.len() {
+        let d = digit(line[here]);
+        if 9 < d {
+            break;
+        }
+        if 1_000_000_000_000_000_000 < value {
+            return Scanned::NoNumber;
+        }
+        value = value * 10 + wire::wide(d) as usize;
+        here += 1;
+    }
+    if here == at {
+        return Scanned::NoNumber;
+    }
+    Scanned::Number { value, next: here }
+}
+
+// The bytes that the hexadecimal digits from `at` on are, in the message from `from` on.
+fn take_bytes(line: &[u8], at: usize, message: &mut [u8], from: usize) -> Step {
+    let len = line.len();
+    let mut here = at;
+    let mut size = from;
+    while here < len {
+        let high = digit(line[here]);
+        if 15 < high {
+            break;
+        }
+        if len - here < 2 {
+            return Step::Stuck;
+        }
+        let low = digit(line[here + 1]);
+        if 15 < low {
+            return Step::Stuck;
+        }
+        if message.len() <= size {
+            return Step::Stuck;
+        }
+        message[size] = high * 16 + low;
+        size += 1;
+        here += 2;
+    }
+    Step::On { next: here, size }
+}
+
+// The bytes of the message from `from` to below `size`, that often in all. `next` is where the line goes on.
+fn repeat(message: &mut [u8], from: usize, size: usize, times: usize, next: usize) -> Step
+    requires { ⌜ from < size ⌝ }
+{
+    if times == 0 {
+        return Step::On { next, size: from };
+    }
+    let width = size - from;
+    let mut left = times - 1;
+    let mut phase = width;
+    let mut back = from;
+    let mut here = size;
+    while 0 < left {
+        if message.len() <= here {
+            return Step::Stuck;
+        }
+        message[here] = message[back];
+        here += 1;
+        back += 1;
+        phase -= 1;
+        if phase == 0 {
+            phase = width;
+            left -= 1;
+        }
+    }
+    Step::On { next, size: here }
+}
+
+// The segment at `at`, in the message from `from` on.
+fn segment(line: &[u8], at: usize, message: &mut [u8], from: usize) -> Step {
+    match take_bytes(line, at, message, from) {
+        Step::Stuck => Step::Stuck,
+        Step::On { next, size } => {
+            if size <= from {
+                return Step::Stuck;
+            }
+            if line.len() <= next {
+                return Step::On { next, size };
+            }
+            if line[next] != b'*' {
+                return Step::On { next, size };
+            }
+            match decimal(line, next + 1) {
+                Scanned::NoNumber => Step::Stuck,
+                Scanned::Number { value, next: end } => repeat(message, from, size, value, end),
+            }
+        }
+    }
+}
+
+// The segments from `at` on, a space before each: the whole message.
+fn segments(line: &[u8], at: usize, message: &mut [u8]) -> Step {
+    let mut here = at;
+    let mut held: usize = 0;
+    while here < line.len() {
+        if line[here] != b' ' {
+            return Step::Stuck;
+        }
+        match segment(line, here + 1, message, held) {
+            Step::Stuck => {
+                return Step::Stuck;
+            }
+            Step::On { next, size } => {
+                if next <= here {
+                    return Step::Stuck;
+                }
+                here = next;
+                held = size;
+            }
+        }
+    }
+    Step::On {
+        next: here,
+        size: held,
+    }
+}
+
+fn case_of(letter: u8, at: usize, size: usize) -> Case {
+    match letter {
+        b'u' => Case::Of {
+            kind: Kind::Utf8,
+            at,
+            size,
+        },
+        b'b' => Case::Of {
+            kind: Kind::Binary,
+            at,
+            size,
+        },
+        _ => Case::NoCase,
+    }
+}
+
+// The case that the line is, its message stored.
+fn parse(line: &[u8], message: &mut [u8]) -> Case {
+    if line.len() < 3 {
+        return Case::NoCase;
+    }
+    if line[1] != b' ' {
+        return Case::NoCase;
+    }
+    match decimal(line, 2) {
+        Scanned::NoNumber => Case::NoCase,
+        Scanned::Number { value, next } => match segments(line, next, message) {
+            Step::Stuck => Case::NoCase,
+            Step::On { next: _, size } => case_of(line[0], value, size),
+        },
+    }
+}
+
+// ---- printing
+
+fn say(text: &[u8]) {
+    io::write_all(STDOUT_FILENO, text);
+}
+
+fn say_number(n: usize) {
+    io::print_decimal(STDOUT_FILENO, n as u64);
+}
+
+// The first `count` bytes, in hexadecimal digits.
+fn say_bytes(bytes: &[u8], count: usize) {
+    let mut i = 0;
+    while i < bytes.len() {
+        if count <= i {
+            return;
+        }
+        io::print_hex(STDOUT_FILENO, wire::wide(bytes[i]), 2);
+        i += 1;
+    }
+}
+
+// How often the first `width` bytes stand in a row at the start.
+fn group_at(bytes: &[u8], width: usize) -> Group
+    requires { ⌜ (0 < width) × (width ≤ length (now bytes)) ⌝ }
+    ensures { λ r. ⌜ (0 < r .bytes) × (r .bytes ≤ length (now (bytes .entry))) ⌝ }
+{
+    let mut times = 1;
+    let mut all = width;
+    let mut phase = width;
+    let mut back = 0;
+    let mut here = width;
+    while here < bytes.len() {
+        if bytes[here] != bytes[back] {
+            break;
+        }
+        here += 1;
+        back += 1;
+        phase -= 1;
+        if phase == 0 {
+            phase = width;
+            times += 1;
+            all = here;
+        }
+    }
+    Group {
+        width,
+        times,
+        bytes: all,
+    }
+}
+
+// The fewest bytes at the start, up to four, that repeat; or the first byte.
+fn first_group(bytes: &[u8]) -> Group
+    requires { ⌜ 0 < length (now bytes) ⌝ }
+    ensures { λ r. ⌜ (0 < r .bytes) × (r .bytes ≤ length (now (bytes .entry))) ⌝ }
+{
+    let mut width = 1;
+    while width < 5 {
+        if bytes.len() < width {
+            break;
+        }
+        let g = group_at(bytes, width);
+        if OFTEN <= g.times {
+            return g;
+        }
+        width += 1;
+    }
+    Group {
+        width: 1,
+        times: 1,
+        bytes: 1,
+    }
+}
+
+// A group as a segment, or as a part of one.
+fn say_group(bytes: &[u8], g: Group, plain: bool) {
+    if OFTEN <= g.times {
+        say(b" ");
+        say_bytes(bytes, g.width);
+        say(b"*");
+        say_number(g.times);
+    } else {
+        if !plain {
+            say(b" ");
+        }
+        say_bytes(bytes, g.width);
+    }
+}
+
+// The bytes in segments, a space before each.
+fn say_segments(bytes: &[u8]) {
+    let len = bytes.len();
+    let mut at = 0;
+    let mut plain = false;
+    while at < len {
+        let g = first_group(&bytes[at..]);
+        say_group(&bytes[at..], g, plain);
+        plain = g.times < OFTEN;
+        at += g.bytes;
+    }
+}
+
+// ---- reading and writing
+
+// Each byte from `from` on and below `to` is blank.
+fn blank(bytes: &[u8], from: usize, to: usize) -> bool {
+    let mut here = from;
+    while here < to {
+        if bytes.len() <= here {
+            return false;
+        }
+        if bytes[here] != BLANK {
+            return false;
+        }
+        here += 1;
+    }
+    true
+}
+
+// Makes the first `count` bytes blank.
+fn clear(bytes: &mut [u8], count: usize) {
+    let mut i = 0;
+    while i < count {
+        if bytes.len() <= i {
+            return;
+        }
+        bytes[i] = BLANK;
+        i += 1;
+    }
+}
+
+// Storing the string at `at`, of this length, where only `lent` bytes are lent is refused as it should be, and changes nothing.
+fn refused(
+    kind: Kind,
+    message: &[u8],
+    at: usize,
+    length: usize,
+    out: &mut [u8],
+    lent: usize,
+) -> bool {
+    if out.len() < lent {
+        return false;
+    }
+    let written = scalar::text_writer::write_string(kind, message, at, &mut out[0..lent], PLACE);
+    if !blank(out, 0, lent) {
+        return false;
+    }
+    match written {
+        Written::Stored { size: _ } => false,
+        Written::NoRoom { needed } => needed == length && 0 < length,
+        Written::NotSuch => length == 0,
+    }
+}
+
+// The string at PLACE is read as one of these sizes.
+fn read_again(kind: Kind, out: &[u8], units: usize, bytes: usize, size: usize) -> bool {
+    match scalar::texts::read_string(kind, out, PLACE) {
+        StringRead::Content {
+            units: u,
+            bytes: b,
+            size: s,
+        } => u == units && b == bytes && s == size,
+        StringRead::Refused {
+            number: _,
+            place: _,
+        } => false,
+    }
+}
+
+// The form of `size` bytes that is stored in `out`, and what was kept.
+fn say_stored(kind: Kind, out: &[u8], units: usize, bytes: usize, size: usize) {
+    let len = out.len();
+    if LARGEST < size {
+        return;
+    }
+    let end = PLACE + size;
+    if len < end {
+        return;
+    }
+    say_segments(&out[PLACE..end]);
+    if blank(out, 0, PLACE) && blank(out, end, len) {
+        say(b" rest ok");
+    }
+    if read_again(kind, out, units, bytes, size) {
+        say(b" back ok");
+    }
+}
+
+// The string at `at` is stored where `lent` bytes are lent.
+fn fits(kind: Kind, message: &[u8], at: usize, length: usize, out: &mut [u8], lent: usize) -> bool {
+    if out.len() < lent {
+        return false;
+    }
+    match scalar::text_writer::write_string(kind, message, at, &mut out[0..lent], PLACE) {
+        Written::Stored { size } => size == length,
+        Written::NoRoom { needed: _ } => false,
+        Written::NotSuch => false,
+    }
+}
+
+// The string at `at`, whose form ends at `end`, is refused where one byte less is lent. One that is not long is also refused where PLACE
+// lies past what is lent, and stored where no byte more is lent.
+fn room_told(
+    kind: Kind,
+    message: &[u8],
+    at: usize,
+    length: usize,
+    out: &mut [u8],
+    end: usize,
+) -> bool
+    requires { ⌜ 0 < end ⌝ }
+{
+    if !refused(kind, message, at, length, out, end - 1) {
+        return false;
+    }
+    if LONG < length {
+        return true;
+    }
+    if !refused(kind, message, at, length, out, PLACE - 1) {
+        return false;
+    }
+    fits(kind, message, at, length, out, end)
+}
+
+// The shortest form of the string at `at`, of these units and bytes, stored in `out`.
+fn say_form(kind: Kind, message: &[u8], at: usize, units: usize, bytes: usize, out: &mut [u8]) {
+    let length = scalar::text_writer::string_length(kind, message, at);
+    say_number(length);
+    if LARGEST < length {
+        return;
+    }
+    let end = PLACE + length;
+    let lent = end + BEHIND;
+    if out.len() < lent {
+        return;
+    }
+    match scalar::text_writer::write_string(kind, message, at, &mut out[0..lent], PLACE) {
+        Written::Stored { size } => say_stored(kind, &out[0..lent], units, bytes, size),
+        Written::NoRoom { needed: _ } => say(b" no room"),
+        Written::NotSuch => say(b" none"),
+    }
+    clear(out, lent);
+    if room_told(kind, message, at, length, out, end) {
+        say(b" short ok");
+    }
+    clear(out, lent);
+}
+
+fn say_content(units: usize, bytes: usize, size: usize) {
+    say_number(units);
+    say(b" ");
+    say_number(bytes);
+    say(b" ");
+    say_number(size);
+    say(b" ");
+}
+
+fn say_refused(number: u8, place: usize) {
+    say(b"refused ");
+    io::print_decimal(STDOUT_FILENO, wire::wide(number));
+    say(b" ");
+    say_number(place);
+}
+
+// No string at `at` has a length or is stored.
+fn none_told(kind: Kind, message: &[u8], at: usize, out: &mut [u8]) -> bool {
+    if scalar::text_writer::string_length(kind, message, at) != 0 {
+        return false;
+    }
+    refused(kind, message, at, 0, out, PLACE + BEHIND)
+}
+
+fn answer(kind: Kind, message: &[u8], at: usize, out: &mut [u8]) {
+    match scalar::texts::read_string(kind, message, at) {
+        StringRead::Content { units, bytes, size } => {
+            say_content(units, bytes, size);
+            say_form(kind, message, at, units, bytes, out);
+        }
+        StringRead::Refused { number, place } => {
+            say_refused(number, place);
+            if none_told(kind, message, at, out) {
+                say(b" none ok");
+            }
+        }
+    }
+}
+
+// ---- lines
+
+fn answer_line(line: &[u8], message: &mut [u8], out: &mut [u8]) {
+    match parse(line, message) {
+        Case::NoCase => say(b"bad"),
+        Case::Of { kind, at, size } => {
+            if message.len() < size {
+                say(b"bad");
+            } else {
+                answer(kind, &message[0..size], at, out);
+            }
+        }
+    }
+}
+
+fn run(line: &[u8], message: &mut [u8], out: &mut [u8]) {
+    answer_line(line, message, out);
+    say(b"\n");
+}
+
+// Where the line that begins at `at` ends.
+fn line_end(input: &[u8], at: usize) -> usize
+    requires { ⌜ at ≤ length (now input) ⌝ }
+    ensures { λ r. ⌜ (at ≤ r) × (r ≤ length (now (input .entry))) ⌝ }
+{
+    let mut here = at;
+    while here < input.len() {
+        if input[here] == b'\n' {
+            return here;
+        }
+        here += 1;
+    }
+    here
+}
+
+fn run_all(input: &[u8], message: &mut [u8], out: &mut [u8]) {
+    let mut at = 0;
+    while at < input.len() {
+        let end = line_end(input, at);
+        run(&input[at..end], message, out);
+        at = end + 1;
+    }
+}
+
+fn main() {
+    let mut input = io::large_buffer();
+    let n = io::read_full(STDIN_FILENO, &mut input);
+    let mut message = [0u8; LARGEST];
+    let mut out = [BLANK; 270_100];
+    run_all(&input[..n], &mut message, &mut out);
+}
