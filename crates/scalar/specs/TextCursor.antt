@@ -2,9 +2,8 @@
 use mathlib.Core.Path.{_≡_, refl, sym, _∙_, ap, subst}
 use mathlib.Core.Bool.{Bool, true, false, cond}
 use mathlib.Core.List.{List, [], _∷_, _++_, append-assoc, append-nil}
-use Prim.Native.Nat.{ℕ, zero, suc, _+_, _-_, _≤_, _<_}
+use Prim.Native.Nat.{ℕ, _+_, _-_, _≤_, _<_}
 use native.Mathlib.Omega.{arith}
-use lib.Dec.{ltb}
 use lib.ListN.{length, take, drop, getD, length-append, length-drop}
 use lib.Seq.{take-add, drop-drop, drop-cons, length-take-le, take-append-seam, drop-append-seam}
 use borrow.Author.Tests.{lt-ltb, le-ltb}
@@ -12,10 +11,8 @@ use Rattle.flow.specs.Flow.{Answer, Done, Fault}
 use Rattle.flow.specs.Overlay.{stored}
 use Rattle.flow.specs.OverlayLaws.{stored-sets, stored-seam, length-stored}
 use Rattle.scalar.specs.declared.texts.Kind.{Kind}
-use Rattle.scalar.specs.declared.texts.ChunkRead.{ChunkRead}
 use Rattle.scalar.specs.declared.texts.ChunkRead.the-variants as chunk
 use Rattle.scalar.specs.declared.text_writer.Cursor.{Cursor}
-use Rattle.scalar.specs.declared.text_writer.Span.{Span}
 use Rattle.scalar.specs.Texts.{weight, weights, units, span, stringAt}
 use Rattle.scalar.specs.TextUnits.{units-append}
 use Rattle.scalar.specs.TextAnswers.{prefixed, ChunkSays}

@@ -1,22 +1,23 @@
 -- The shortest form of a text or byte string, chunk by chunk: what is stored so far, and the form of the rest.
-use mathlib.Core.Path.{_≡_, refl, sym, _∙_, ap, subst}
+use mathlib.Core.Path.{_≡_, refl, sym, _∙_, ap}
 use mathlib.Core.List.{List, [], _∷_, _++_, append-assoc, append-nil}
-use Prim.Native.Nat.{ℕ, zero, suc, _+_, _-_, _≤_, _<_}
+use Prim.Native.Nat.{ℕ, zero, suc, _+_, _-_, _^_, _≤_, _<_}
 use native.Mathlib.Omega.{arith}
-use lib.Dec.{ltb}
 use lib.ListN.{length, take, drop, length-append, length-drop, length-map, take-append-drop}
 use lib.Seq.{length-take-le, take-length}
+use mir.Syntax.{w64}
+use mir.Val.{Fits}
 use borrow.Author.Tests.{lt-ltb, le-ltb}
 use Rattle.flow.specs.Overlay.{stored}
 use Rattle.flow.specs.OverlayLaws.{stored-sets, stored-seam, length-stored}
 use Rattle.scalar.specs.declared.texts.Kind.{Kind}
 use Rattle.scalar.specs.declared.text_writer.Cursor.{Cursor}
 use Rattle.scalar.specs.declared.text_writer.Span.{Span}
-use Rattle.scalar.specs.Texts.{partHead, lastHeads, weight, weights, units, span, longest, shortestHead, spelled, stringAt}
+use Rattle.scalar.specs.Texts.{partHead, lastHeads, weights, units, span, shortestHead, spelled, stringAt}
 use Rattle.scalar.specs.TextShort.{longest-is, front-fits, rest-shorter}
-use Rattle.scalar.specs.TextUnits.{units-append, weights-chars}
+use Rattle.scalar.specs.TextUnits.{units-append}
 use Rattle.scalar.specs.Greedy.{span-fits}
-use Rattle.scalar.specs.TextWriting.{contentOf, rest, Going, Opens, Spans, Copies, laid, Item}
+use Rattle.scalar.specs.TextWriting.{contentOf, rest, Going, Opens, Spans, Copies, laid, Item, Lays}
 
 -- ---- the form of a content: of one that is longer than a chunk, and of another
 module _ (k : Kind) (cs : List ℕ) where
@@ -29,20 +30,20 @@ module _ (k : Kind) (cs : List ℕ) where
   spelled-last h zero l = absurd (omega arith)
   spelled-last h (suc f) l = rw (longest-is, le-ltb 65535 (units k cs) h) refl
 
--- ---- from `to` on: `front` is stored, and with the form of the rest behind it is the whole form w. Of the rest u units and n bytes
-pub record Laying (k : Kind) (m w l : List ℕ) (to : ℕ) (c : Cursor) (u n place : ℕ) (l′ : List ℕ) : Type 0 where
+-- ---- from `to` on: `front` is stored, and with the form of the rest behind it is the form of the string at p. Of the rest u units and n bytes
+pub record Laying (k : Kind) (m : List ℕ) (p : ℕ) (l : List ℕ) (to : ℕ) (c : Cursor) (u n place : ℕ) (l′ : List ℕ) : Type 0 where
   pub going : Going k m c
   pub units-are : u ≡ units k (rest k m c)
   pub bytes-are : n ≡ length (rest k m c)
   pub fuel : ℕ
   pub enough : length (rest k m c) < fuel
   pub front : List ℕ
-  pub joins : front ++ spelled k fuel (rest k m c) ≡ w
+  pub joins : front ++ spelled k fuel (rest k m c) ≡ laid k m p
   pub placed : place ≡ to + length front
   pub same : length l′ ≡ length l
-  pub holds : to + length w ≤ length l → l′ ≡ stored l to front
+  pub holds : to + length (laid k m p) ≤ length l → l′ ≡ stored l to front
 
-pub laying-start : (k : Kind) (m : List ℕ) (p u b to : ℕ) → Item k m p u b to → (r : Cursor) → Opens k m p r → (l : List ℕ) → Laying k m (laid k m p) l to r u b to l
+pub laying-start : (k : Kind) (m : List ℕ) (p u b to : ℕ) → Item k m p u b to → (r : Cursor) → Opens k m p r → (l : List ℕ) → Laying k m p l to r u b to l
 unfolding laid
 laying-start k m p u b to i r o l =
     let q = o .opens (i .done) in
@@ -69,17 +70,17 @@ stored-both l to front h s tail l₁ l₂ r e d =
     let y = length-append h s in
     d ∙ rw e (stored-seam (stored l to front) (to + length front) h s (rw length-stored (omega arith)) ∙ stored-seam l to front (h ++ s) (omega (arith, length-append front (h ++ s))))
 
-module _ {k : Kind} {m w l : List ℕ} {to : ℕ} {c : Cursor} {u n place : ℕ} {l′ : List ℕ} (R : Laying k m w l to c u n place l′) where
+module _ {k : Kind} {m : List ℕ} {p : ℕ} {l : List ℕ} {to : ℕ} {c : Cursor} {u n place : ℕ} {l′ : List ℕ} (R : Laying k m p l to c u n place l′) where
   -- ---- a head of i bytes, and a content of j
-  module _ (head chunk tail : List ℕ) (whole : R .front ++ (head ++ (chunk ++ tail)) ≡ w) (i j : ℕ) (d : i ≡ length head) (e : j ≡ length chunk) where
-    room : place + i + j + length tail ≡ to + length w
+  module _ (head chunk tail : List ℕ) (whole : R .front ++ (head ++ (chunk ++ tail)) ≡ laid k m p) (i j : ℕ) (d : i ≡ length head) (e : j ≡ length chunk) where
+    room : place + i + j + length tail ≡ to + length (laid k m p)
     room = omega (arith, R .placed, ap length whole, length-append (R .front) (head ++ (chunk ++ tail)), length-append head (chunk ++ tail), length-append chunk tail)
 
-    both : (l₁ l₂ : List ℕ) → l₁ ≡ stored l′ place head → (place + i + j ≤ length l₁ → l₂ ≡ stored l₁ (place + i) chunk) → to + length w ≤ length l → l₂ ≡ stored l to (R .front ++ (head ++ chunk))
-    both l₁ l₂ p q t =
+    both : (l₁ l₂ : List ℕ) → l₁ ≡ stored l′ place head → (place + i + j ≤ length l₁ → l₂ ≡ stored l₁ (place + i) chunk) → to + length (laid k m p) ≤ length l → l₂ ≡ stored l to (R .front ++ (head ++ chunk))
+    both l₁ l₂ a q t =
         let z : place + i ≡ to + length (R .front) + length head = omega (arith, R .placed) in
-        stored-both l to (R .front) head chunk tail l₁ l₂ (rw whole t) (rw (R .holds t, R .placed) at p)
-        (rw z at (q (omega (arith, room, ap length p, length-stored l′ place head, R .same))))
+        stored-both l to (R .front) head chunk tail l₁ l₂ (rw whole t) (rw (R .holds t, R .placed) at a)
+        (rw z at (q (omega (arith, room, ap length a, length-stored l′ place head, R .same))))
 
   -- ---- a chunk that is not the last
   module _ (h : 65535 < u) (s : Span) (x : Spans k (rest k m c) 65535 s) where
@@ -101,11 +102,14 @@ module _ {k : Kind} {m w l : List ℕ} {to : ℕ} {c : Cursor} {u n place : ℕ}
     pub part-within : s .bytes ≤ n
     part-within = omega (arith, R .bytes-are, x .bytes, simp length-map at (span-fits 65535 (weights k (rest k m c)) .0))
 
-    pub part-some : 0 < s .bytes
-    part-some = omega (arith, long .3, length-drop (s .bytes) (rest k m c))
+    pub part-inside : s .bytes ≤ length (rest k m c)
+    part-inside = omega (arith, R .bytes-are, part-within)
+
+    pub part-shrinks : n - s .bytes < n
+    part-shrinks = omega (arith, part-within, long .3, length-drop (s .bytes) (rest k m c))
 
     chunk-length : s .bytes ≡ length chunk
-    chunk-length = sym (length-take-le (s .bytes) (rest k m c) (omega (arith, R .bytes-are, part-within)))
+    chunk-length = sym (length-take-le (s .bytes) (rest k m c) part-inside)
 
     chunk-units : s .units + units k behind ≡ u
     chunk-units = ap (λ (i : ℕ). i + units k behind) (x .units-are) ∙ sym (units-append k chunk behind) ∙ ap (units k) (take-append-drop (s .bytes) (rest k m c)) ∙ sym (R .units-are)
@@ -113,15 +117,22 @@ module _ {k : Kind} {m w l : List ℕ} {to : ℕ} {c : Cursor} {u n place : ℕ}
     pub part-less : s .units ≤ u
     part-less = omega (arith, chunk-units)
 
-    whole : R .front ++ (head ++ (chunk ++ spelled k (long .0) behind)) ≡ w
+    whole : R .front ++ (head ++ (chunk ++ spelled k (long .0) behind)) ≡ laid k m p
     whole = ap (λ (v : List ℕ). R .front ++ v) (sym (long .2)) ∙ R .joins
 
     module _ (j : 3 ≡ length head) where
-      pub part-room : place + 3 + s .bytes ≤ to + length w
-      part-room = omega (arith, room head chunk _ whole 3 (s .bytes) j chunk-length)
+      module _ (few : to + length (laid k m p) < 2 ^ 64) where
+        pub part-below : place + 3 + s .bytes < 2 ^ 64
+        part-below = omega (arith, room head chunk _ whole 3 (s .bytes) j chunk-length)
+
+        pub part-start : Fits w64 (place + 3)
+        part-start = record { fits = omega (arith, part-below) }
+
+        pub part-end : Fits w64 (place + 3 + s .bytes)
+        part-end = record { fits = part-below }
 
       pub laying-part : (l₁ : List ℕ) → l₁ ≡ stored l′ place head → (l₂ : List ℕ) (r : Cursor) → Copies k m c (s .bytes) l₁ (place + 3) l₂ r
-          → Laying k m w l to r (u - s .units) (n - s .bytes) (place + (3 + s .bytes)) l₂
+          → Laying k m p l to r (u - s .units) (n - s .bytes) (place + 3 + s .bytes) l₂
       laying-part l₁ e l₂ r y = record {
         going = y .going;
         units-are = rw (y .behind) (omega (arith, chunk-units));
@@ -137,22 +148,35 @@ module _ {k : Kind} {m w l : List ℕ} {to : ℕ} {c : Cursor} {u n place : ℕ}
 
   -- ---- the last chunk: all that is left
   module _ (h : u ≤ 65535) (i : ℕ) (j : i ≡ length (shortestHead (lastHeads k) u)) where
-    ends : R .front ++ (shortestHead (lastHeads k) u ++ (rest k m c ++ [])) ≡ w
+    ends : R .front ++ (shortestHead (lastHeads k) u ++ (rest k m c ++ [])) ≡ laid k m p
     ends =
         ap (λ (v : List ℕ). R .front ++ v)
         (rw (append-nil (rest k m c), R .units-are) (sym (spelled-last k (rest k m c) (omega (arith, R .units-are)) (R .fuel) (R .enough)))) ∙ R .joins
 
-    pub last-room : place + i + n ≡ to + length w
+    last-room : place + i + n ≡ to + length (laid k m p)
     last-room = omega (arith, room (shortestHead (lastHeads k) u) (rest k m c) [] ends i n j (R .bytes-are))
 
+    pub last-behind : to ≤ place + i + n
+    last-behind = omega (arith, last-room)
+
+    module _ (few : to + length (laid k m p) < 2 ^ 64) where
+      pub last-below : place + i + n < 2 ^ 64
+      last-below = omega (arith, last-room)
+
+      pub last-start : Fits w64 (place + i)
+      last-start = record { fits = omega (arith, last-below) }
+
+      pub last-end : Fits w64 (place + i + n)
+      last-end = record { fits = last-below }
+
     pub laying-last : (l₁ : List ℕ) → l₁ ≡ stored l′ place (shortestHead (lastHeads k) u) → (l₂ : List ℕ) (r : Cursor) → Copies k m c n l₁ (place + i) l₂ r
-        → (place + i + n - to ≡ length w) × (to + (place + i + n - to) ≤ length l → l₂ ≡ stored l to w)
-    laying-last l₁ e l₂ r y = (
-      omega (arith, last-room),
-      λ t.
+        → Lays k m p l to l₂ (place + i + n - to)
+    laying-last l₁ e l₂ r y = record {
+      long = omega (arith, last-room);
+      holds = λ t.
           both (shortestHead (lastHeads k) u) (rest k m c) [] ends i n j (R .bytes-are) l₁ l₂ e (λ q. rw all at (y .holds q)) (omega (arith, last-room))
-          ∙ ap (stored l to) (rw (append-nil (rest k m c)) at ends),
-    )
+          ∙ ap (stored l to) (rw (append-nil (rest k m c)) at ends);
+    }
       where
         all : take n (rest k m c) ≡ rest k m c
         all = ap (λ (z : ℕ). take z (rest k m c)) (R .bytes-are) ∙ take-length (rest k m c)

@@ -237,14 +237,16 @@ fn lay(
         let n = s.bytes;
         let u = s.units;
         put_part_head(kind, u, out, place);
-        c = copy(kind, source, c, n, out, place + 3);
-        place += 3 + n;
+        let start = place + 3;
+        c = copy(kind, source, c, n, out, start);
+        place = start + n;
         content -= n;
         rest -= u;
     }
     let h = put_last_head(kind, rest, out, place);
-    copy(kind, source, c, content, out, place + h);
-    place + h + content - to
+    let start = place + h;
+    copy(kind, source, c, content, out, start);
+    start + content - to
 }
 
 // How many bytes the shortest form of the string at `at` takes; 0 where none stands there.

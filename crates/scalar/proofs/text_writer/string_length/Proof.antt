@@ -1,7 +1,6 @@
 -- `text_writer::string_length` meets its contract.
-use native.Mathlib.Omega.{arith}
 use borrow.Author.Needs.{needs}
-use Rattle.scalar.proofs.Laying.{found, not-found, found-item, none-length, some-length}
+use Rattle.scalar.proofs.Laying.{item-counted, item-length, none-length}
 use Rattle.scalar.proofs.text_writer.string_length.Statement.{statement}
 use Rattle.scalar.proofs.text_writer.string_length.Tie as tie
 
@@ -18,13 +17,13 @@ slice-aggregate-lay : tie.Need-slice-aggregate-lay
 slice-aggregate-lay c = search needs
 
 lay-requires : tie.Need-lay-requires
-lay-requires c κs = let f = found _ _ _ (c .before .before .before .before .read-string .ensures) (c .before .before .before .before .before .shared-slice-known .given) _ _ _ (c .before .before .units .given .1) in found-item f 0 (omega (arith, f .short))
+lay-requires c κs = search (item-counted, needs)
 
 returns : tie.Need-returns
-returns c = none-length (not-found _ _ _ (c .before .before .read-string .ensures) _ _ (c .enum-told .given .1))
+returns c = search (none-length, needs)
 
 returns-2 : tie.Need-returns-2
-returns-2 c = some-length ((found _ _ _ (c .before .before .before .before .before .before .read-string .ensures) (c .before .before .before .before .before .before .before .shared-slice-known .given) _ _ _ (c .before .before .before .before .units .given .1)) .form-is) _ (c .before .lay .ensures .long)
+returns-2 c = search (item-length, needs)
 
 pub string-length-spec : {M : Type 1} → statement M
 string-length-spec =

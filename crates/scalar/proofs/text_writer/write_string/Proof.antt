@@ -1,7 +1,7 @@
 -- `text_writer::write_string` meets its contract.
 use native.Mathlib.Omega.{arith}
 use borrow.Author.Needs.{needs}
-use Rattle.scalar.proofs.Laying.{found, not-found, found-item, none-written, written-not, written-whole}
+use Rattle.scalar.proofs.Laying.{item-counted, item-laid, item-not, item-whole, none-written}
 use Rattle.scalar.proofs.text_writer.write_string.Statement.{statement}
 use Rattle.scalar.proofs.text_writer.write_string.Tie as tie
 
@@ -18,25 +18,25 @@ slice-aggregate-lay : tie.Need-slice-aggregate-lay
 slice-aggregate-lay c = search needs
 
 lay-requires : tie.Need-lay-requires
-lay-requires c κs = let f = found _ _ _ (c .before .before .before .before .read-string .ensures) (c .before .before .before .before .before .before .shared-slice-known .given) _ _ _ (c .before .before .units .given .1) in found-item f 0 (omega (arith, f .short))
+lay-requires c κs = search (item-counted, needs)
 
 returns : tie.Need-returns
-returns c = written-not ((found _ _ _ (c .before .before .before .before .before .before .before .read-string .ensures) (c .before .before .before .before .before .before .before .before .before .shared-slice-known .given) _ _ _ (c .before .before .before .before .before .units .given .1)) .form-is) _ (c .before .before .lay .ensures .long) _ _ (omega arith)
+returns c = item-not _ _ _ (c .before .before .before .before .before .before .before .read-string .ensures) (c .before .before .before .before .before .before .before .before .before .shared-slice-known .given) _ _ _ (c .before .before .before .before .before .units .given .1) _ (c .before .before .lay .ensures .long) _ _ (omega arith)
 
 returns-2 : tie.Need-returns-2
-returns-2 c = written-not ((found _ _ _ (c .before .before .before .before .before .before .before .before .read-string .ensures) (c .before .before .before .before .before .before .before .before .before .before .shared-slice-known .given) _ _ _ (c .before .before .before .before .before .before .units .given .1)) .form-is) _ (c .before .before .before .lay .ensures .long) _ _ (omega arith)
+returns-2 c = item-not _ _ _ (c .before .before .before .before .before .before .before .before .read-string .ensures) (c .before .before .before .before .before .before .before .before .before .before .shared-slice-known .given) _ _ _ (c .before .before .before .before .before .before .units .given .1) _ (c .before .before .before .lay .ensures .long) _ _ (omega arith)
 
 lay-requires-2 : tie.Need-lay-requires-2
-lay-requires-2 c κs = found-item (found _ _ _ (c .before .before .before .before .before .before .before .before .before .read-string .ensures) (c .before .before .before .before .before .before .before .before .before .before .before .shared-slice-known .given) _ _ _ (c .before .before .before .before .before .before .before .units .given .1)) _ (omega (arith, c .before .before .before .before .lay .ensures .long))
+lay-requires-2 c κs = item-laid _ _ _ (c .before .before .before .before .before .before .before .before .before .read-string .ensures) (c .before .before .before .before .before .before .before .before .before .before .before .shared-slice-known .given) _ _ _ (c .before .before .before .before .before .before .before .units .given .1) _ (c .before .before .before .before .lay .ensures .long) _ (omega arith)
 
 returns-3 : tie.Need-returns-3
-returns-3 c = none-written (not-found _ _ _ (c .before .before .read-string .ensures) _ _ (c .enum-told .given .1)) _ _
+returns-3 c = none-written _ _ _ (c .before .before .read-string .ensures) _ _ (c .enum-told .given .1) _ _
 
 same-length : tie.Need-same-length
 same-length c = search needs
 
 returns-4 : tie.Need-returns-4
-returns-4 c = written-whole ((found _ _ _ (c .before .before .before .before .before .before .before .before .before .before .before .before .read-string .ensures) (c .before .before .before .before .before .before .before .before .before .before .before .before .before .before .shared-slice-known .given) _ _ _ (c .before .before .before .before .before .before .before .before .before .before .units .given .1)) .form-is) _ (c .before .before .before .before .before .before .before .lay .ensures .long) _ _ (omega arith) _ (c .before .before .lay2 .ensures .holds (omega (arith, c .before .before .lay2 .ensures .long, c .before .before .before .before .before .before .before .lay .ensures .long)))
+returns-4 c = item-whole _ _ _ (c .before .before .before .before .before .before .before .before .before .before .before .before .read-string .ensures) (c .before .before .before .before .before .before .before .before .before .before .before .before .before .before .shared-slice-known .given) _ _ _ (c .before .before .before .before .before .before .before .before .before .before .units .given .1) _ (c .before .before .before .before .before .before .before .lay .ensures .long) _ _ (omega arith) _ _ (c .before .before .lay2 .ensures)
 
 pub write-string-spec : {M : Type 1} → statement M
 write-string-spec =
