@@ -26,9 +26,6 @@ mul-v c = omega arith
 shared-slice-read-wide : tie.Need-shared-slice-read-wide Inv-loop μ-loop
 shared-slice-read-wide c = omega (arith, ltb-true)
 
-wide-requires : tie.Need-wide-requires Inv-loop μ-loop
-wide-requires c κs = search needs
-
 add-v : tie.Need-add-v Inv-loop μ-loop
 add-v c = omega (arith, c .wide .ensures, c .before .shared-slice-known2 .given (c .before .before .before .before .loop .here))
 
@@ -68,7 +65,7 @@ number-at-spec =
     loop-holds
     mul-v
     shared-slice-read-wide
-    wide-requires
+    (λ c κs. search needs)
     add-v
     add-here
     sub-left

@@ -6,12 +6,9 @@ use Rattle.scalar.proofs.Table.{at}
 use Rattle.scalar.proofs.chart.entry.Statement.{statement}
 use Rattle.scalar.proofs.chart.entry.Tie as tie
 
-array-read-result : tie.Need-array-read-result
-array-read-result c = search needs
-
 returns : tie.Need-returns
 unfolding entry kindOf leadOf followOf rangeOf ranges pick
 returns c = at entry 256 (c .args .b) (c .fits .b .fits)
 
 pub entry-spec : {M : Type 1} → statement M
-entry-spec = tie.close (tie.spec array-read-result returns)
+entry-spec = tie.close (tie.spec (λ c. search needs) returns)

@@ -6,14 +6,8 @@ use Rattle.scalar.specs.ChartLaws.{entry-parts}
 use Rattle.scalar.proofs.chart.following.Statement.{statement}
 use Rattle.scalar.proofs.chart.following.Tie as tie
 
-entry-requires : tie.Need-entry-requires
-entry-requires c κs = search needs
-
-cast-result : tie.Need-cast-result
-cast-result c = search needs
-
 returns : tie.Need-returns
 returns c = ap (λ (n : ℕ). n % 10) (c .entry .ensures) ∙ entry-parts (c .before .args .b) (c .before .fits .b .fits) .1
 
 pub following-spec : {M : Type 1} → statement M
-following-spec = tie.close (tie.spec entry-requires cast-result returns)
+following-spec = tie.close (tie.spec (λ c κs. search needs) (λ c. search needs) returns)

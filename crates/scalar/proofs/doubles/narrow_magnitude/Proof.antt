@@ -6,35 +6,14 @@ use Rattle.scalar.specs.DoubleLaws.{narrow-top, narrow-normal, narrow-hi
 use Rattle.scalar.proofs.doubles.narrow_magnitude.Statement.{statement}
 use Rattle.scalar.proofs.doubles.narrow_magnitude.Tie as tie
 
-add-result : tie.Need-add-result
-add-result c = search needs
-
 returns : tie.Need-returns
 returns c = (sym (narrow-top _ _ (c .if1 .taken)), omega arith)
-
-sub-result : tie.Need-sub-result
-sub-result c = search needs
-
-mul-result : tie.Need-mul-result
-mul-result c = search needs
-
-add-result-2 : tie.Need-add-result-2
-add-result-2 c = search needs
 
 returns-2 : tie.Need-returns-2
 returns-2 c = (sym (narrow-normal _ _ (omega arith) (omega arith)), omega arith)
 
 returns-3 : tie.Need-returns-3
 returns-3 c = (sym (narrow-high _ _ (c .before .before .if1 .left) (omega arith)), omega arith)
-
-add-result-3 : tie.Need-add-result-3
-add-result-3 c = search needs
-
-sub-result-2 : tie.Need-sub-result-2
-sub-result-2 c = search needs
-
-shr-result : tie.Need-shr-result
-shr-result c = search needs
 
 returns-4 : tie.Need-returns-4
 returns-4 c =
@@ -48,15 +27,15 @@ pub narrow-magnitude-spec : {M : Type 1} → statement M
 narrow-magnitude-spec =
     tie.close
     (tie.spec
-    add-result
+    (λ c. search needs)
     returns
-    sub-result
-    mul-result
-    add-result-2
+    (λ c. search needs)
+    (λ c. search needs)
+    (λ c. search needs)
     returns-2
     returns-3
-    add-result-3
-    sub-result-2
-    shr-result
+    (λ c. search needs)
+    (λ c. search needs)
+    (λ c. search needs)
     returns-4
     returns-5)

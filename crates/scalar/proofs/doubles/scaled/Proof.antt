@@ -14,14 +14,8 @@ few c = lz-lt (c .args .m) (c .pre .0) (omega arith)
 cast-zeros : tie.Need-cast-zeros
 cast-zeros c = omega (arith, few c)
 
-sub-result : tie.Need-sub-result
-sub-result c = search needs
-
 sub-result-2 : tie.Need-sub-result-2
 sub-result-2 c = omega (arith, few c)
-
-mul-result : tie.Need-mul-result
-mul-result c = search needs
 
 add-result : tie.Need-add-result
 add-result c = omega (arith, few c)
@@ -40,9 +34,9 @@ scaled-spec =
     tie.close
     (tie.spec
     cast-zeros
-    sub-result
+    (λ c. search needs)
     sub-result-2
-    mul-result
+    (λ c. search needs)
     add-result
     shl-result
     add-result-2

@@ -8,9 +8,6 @@ use Rattle.scalar.specs.Ieee.{ofInt-no-nan, whole-agrees}
 use Rattle.scalar.proofs.doubles.whole.Statement.{statement}
 use Rattle.scalar.proofs.doubles.whole.Tie as tie
 
-int-to-float-result : tie.Need-int-to-float-result
-int-to-float-result c = search needs
-
 float-to-bits-result : tie.Need-float-to-bits-result
 float-to-bits-result c = ofInt-no-nan _ _
 
@@ -21,4 +18,4 @@ returns c =
     rw (toZ-ofZ w16 n f) (sym (whole-agrees n (omega (arith, f .sfits))))
 
 pub whole-spec : {M : Type 1} → statement M
-whole-spec = tie.close (tie.spec int-to-float-result float-to-bits-result returns)
+whole-spec = tie.close (tie.spec (λ c. search needs) float-to-bits-result returns)

@@ -9,20 +9,8 @@ use Rattle.scalar.specs.Doubles.{whole}
 use Rattle.scalar.proofs.doubles.whole_byte.Statement.{statement}
 use Rattle.scalar.proofs.doubles.whole_byte.Tie as tie
 
-cast-whole : tie.Need-cast-whole
-cast-whole c = search needs
-
-whole-requires : tie.Need-whole-requires
-whole-requires c κs = search needs
-
-cast-whole-2 : tie.Need-cast-whole-2
-cast-whole-2 c = search needs
-
 sub-whole : tie.Need-sub-whole
 sub-whole c = lowered w16 w8 (c .before .args .u) (omega arith) (omega arith) (omega arith) .0
-
-whole-requires-2 : tie.Need-whole-requires-2
-whole-requires-2 c κs = search needs
 
 returns : tie.Need-returns
 returns c =
@@ -35,4 +23,4 @@ returns-2 c = c .whole2 .ensures ∙ ap whole (lowered w16 w8 (c .before .before
 pub whole-byte-spec : {M : Type 1} → statement M
 whole-byte-spec =
     tie.close
-    (tie.spec cast-whole whole-requires cast-whole-2 sub-whole whole-requires-2 returns returns-2)
+    (tie.spec (λ c. search needs) (λ c κs. search needs) (λ c. search needs) sub-whole (λ c κs. search needs) returns returns-2)

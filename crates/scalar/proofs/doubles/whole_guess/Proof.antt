@@ -8,18 +8,6 @@ use Rattle.scalar.specs.Doubles.{wholeGuess}
 use Rattle.scalar.proofs.doubles.whole_guess.Statement.{statement}
 use Rattle.scalar.proofs.doubles.whole_guess.Tie as tie
 
-whole-size-requires : tie.Need-whole-size-requires
-whole-size-requires c κs = search needs
-
-rem-result : tie.Need-rem-result
-rem-result c = search needs
-
-sub-result : tie.Need-sub-result
-sub-result c = search needs
-
-rem-result-2 : tie.Need-rem-result-2
-rem-result-2 c = search needs
-
 returns : tie.Need-returns
 unfolding wholeGuess
 returns c =
@@ -34,4 +22,4 @@ returns-2 c =
 
 pub whole-guess-spec : {M : Type 1} → statement M
 whole-guess-spec =
-    tie.close (tie.spec whole-size-requires rem-result sub-result rem-result-2 returns returns-2)
+    tie.close (tie.spec (λ c κs. search needs) (λ c. search needs) (λ c. search needs) (λ c. search needs) returns returns-2)

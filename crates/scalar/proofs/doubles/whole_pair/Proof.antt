@@ -9,26 +9,11 @@ use Rattle.scalar.specs.Doubles.{whole}
 use Rattle.scalar.proofs.doubles.whole_pair.Statement.{statement}
 use Rattle.scalar.proofs.doubles.whole_pair.Tie as tie
 
-cast-whole : tie.Need-cast-whole
-cast-whole c = search needs
-
-whole-requires : tie.Need-whole-requires
-whole-requires c κs = search needs
-
-cast-whole-2 : tie.Need-cast-whole-2
-cast-whole-2 c = search needs
-
 sub-whole : tie.Need-sub-whole
 sub-whole c = lowered w32 w16 (c .before .args .u) (omega arith) (omega arith) (omega arith) .0
 
 cast-whole-3 : tie.Need-cast-whole-3
 cast-whole-3 c = rw (lowered w32 w16 (c .before .args .u) (omega arith) (omega arith) (omega arith) .1) (toZ-fits w16 (c .before .args .u) (omega arith))
-
-whole-requires-2 : tie.Need-whole-requires-2
-whole-requires-2 c κs = search needs
-
-returns : tie.Need-returns
-returns c = search needs
 
 returns-2 : tie.Need-returns-2
 returns-2 c =
@@ -38,11 +23,11 @@ pub whole-pair-spec : {M : Type 1} → statement M
 whole-pair-spec =
     tie.close
     (tie.spec
-    cast-whole
-    whole-requires
-    cast-whole-2
+    (λ c. search needs)
+    (λ c κs. search needs)
+    (λ c. search needs)
     sub-whole
     cast-whole-3
-    whole-requires-2
-    returns
+    (λ c κs. search needs)
+    (λ c. search needs)
     returns-2)

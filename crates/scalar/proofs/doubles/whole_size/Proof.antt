@@ -6,15 +6,6 @@ use Rattle.scalar.specs.DoubleLaws.{size-in, size-high, size-low, size-l
 use Rattle.scalar.proofs.doubles.whole_size.Statement.{statement}
 use Rattle.scalar.proofs.doubles.whole_size.Tie as tie
 
-add-result : tie.Need-add-result
-add-result c = search needs
-
-sub-result : tie.Need-sub-result
-sub-result c = search needs
-
-shr-result : tie.Need-shr-result
-shr-result c = search needs
-
 returns : tie.Need-returns
 returns c =
     let a = c .before .before .args in
@@ -28,4 +19,4 @@ returns-3 : tie.Need-returns-3
 returns-3 c = (sym (size-low _ _ (omega arith)), omega arith)
 
 pub whole-size-spec : {M : Type 1} → statement M
-whole-size-spec = tie.close (tie.spec add-result sub-result shr-result returns returns-2 returns-3)
+whole-size-spec = tie.close (tie.spec (λ c. search needs) (λ c. search needs) (λ c. search needs) returns returns-2 returns-3)

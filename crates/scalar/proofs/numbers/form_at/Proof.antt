@@ -4,48 +4,6 @@ use Rattle.scalar.specs.Numbers.{formsOf}
 use Rattle.scalar.proofs.numbers.form_at.Statement.{statement}
 use Rattle.scalar.proofs.numbers.form_at.Tie as tie
 
-enum-told : tie.Need-enum-told
-enum-told c = search needs
-
-single-form-requires : tie.Need-single-form-requires
-single-form-requires c κs = search needs
-
-enum-told-2 : tie.Need-enum-told-2
-enum-told-2 c = search needs
-
-single-form-requires-2 : tie.Need-single-form-requires-2
-single-form-requires-2 c κs = search needs
-
-enum-told-3 : tie.Need-enum-told-3
-enum-told-3 c = search needs
-
-single-form-requires-3 : tie.Need-single-form-requires-3
-single-form-requires-3 c κs = search needs
-
-enum-told-4 : tie.Need-enum-told-4
-enum-told-4 c = search needs
-
-int-form-requires : tie.Need-int-form-requires
-int-form-requires c κs = search needs
-
-enum-told-5 : tie.Need-enum-told-5
-enum-told-5 c = search needs
-
-long-form-requires : tie.Need-long-form-requires
-long-form-requires c κs = search needs
-
-enum-told-6 : tie.Need-enum-told-6
-enum-told-6 c = search needs
-
-double-form-requires : tie.Need-double-form-requires
-double-form-requires c κs = search needs
-
-enum-told-7 : tie.Need-enum-told-7
-enum-told-7 c = search needs
-
-date-form-requires : tie.Need-date-form-requires
-date-form-requires c κs = search needs
-
 returns : tie.Need-returns
 unfolding formsOf
 returns c = rw (c .before .enum-told .given .1) (c .single-form .ensures)
@@ -78,20 +36,20 @@ pub form-at-spec : {M : Type 1} → statement M
 form-at-spec =
     tie.close
     (tie.spec
-    enum-told
-    single-form-requires
-    enum-told-2
-    single-form-requires-2
-    enum-told-3
-    single-form-requires-3
-    enum-told-4
-    int-form-requires
-    enum-told-5
-    long-form-requires
-    enum-told-6
-    double-form-requires
-    enum-told-7
-    date-form-requires
+    (λ c. search needs)
+    (λ c κs. search needs)
+    (λ c. search needs)
+    (λ c κs. search needs)
+    (λ c. search needs)
+    (λ c κs. search needs)
+    (λ c. search needs)
+    (λ c κs. search needs)
+    (λ c. search needs)
+    (λ c κs. search needs)
+    (λ c. search needs)
+    (λ c κs. search needs)
+    (λ c. search needs)
+    (λ c κs. search needs)
     returns
     returns-2
     returns-3

@@ -4,45 +4,6 @@ use Rattle.scalar.specs.Numbers.{guess}
 use Rattle.scalar.proofs.numbers.guess.Statement.{statement}
 use Rattle.scalar.proofs.numbers.guess.Tie as tie
 
-enum-told : tie.Need-enum-told
-enum-told c = search needs
-
-enum-told-2 : tie.Need-enum-told-2
-enum-told-2 c = search needs
-
-enum-known-rule : tie.Need-enum-known-rule
-enum-known-rule c = search needs
-
-wrapping-add-u64-requires : tie.Need-wrapping-add-u64-requires
-wrapping-add-u64-requires c κs = search needs
-
-enum-told-3 : tie.Need-enum-told-3
-enum-told-3 c = search needs
-
-enum-told-4 : tie.Need-enum-told-4
-enum-told-4 c = search needs
-
-minutes-requires : tie.Need-minutes-requires
-minutes-requires c κs = search needs
-
-enum-told-5 : tie.Need-enum-told-5
-enum-told-5 c = search needs
-
-whole-guess-requires : tie.Need-whole-guess-requires
-whole-guess-requires c κs = search needs
-
-enum-told-6 : tie.Need-enum-told-6
-enum-told-6 c = search needs
-
-whole-guess-requires-2 : tie.Need-whole-guess-requires-2
-whole-guess-requires-2 c κs = search needs
-
-enum-told-7 : tie.Need-enum-told-7
-enum-told-7 c = search needs
-
-narrowed-requires : tie.Need-narrowed-requires
-narrowed-requires c κs = search needs
-
 returns : tie.Need-returns
 unfolding guess
 returns c = rw (c .enum-told .given .1)
@@ -79,19 +40,19 @@ pub guess-spec : {M : Type 1} → statement M
 guess-spec =
     tie.close
     (tie.spec
-    enum-told
-    enum-told-2
-    enum-known-rule
-    wrapping-add-u64-requires
-    enum-told-3
-    enum-told-4
-    minutes-requires
-    enum-told-5
-    whole-guess-requires
-    enum-told-6
-    whole-guess-requires-2
-    enum-told-7
-    narrowed-requires
+    (λ c. search needs)
+    (λ c. search needs)
+    (λ c. search needs)
+    (λ c κs. search needs)
+    (λ c. search needs)
+    (λ c. search needs)
+    (λ c κs. search needs)
+    (λ c. search needs)
+    (λ c κs. search needs)
+    (λ c. search needs)
+    (λ c κs. search needs)
+    (λ c. search needs)
+    (λ c κs. search needs)
     returns
     returns-2
     returns-3

@@ -4,17 +4,8 @@ use Rattle.scalar.proofs.Writing.{few-more, form-length, absent-length}
 use Rattle.scalar.proofs.numbers.number_length.Statement.{statement}
 use Rattle.scalar.proofs.numbers.number_length.Tie as tie
 
-spell-requires : tie.Need-spell-requires
-spell-requires c κs = search needs
-
-enum-known-more : tie.Need-enum-known-more
-enum-known-more c = search needs
-
 add-result : tie.Need-add-result
 add-result c = search (few-more, needs)
-
-enum-told : tie.Need-enum-told
-enum-told c = search needs
 
 returns : tie.Need-returns
 returns c = search (form-length, needs)
@@ -24,4 +15,4 @@ returns-2 c = search (absent-length, needs)
 
 pub number-length-spec : {M : Type 1} → statement M
 number-length-spec =
-    tie.close (tie.spec spell-requires enum-known-more add-result enum-told returns returns-2)
+    tie.close (tie.spec (λ c κs. search needs) (λ c. search needs) add-result (λ c. search needs) returns returns-2)

@@ -10,20 +10,8 @@ use Rattle.scalar.proofs.numbers.store.Tie as tie
 returns : tie.Need-returns
 returns c = store-none _ _ _ _ _ (omega arith)
 
-sub-if2 : tie.Need-sub-if2
-sub-if2 c = search needs
-
 returns-2 : tie.Need-returns-2
 returns-2 c = store-none _ _ _ _ _ (omega arith)
-
-slice-write-out : tie.Need-slice-write-out
-slice-write-out c = search needs
-
-add-store-number : tie.Need-add-store-number
-add-store-number c = search needs
-
-store-number-requires : tie.Need-store-number-requires
-store-number-requires c κs = search needs
 
 same-length : tie.Need-same-length
 same-length c = c .before .before .store-number .kept .0 ∙ simp length-set
@@ -36,10 +24,10 @@ store-spec =
     tie.close
     (tie.spec
     returns
-    sub-if2
+    (λ c. search needs)
     returns-2
-    slice-write-out
-    add-store-number
-    store-number-requires
+    (λ c. search needs)
+    (λ c. search needs)
+    (λ c κs. search needs)
     same-length
     returns-3)

@@ -4,23 +4,8 @@ use Rattle.scalar.proofs.Writing.{few-more, written-whole, written-not,
 use Rattle.scalar.proofs.numbers.write_number.Statement.{statement}
 use Rattle.scalar.proofs.numbers.write_number.Tie as tie
 
-spell-requires : tie.Need-spell-requires
-spell-requires c κs = search needs
-
-enum-told : tie.Need-enum-told
-enum-told c = search needs
-
-enum-known-code : tie.Need-enum-known-code
-enum-known-code c = search needs
-
-store-requires : tie.Need-store-requires
-store-requires c κs = search needs
-
 add-t13 : tie.Need-add-t13
 add-t13 c = search (few-more, needs)
-
-same-length : tie.Need-same-length
-same-length c = search needs
 
 returns : tie.Need-returns
 returns c = written-whole (c .before .before .before .before .before .before .before .before .spell .ensures) (c .before .before .before .before .before .before .code .given .1) _ _ (c .before .before .before .store .ensures) (c .if1 .taken)
@@ -31,9 +16,6 @@ add-t14 c = search (few-more, needs)
 returns-2 : tie.Need-returns-2
 returns-2 c = absent-written (c .before .before .spell .ensures) (c .enum-told .given .1) _ _
 
-same-length-2 : tie.Need-same-length-2
-same-length-2 c = search needs
-
 returns-3 : tie.Need-returns-3
 returns-3 c = written-not (c .before .before .before .before .before .before .before .before .spell .ensures) (c .before .before .before .before .before .before .code .given .1) _ _ (c .before .before .before .store .ensures) (c .if1 .left)
 
@@ -41,14 +23,14 @@ pub write-number-spec : {M : Type 1} → statement M
 write-number-spec =
     tie.close
     (tie.spec
-    spell-requires
-    enum-told
-    enum-known-code
-    store-requires
+    (λ c κs. search needs)
+    (λ c. search needs)
+    (λ c. search needs)
+    (λ c κs. search needs)
     add-t13
-    same-length
+    (λ c. search needs)
     returns
     add-t14
     returns-2
-    same-length-2
+    (λ c. search needs)
     returns-3)

@@ -17,21 +17,12 @@ fits c = minus-fits (c .args .u) (c .args .k) (omega arith) (omega arith)
 same : (c : tie.Start) → toZ w64 (c .args .u) -ℤ toZ w64 (c .args .k) ≡ pos (c .args .u) -ℤ pos (c .args .k)
 same c = rw (toZ-pos w64 (c .args .u) (omega arith), toZ-pos w64 (c .args .k) (omega arith))
 
-cast-bits-of : tie.Need-cast-bits-of
-cast-bits-of c = search needs
-
-cast-bits-of-2 : tie.Need-cast-bits-of-2
-cast-bits-of-2 c = search needs
-
 sub-bits-of : tie.Need-sub-bits-of
 sub-bits-of c = rw (same c) (fits c)
-
-bits-of-requires : tie.Need-bits-of-requires
-bits-of-requires c κs = search needs
 
 returns : tie.Need-returns
 returns c =
     rw (same (c .before), toZ-ofZ w64 (pos (c .before .args .u) -ℤ pos (c .before .args .k)) (fits (c .before))) at (c .bits-of .ensures)
 
 pub less-spec : {M : Type 1} → statement M
-less-spec = tie.close (tie.spec cast-bits-of cast-bits-of-2 sub-bits-of bits-of-requires returns)
+less-spec = tie.close (tie.spec (λ c. search needs) (λ c. search needs) sub-bits-of (λ c κs. search needs) returns)

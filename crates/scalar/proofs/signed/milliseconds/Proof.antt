@@ -17,14 +17,8 @@ same : (c : tie.After-signed-32) → toZ w64 (ofZ w64 (c .signed-32 .result)) �
 same c =
     rw (c .signed-32 .ensures) (toZ-ofZ w64 (toZ w32 (c .before .args .n)) (widen-fits (toZ w32 (c .before .args .n)) (fits (c .before))))
 
-signed-32-requires : tie.Need-signed-32-requires
-signed-32-requires c κs = search needs
-
 mul-bits-of : tie.Need-mul-bits-of
 mul-bits-of c = rw (same c) (mul-fits (toZ w32 (c .before .args .n)) (fits (c .before)))
-
-bits-of-requires : tie.Need-bits-of-requires
-bits-of-requires c κs = search needs
 
 returns : tie.Need-returns
 returns c =
@@ -32,4 +26,4 @@ returns c =
     rw (same (c .before), toZ-ofZ w64 (m *ℤ pos 60000) (mul-fits m (fits (c .before .before)))) at (c .bits-of .ensures)
 
 pub milliseconds-spec : {M : Type 1} → statement M
-milliseconds-spec = tie.close (tie.spec signed-32-requires mul-bits-of bits-of-requires returns)
+milliseconds-spec = tie.close (tie.spec (λ c κs. search needs) mul-bits-of (λ c κs. search needs) returns)

@@ -18,14 +18,8 @@ fits c = toZ-fits w64 (c .args .v) (c .fits .v)
 same : (c : tie.After-of-bits) → toZ w64 (ofZ w64 (c .of-bits .result)) ≡ toZ w64 (c .before .args .v)
 same c = rw (c .of-bits .ensures) (toZ-ofZ w64 (toZ w64 (c .before .args .v)) (fits (c .before)))
 
-of-bits-requires : tie.Need-of-bits-requires
-of-bits-requires c κs = search needs
-
 div-bits-of : tie.Need-div-bits-of
 div-bits-of c = rw (same c) (omega arith, quot-fits (toZ w64 (c .before .args .v)) (fits (c .before)))
-
-bits-of-requires : tie.Need-bits-of-requires
-bits-of-requires c κs = search needs
 
 returns : tie.Need-returns
 returns c =
@@ -33,4 +27,4 @@ returns c =
     rw (rw (same (c .before), toZ-ofZ w64 (quotZ m (pos 60000)) (quot-fits m (fits (c .before .before)))) at (c .bits-of .ensures))
 
 pub minutes-spec : {M : Type 1} → statement M
-minutes-spec = tie.close (tie.spec of-bits-requires div-bits-of bits-of-requires returns)
+minutes-spec = tie.close (tie.spec (λ c κs. search needs) div-bits-of (λ c κs. search needs) returns)

@@ -15,20 +15,8 @@ use Rattle.scalar.proofs.signed.of_bits.Tie as tie
 is-neg : (c : tie.Else1) → negsuc 0 -ℤ toZ w64 (18446744073709551615 - c .before .args .n) ≡ negsuc (18446744073709551615 - c .before .args .n)
 is-neg c = rw (toZ-pos w64 (18446744073709551615 - c .before .args .n) (omega arith)) (unflip (18446744073709551615 - c .before .args .n))
 
-cast-result : tie.Need-cast-result
-cast-result c = search needs
-
-sub-result : tie.Need-sub-result
-sub-result c = search needs
-
-cast-result-2 : tie.Need-cast-result-2
-cast-result-2 c = search needs
-
 sub-result-2 : tie.Need-sub-result-2
 sub-result-2 c = rw (is-neg c) (record { sfits = omega arith })
-
-returns : tie.Need-returns
-returns c = search needs
 
 returns-2 : tie.Need-returns-2
 returns-2 c =
@@ -36,4 +24,4 @@ returns-2 c =
 
 pub of-bits-spec : {M : Type 1} → statement M
 of-bits-spec =
-    tie.close (tie.spec cast-result sub-result cast-result-2 sub-result-2 returns returns-2)
+    tie.close (tie.spec (λ c. search needs) (λ c. search needs) (λ c. search needs) sub-result-2 (λ c. search needs) returns-2)

@@ -17,12 +17,6 @@ is-neg c = rw (toZ-pos w64 (c .before .args .n) (omega arith)) (less-32 (c .befo
 fits : (c : tie.Else1) → SFits w64 (toZ w32 (c .before .args .n))
 fits c = widen-fits (toZ w32 (c .before .args .n)) (fits-32 (c .before .args .n) (omega arith))
 
-cast-result : tie.Need-cast-result
-cast-result c = search needs
-
-cast-result-2 : tie.Need-cast-result-2
-cast-result-2 c = search needs
-
 sub-result : tie.Need-sub-result
 sub-result c = rw (is-neg c) (fits c)
 
@@ -33,4 +27,4 @@ returns-2 : tie.Need-returns-2
 returns-2 c = rw (is-neg c) (toZ-ofZ w64 (toZ w32 (c .before .args .n)) (fits c))
 
 pub signed-32-spec : {M : Type 1} → statement M
-signed-32-spec = tie.close (tie.spec cast-result cast-result-2 sub-result returns returns-2)
+signed-32-spec = tie.close (tie.spec (λ c. search needs) (λ c. search needs) sub-result returns returns-2)

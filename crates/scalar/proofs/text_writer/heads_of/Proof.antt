@@ -5,12 +5,6 @@ use Rattle.scalar.specs.Texts.{lastHeads, partHead}
 use Rattle.scalar.proofs.text_writer.heads_of.Statement.{statement}
 use Rattle.scalar.proofs.text_writer.heads_of.Tie as tie
 
-enum-told : tie.Need-enum-told
-enum-told c = search needs
-
-enum-told-2 : tie.Need-enum-told-2
-enum-told-2 c = search needs
-
 returns : tie.Need-returns
 unfolding lastHeads partHead
 returns c = rw (c .enum-told .given .1) (record { last = refl; part = refl; bytes = search needs })
@@ -20,4 +14,4 @@ unfolding lastHeads partHead
 returns-2 c = rw (c .enum-told2 .given .1) (record { last = refl; part = refl; bytes = search needs })
 
 pub heads-of-spec : {M : Type 1} → statement M
-heads-of-spec = tie.close (tie.spec enum-told enum-told-2 returns returns-2)
+heads-of-spec = tie.close (tie.spec (λ c. search needs) (λ c. search needs) returns returns-2)

@@ -12,14 +12,8 @@ Inv-loop kind source at units bytes out₀ to c₀ rest₀ content₀ place₀ o
 abbrev μ-loop : tie.MeasureT-loop
 μ-loop kind source at units bytes out₀ to c₀ rest₀ content₀ place₀ out c rest content place = content
 
-open-requires : tie.Need-open-requires Inv-loop μ-loop
-open-requires c κs = search needs
-
 loop-holds : tie.Need-loop-holds Inv-loop μ-loop
 loop-holds c = search (laying-start, needs)
-
-span-of-requires : tie.Need-span-of-requires Inv-loop μ-loop
-span-of-requires c κs = search needs
 
 put-part-head-requires : tie.Need-put-part-head-requires Inv-loop μ-loop
 put-part-head-requires c κs = search (part-few, needs)
@@ -48,9 +42,6 @@ loop-again c =
     laying-part (p .before .before .before .before .loop .inv) (p .before .before .before .loop-test .taken) _ (p .before .before .span-of .ensures) (p .put-part-head .ensures .0) _ (p .put-part-head .ensures .1) _ _
     (c .before .before .copy .ensures)
 
-put-last-head-requires : tie.Need-put-last-head-requires Inv-loop μ-loop
-put-last-head-requires c κs = search needs
-
 add-start-2 : tie.Need-add-start-2 Inv-loop μ-loop
 add-start-2 c = search (last-start, needs)
 
@@ -77,9 +68,9 @@ lay-spec =
     (tie.spec
     Inv-loop
     μ-loop
-    open-requires
+    (λ c κs. search needs)
     loop-holds
-    span-of-requires
+    (λ c κs. search needs)
     put-part-head-requires
     add-start
     copy-requires
@@ -88,7 +79,7 @@ lay-spec =
     sub-rest
     loop-less
     loop-again
-    put-last-head-requires
+    (λ c κs. search needs)
     add-start-2
     copy-requires-2
     add-result

@@ -6,15 +6,6 @@ use Rattle.scalar.proofs.Strings.{chunk-says}
 use Rattle.scalar.proofs.text_writer.open.Statement.{statement}
 use Rattle.scalar.proofs.text_writer.open.Tie as tie
 
-chunk-requires : tie.Need-chunk-requires
-chunk-requires c κs = search needs
-
-enum-told : tie.Need-enum-told
-enum-told c = search needs
-
-enum-known-h : tie.Need-enum-known-h
-enum-known-h c = search needs
-
 add-t9 : tie.Need-add-t9
 add-t9 c = omega (arith, chunk-says (c .before .before .before .chunk .ensures) (c .before .h .given .1))
 
@@ -25,4 +16,4 @@ returns-2 : tie.Need-returns-2
 returns-2 c = opens-chunk _ _ _ _ _ _ _ (chunk-says (c .before .before .before .chunk .ensures) (c .before .h .given .1))
 
 pub open-spec : {M : Type 1} → statement M
-open-spec = tie.close (tie.spec chunk-requires enum-told enum-known-h add-t9 returns returns-2)
+open-spec = tie.close (tie.spec (λ c κs. search needs) (λ c. search needs) (λ c. search needs) add-t9 returns returns-2)

@@ -6,21 +6,6 @@ use Rattle.scalar.proofs.Laying.{head-stored}
 use Rattle.scalar.proofs.text_writer.put_part_head.Statement.{statement}
 use Rattle.scalar.proofs.text_writer.put_part_head.Tie as tie
 
-heads-of-requires : tie.Need-heads-of-requires
-heads-of-requires c κs = search needs
-
-mul-store-number : tie.Need-mul-store-number
-mul-store-number c = search needs
-
-add-store-number : tie.Need-add-store-number
-add-store-number c = search needs
-
-store-number-requires : tie.Need-store-number-requires
-store-number-requires c κs = search needs
-
-same-length : tie.Need-same-length
-same-length c = search needs
-
 returns : tie.Need-returns
 returns c = head-stored _ _ _ _ _ (part-three (c .before .before .before .before .before .heads-of .ensures) _ (omega arith)) (c .before .before .store-number .ensures .1)
 
@@ -28,9 +13,9 @@ pub put-part-head-spec : {M : Type 1} → statement M
 put-part-head-spec =
     tie.close
     (tie.spec
-    heads-of-requires
-    mul-store-number
-    add-store-number
-    store-number-requires
-    same-length
+    (λ c κs. search needs)
+    (λ c. search needs)
+    (λ c. search needs)
+    (λ c κs. search needs)
+    (λ c. search needs)
     returns)

@@ -4,18 +4,6 @@ use Rattle.scalar.proofs.Laying.{item-counted, item-length, none-length
 use Rattle.scalar.proofs.text_writer.string_length.Statement.{statement}
 use Rattle.scalar.proofs.text_writer.string_length.Tie as tie
 
-read-string-requires : tie.Need-read-string-requires
-read-string-requires c κs = search needs
-
-enum-told : tie.Need-enum-told
-enum-told c = search needs
-
-enum-known-units : tie.Need-enum-known-units
-enum-known-units c = search needs
-
-slice-aggregate-lay : tie.Need-slice-aggregate-lay
-slice-aggregate-lay c = search needs
-
 lay-requires : tie.Need-lay-requires
 lay-requires c κs = search (item-counted, needs)
 
@@ -29,10 +17,10 @@ pub string-length-spec : {M : Type 1} → statement M
 string-length-spec =
     tie.close
     (tie.spec
-    read-string-requires
-    enum-told
-    enum-known-units
-    slice-aggregate-lay
+    (λ c κs. search needs)
+    (λ c. search needs)
+    (λ c. search needs)
+    (λ c. search needs)
     lay-requires
     returns
     returns-2)

@@ -6,15 +6,6 @@ use Rattle.scalar.specs.TextUnits.{light, single-low, single-high, doubl
 use Rattle.scalar.proofs.text_writer.weight.Statement.{statement}
 use Rattle.scalar.proofs.text_writer.weight.Tie as tie
 
-enum-told : tie.Need-enum-told
-enum-told c = search needs
-
-enum-told-2 : tie.Need-enum-told-2
-enum-told-2 c = search needs
-
-returns : tie.Need-returns
-returns c = search needs
-
 returns-2 : tie.Need-returns-2
 returns-2 c = rw (c .before .before .enum-told2 .given .1) (sym (light (c .before .before .before .before .args .b) (omega arith) (omega arith)))
 
@@ -29,4 +20,4 @@ returns-5 c = rw (c .before .before .before .enum-told2 .given .1) (sym (single-
 
 pub weight-spec : {M : Type 1} → statement M
 weight-spec =
-    tie.close (tie.spec enum-told enum-told-2 returns returns-2 returns-3 returns-4 returns-5)
+    tie.close (tie.spec (λ c. search needs) (λ c. search needs) (λ c. search needs) returns-2 returns-3 returns-4 returns-5)

@@ -5,18 +5,6 @@ use Rattle.scalar.proofs.Laying.{item-counted, item-laid, item-not, ite
 use Rattle.scalar.proofs.text_writer.write_string.Statement.{statement}
 use Rattle.scalar.proofs.text_writer.write_string.Tie as tie
 
-read-string-requires : tie.Need-read-string-requires
-read-string-requires c κs = search needs
-
-enum-told : tie.Need-enum-told
-enum-told c = search needs
-
-enum-known-units : tie.Need-enum-known-units
-enum-known-units c = search needs
-
-slice-aggregate-lay : tie.Need-slice-aggregate-lay
-slice-aggregate-lay c = search needs
-
 lay-requires : tie.Need-lay-requires
 lay-requires c κs = search (item-counted, needs)
 
@@ -32,9 +20,6 @@ lay-requires-2 c κs = item-laid _ _ _ (c .before .before .before .before .befor
 returns-3 : tie.Need-returns-3
 returns-3 c = none-written _ _ _ (c .before .before .read-string .ensures) _ _ (c .enum-told .given .1) _ _
 
-same-length : tie.Need-same-length
-same-length c = search needs
-
 returns-4 : tie.Need-returns-4
 returns-4 c = item-whole _ _ _ (c .before .before .before .before .before .before .before .before .before .before .before .before .read-string .ensures) (c .before .before .before .before .before .before .before .before .before .before .before .before .before .before .shared-slice-known .given) _ _ _ (c .before .before .before .before .before .before .before .before .before .before .units .given .1) _ (c .before .before .before .before .before .before .before .lay .ensures .long) _ _ (omega arith) _ _ (c .before .before .lay2 .ensures)
 
@@ -42,14 +27,14 @@ pub write-string-spec : {M : Type 1} → statement M
 write-string-spec =
     tie.close
     (tie.spec
-    read-string-requires
-    enum-told
-    enum-known-units
-    slice-aggregate-lay
+    (λ c κs. search needs)
+    (λ c. search needs)
+    (λ c. search needs)
+    (λ c. search needs)
     lay-requires
     returns
     returns-2
     lay-requires-2
     returns-3
-    same-length
+    (λ c. search needs)
     returns-4)

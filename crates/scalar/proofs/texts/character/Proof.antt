@@ -9,50 +9,11 @@ use Rattle.scalar.proofs.texts.character.Tie as tie
 returns : tie.Need-returns
 returns c = search (char-ends, needs)
 
-shared-slice-read-char-lead : tie.Need-shared-slice-read-char-lead
-shared-slice-read-char-lead c = search needs
-
-char-lead-requires : tie.Need-char-lead-requires
-char-lead-requires c κs = search needs
-
-enum-told : tie.Need-enum-told
-enum-told c = search needs
-
-enum-known-more : tie.Need-enum-known-more
-enum-known-more c = search needs
-
-add-continued : tie.Need-add-continued
-add-continued c = search needs
-
-continued-requires : tie.Need-continued-requires
-continued-requires c κs = search needs
-
-enum-known-number : tie.Need-enum-known-number
-enum-known-number c = search needs
-
-enum-known-size : tie.Need-enum-known-size
-enum-known-size c = search needs
-
 add-t24 : tie.Need-add-t24
 add-t24 c = search (char-fits, needs)
 
-enum-known-from : tie.Need-enum-known-from
-enum-known-from c = search needs
-
 returns-2 : tie.Need-returns-2
 returns-2 c = search (char-half, needs)
-
-add-continued-2 : tie.Need-add-continued-2
-add-continued-2 c = search needs
-
-continued-requires-2 : tie.Need-continued-requires-2
-continued-requires-2 c κs = search needs
-
-enum-known-number-2 : tie.Need-enum-known-number-2
-enum-known-number-2 c = search needs
-
-enum-known-size-2 : tie.Need-enum-known-size-2
-enum-known-size-2 c = search needs
 
 add-t29 : tie.Need-add-t29
 add-t29 c = search (char-fits, needs)
@@ -77,21 +38,21 @@ character-spec =
     tie.close
     (tie.spec
     returns
-    shared-slice-read-char-lead
-    char-lead-requires
-    enum-told
-    enum-known-more
-    add-continued
-    continued-requires
-    enum-known-number
-    enum-known-size
+    (λ c. search needs)
+    (λ c κs. search needs)
+    (λ c. search needs)
+    (λ c. search needs)
+    (λ c. search needs)
+    (λ c κs. search needs)
+    (λ c. search needs)
+    (λ c. search needs)
     add-t24
-    enum-known-from
+    (λ c. search needs)
     returns-2
-    add-continued-2
-    continued-requires-2
-    enum-known-number-2
-    enum-known-size-2
+    (λ c. search needs)
+    (λ c κs. search needs)
+    (λ c. search needs)
+    (λ c. search needs)
     add-t29
     returns-3
     returns-4

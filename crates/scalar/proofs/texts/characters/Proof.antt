@@ -17,17 +17,8 @@ abbrev μ-loop : tie.MeasureT-loop
 loop-holds : tie.Need-loop-holds Inv-loop μ-loop
 loop-holds c = along-start _ _ _ (c .before .pre)
 
-character-requires : tie.Need-character-requires Inv-loop μ-loop
-character-requires c κs = search needs
-
-enum-known-number : tie.Need-enum-known-number Inv-loop μ-loop
-enum-known-number c = search needs
-
 returns : tie.Need-returns Inv-loop μ-loop
 returns c = along-fault (c .before .before .before .before .before .loop .inv) _ _ (char-says (c .before .before .before .character .ensures) (c .before .number .given .1))
-
-enum-known-size : tie.Need-enum-known-size Inv-loop μ-loop
-enum-known-size c = search needs
 
 add-here : tie.Need-add-here Inv-loop μ-loop
 add-here c = omega (arith, char-says (c .before .before .before .character .ensures) (c .before .size .given .1) .2)
@@ -41,9 +32,6 @@ loop-less c = let s = char-says (c .before .before .before .character .ensures) 
 loop-again : tie.Need-loop-again Inv-loop μ-loop
 loop-again c = let s = char-says (c .before .before .before .character .ensures) (c .before .size .given .1) in along-more (c .before .before .before .before .before .loop .inv) _ _ (s .0) (s .2)
 
-sub-t12 : tie.Need-sub-t12 Inv-loop μ-loop
-sub-t12 c = search needs
-
 returns-2 : tie.Need-returns-2 Inv-loop μ-loop
 returns-2 c = search (along-end, characters-none, needs)
 
@@ -54,13 +42,13 @@ characters-spec =
     Inv-loop
     μ-loop
     loop-holds
-    character-requires
-    enum-known-number
+    (λ c κs. search needs)
+    (λ c. search needs)
     returns
-    enum-known-size
+    (λ c. search needs)
     add-here
     sub-left
     loop-less
     loop-again
-    sub-t12
+    (λ c. search needs)
     returns-2)

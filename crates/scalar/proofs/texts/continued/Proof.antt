@@ -23,26 +23,11 @@ loop-holds c = along-start _ _ _ (c .pre)
 returns : tie.Need-returns Inv-loop μ-loop
 returns c = search (along-fault, continued-ends, needs)
 
-shared-slice-read-b : tie.Need-shared-slice-read-b Inv-loop μ-loop
-shared-slice-read-b c = search needs
-
 returns-2 : tie.Need-returns-2 Inv-loop μ-loop
 returns-2 c = ⊎-elim (λ w. search (along-fault, continued-out, within-below, needs)) (λ w. search (along-fault, continued-out, within-above, leb-true, needs)) (c .if2 .came)
 
-add-here : tie.Need-add-here Inv-loop μ-loop
-add-here c = search needs
-
-sub-left : tie.Need-sub-left Inv-loop μ-loop
-sub-left c = search needs
-
-loop-less : tie.Need-loop-less Inv-loop μ-loop
-loop-less c = search needs
-
 loop-again : tie.Need-loop-again Inv-loop μ-loop
 loop-again c = along-more (c .before .before .before .before .before .loop .inv) 1 _ (search (continued-next, needs)) (omega arith)
-
-sub-t18 : tie.Need-sub-t18 Inv-loop μ-loop
-sub-t18 c = search needs
 
 returns-3 : tie.Need-returns-3 Inv-loop μ-loop
 returns-3 c = search (along-end, continued-none, needs)
@@ -55,11 +40,11 @@ continued-spec =
     μ-loop
     loop-holds
     returns
-    shared-slice-read-b
+    (λ c. search needs)
     returns-2
-    add-here
-    sub-left
-    loop-less
+    (λ c. search needs)
+    (λ c. search needs)
+    (λ c. search needs)
     loop-again
-    sub-t18
+    (λ c. search needs)
     returns-3)

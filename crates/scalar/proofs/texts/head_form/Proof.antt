@@ -8,24 +8,6 @@ use Rattle.scalar.proofs.Strings.{head-at, head-none, starts}
 use Rattle.scalar.proofs.texts.head_form.Statement.{statement}
 use Rattle.scalar.proofs.texts.head_form.Tie as tie
 
-wide-requires : tie.Need-wide-requires
-wide-requires c κs = search needs
-
-enum-told : tie.Need-enum-told
-enum-told c = search needs
-
-sub-t7 : tie.Need-sub-t7
-sub-t7 c = search needs
-
-enum-told-2 : tie.Need-enum-told-2
-enum-told-2 c = search needs
-
-sub-t10 : tie.Need-sub-t10
-sub-t10 c = search needs
-
-sub-t11 : tie.Need-sub-t11
-sub-t11 c = search needs
-
 returns : tie.Need-returns
 unfolding partHead lastHeads
 returns c = head-at Utf8 3 tt (search needs) (omega arith) (omega arith) (starts (omega arith))
@@ -82,12 +64,12 @@ pub head-form-spec : {M : Type 1} → statement M
 head-form-spec =
     tie.close
     (tie.spec
-    wide-requires
-    enum-told
-    sub-t7
-    enum-told-2
-    sub-t10
-    sub-t11
+    (λ c κs. search needs)
+    (λ c. search needs)
+    (λ c. search needs)
+    (λ c. search needs)
+    (λ c. search needs)
+    (λ c. search needs)
     returns
     returns-2
     returns-3

@@ -21,17 +21,8 @@ returns c = sym (measured-as _ _ _ (string-ends _ _ _ (c .if1 .taken)))
 loop-holds : tie.Need-loop-holds Inv-loop μ-loop
 loop-holds c = search (joining-start, needs)
 
-chunk-requires : tie.Need-chunk-requires Inv-loop μ-loop
-chunk-requires c κs = search needs
-
-enum-known-number : tie.Need-enum-known-number Inv-loop μ-loop
-enum-known-number c = search needs
-
 returns-2 : tie.Need-returns-2 Inv-loop μ-loop
 returns-2 c = search (joining-fault, needs)
-
-enum-known-h : tie.Need-enum-known-h Inv-loop μ-loop
-enum-known-h c = search needs
 
 add-here : tie.Need-add-here Inv-loop μ-loop
 add-here c = omega (arith, chunk-says (c .before .before .before .chunk .ensures) (c .before .h .given .1))
@@ -65,10 +56,10 @@ read-string-spec =
     μ-loop
     returns
     loop-holds
-    chunk-requires
-    enum-known-number
+    (λ c κs. search needs)
+    (λ c. search needs)
     returns-2
-    enum-known-h
+    (λ c. search needs)
     add-here
     add-here-2
     add-total
