@@ -13,7 +13,7 @@ use Rattle.scalar.specs.Scalars.{Spelt, Int, Text, shortestScalar, shortestInt,
 use Rattle.scalar.specs.ScalarLaws.{Is, int-is, text-is, scalar-is}
 use Rattle.record.specs.Items.{Value, Leaf, UntypedList, TypedList, UntypedMap, TypedMap, Object, Reference, Item, Val, Definition, ClassName, FieldName, TypeName, TypeNumber, Known, start, opened, typed, defined, Ceilings}
 use Rattle.record.specs.Grammar.{NameForm, a-name, TypeForm, type-name, type-number, PairForm, a-pair, DefinitionForm, a-definition, PlainForm, a-leaf, a-few, a-counted, an-open, a-few-typed, a-counted-typed, an-open-typed, a-map, a-typed-map, a-few-object, an-object, a-reference, Nowhere, ValueForm, Message}
-use Rattle.record.specs.Spelling.{Spelling, Spelled, NoRecord, Put, onSpelled, prefixed, putThen, putMany, putBytes, putNothing, putCode, className?, fieldName?, putName, putList, putMap, codeThen, objectCode, putContainer, putIf, putType, putPlainBy, putPlain, putDefined, putDefinition, putPreceded, putPrecededBy, putValue, complete, spell}
+use Rattle.record.specs.Spelling.{Spelling, Spelled, NoRecord, Put, onSpelled, prefixed, putThen, putMany, putBytes, putNothing, putCode, className?, fieldName?, putName, putList, putOpen, codeThen, objectCode, putContainer, putIf, putType, putPlainBy, putPlain, putDefined, putDefinition, putPreceded, putPrecededBy, putValue, complete, spell}
 
 -- what is made of the first of the items r, if anything is, is what P says of the bytes, the items and what is known then
 abbrev Back : (List ℕ → List Item → Known → Type 0) → List Item → Spelling → Type 0
@@ -153,7 +153,7 @@ data ListForm (few counted opening n : ℕ) (Q G : Phrase Known Item) : Known �
   as-counted : {c c′ : Known} {w : List ℕ} {is : List Item} → n < 2 ^ 63 → Seq (Code counted) (Seq Q (Seq (Raw (λ w. Int w n)) (Many G n))) c w is c′ → ListForm few counted opening n Q G c w is c′
   as-open : {c c′ : Known} {w : List ℕ} {is : List Item} → Seq (Code opening) (Seq Q (Ended 0x5a G n)) c w is c′ → ListForm few counted opening n Q G c w is c′
 
-map-sound : {Q G : Phrase Known Item} {q g : Put} (b n : ℕ) → Sound Q q → Sound G g → Sound (Seq (Code b) (Seq Q (Ended 0x5a G n))) (putMap b q (putMany g n))
+map-sound : {Q G : Phrase Known Item} {q g : Put} (b n : ℕ) → Sound Q q → Sound G g → Sound (Seq (Code b) (Seq Q (Ended 0x5a G n))) (putOpen b q (putMany g n))
 map-sound b n x h = then-sound (code-sound b) (then-sound x (end-sound h n))
 
 list-sound : {Q G : Phrase Known Item} {q g : Put} (openFrom few counted opening n : ℕ) → openFrom ≤ 48 → Sound Q q → Sound G g
@@ -259,8 +259,8 @@ module _ (ℓ : Ceilings) (openFrom : ℕ) (most : openFrom ≤ 48) where
           leaf (raw y) = a-leaf y
       plain-by (UntypedList n) = holds (λ g. putList openFrom 0x78 0x58 0x57 n putNothing (putMany g n)) (λ g h. list-sound openFrom 0x78 0x58 0x57 n most nothing-sound h) (λ r c w is c′. untyped r)
       plain-by (TypedList n t) = holds (λ g. putList openFrom 0x70 0x56 0x55 n (putType ℓ t) (putMany g n)) (λ g h. list-sound openFrom 0x70 0x56 0x55 n most (type-sound t) h) (λ r c w is c′. of-type r)
-      plain-by (UntypedMap n) = holds (λ g. putMap 0x48 putNothing (putMany (putThen g g) n)) (λ g h. map-sound 0x48 n nothing-sound (pair-sound h)) (λ r c w is c′. untyped-map r)
-      plain-by (TypedMap n t) = holds (λ g. putMap 0x4d (putType ℓ t) (putMany (putThen g g) n)) (λ g h. map-sound 0x4d n (type-sound t) (pair-sound h)) (λ r c w is c′. map-of-type r)
+      plain-by (UntypedMap n) = holds (λ g. putOpen 0x48 putNothing (putMany (putThen g g) n)) (λ g h. map-sound 0x48 n nothing-sound (pair-sound h)) (λ r c w is c′. untyped-map r)
+      plain-by (TypedMap n t) = holds (λ g. putOpen 0x4d (putType ℓ t) (putMany (putThen g g) n)) (λ g h. map-sound 0x4d n (type-sound t) (pair-sound h)) (λ r c w is c′. map-of-type r)
       plain-by (Object k n) = record {
         sound = λ c r. if-back (Plain (Object k n) c) (test c) body c r
             (λ t. back-as (λ w is c′. T (test c) → Plain (Object k n) c w is c′) (Plain (Object k n) c) (λ w is c′ x. x t) r (body c r) (parts .sound c r));

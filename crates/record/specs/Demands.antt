@@ -101,33 +101,41 @@ module _ (ℓ : Ceilings) (d longest : ℕ) where
           (λ i v q j k. let e = rows-none ℓ openFrom most d source r .1 h in never cc),
     )
 
-    -- refusal 1 where the source is too long, or else where there is a record and its shortest message is too long
-    pub refused-1 : (lent : ℕ) → (write ℓ openFrom d longest lent source r ≡ Refused 1 0) ↔ ((longest < length source) ⊎ ((w : List ℕ) × (shortestOf ℓ openFrom d source r ≡ some w) × (longest < length w)))
+    -- refusal 1 where the source is too long; or where some message has the record, and each of them is too long
+    abbrev TooLong : Type 0
+    TooLong = ((m : List ℕ) × Has ℓ d source r m) × ((m : List ℕ) → Has ℓ d source r m → longest < length m)
+
+    long-message : (w : List ℕ) → shortestOf ℓ openFrom d source r ≡ some w → longest < length w → TooLong
+    long-message w q l = ((w, rows-back ℓ openFrom most d source r w q), λ m h. let p = rows-no-longer ℓ openFrom most d source r m h in let e = p .1 in let f : p .0 ≡ w = cc in omega (arith, p .2, ap length f))
+
+    not-long : (w : List ℕ) → shortestOf ℓ openFrom d source r ≡ some w → length w ≤ longest → TooLong → ⊥
+    not-long w q l x = let y = x .1 w (rows-back ℓ openFrom most d source r w q) in omega arith
+
+    pub refused-1 : (lent : ℕ) → (write ℓ openFrom d longest lent source r ≡ Refused 1 0) ↔ ((longest < length source) ⊎ TooLong)
     refused-1 lent = (
-      by-answer lent (λ a. a ≡ Refused 1 0 → (longest < length source) ⊎ ((w : List ℕ) × (shortestOf ℓ openFrom d source r ≡ some w) × (longest < length w)))
+      by-answer lent (λ a. a ≡ Refused 1 0 → (longest < length source) ⊎ TooLong)
           (λ i e. inl i)
           (λ i q e. never cc)
-          (λ i v q j e. inr (v, q, j))
+          (λ i v q j e. inr (long-message v q j))
           (λ i v q j k e. never cc)
           (λ i v q j k e. never cc),
       λ h. by-answer lent (λ a. a ≡ Refused 1 0)
           (λ i. refl)
-          (λ i q. long i q h)
+          (λ i q. none-claimed i q h)
           (λ i v q j. refl)
           (λ i v q j k. short i v q j h)
           (λ i v q j k. short i v q j h),
     )
       where
-        long : {A : Type 0} → length source ≤ longest → shortestOf ℓ openFrom d source r ≡ none → (longest < length source) ⊎ ((w : List ℕ) × (shortestOf ℓ openFrom d source r ≡ some w) × (longest < length w)) → A
-        long i q (inl x) = absurd (omega arith)
-        long i q (inr x) = let e = x .1 in never cc
+        none-claimed : {A : Type 0} → length source ≤ longest → shortestOf ℓ openFrom d source r ≡ none → (longest < length source) ⊎ TooLong → A
+        none-claimed i q (inl x) = absurd (omega arith)
+        none-claimed i q (inr x) = absurd (rows-none ℓ openFrom most d source r .0 q (x .0 .0) (x .0 .1))
 
-        short : {A : Type 0} → length source ≤ longest → (v : List ℕ) → shortestOf ℓ openFrom d source r ≡ some v → length v ≤ longest
-            → (longest < length source) ⊎ ((w : List ℕ) × (shortestOf ℓ openFrom d source r ≡ some w) × (longest < length w)) → A
+        short : {A : Type 0} → length source ≤ longest → (v : List ℕ) → shortestOf ℓ openFrom d source r ≡ some v → length v ≤ longest → (longest < length source) ⊎ TooLong → A
         short i v q j (inl x) = absurd (omega arith)
-        short i v q j (inr x) = let e = x .1 in let f : v ≡ x .0 = cc in absurd (omega (arith, x .2, ap length f))
+        short i v q j (inr x) = absurd (not-long v q j x)
 
-    -- ---- demand 3: what is refused with neither 1 nor 10 is accepted, given room; the message written has the record, and no message that has it,
+    -- ---- demand 3: where neither 1 nor 10 is given, the table is accepted, given room; the message written has the record, and no message that has it,
     -- of any spelling, is shorter
     pub record Shortest : Type 0 where
       pub message-of : List ℕ

@@ -1,4 +1,4 @@
--- How far a value goes: a record has at most as many items as bytes, and what is read does not depend on what follows.
+-- How far a value goes: a record has at most as many items as bytes, and the items read do not depend on what follows.
 use mathlib.Core.Path.{_≡_, refl, sym, _∙_, ap, subst}
 use mathlib.Core.Bool.{Bool, true, false}
 use mathlib.Core.List.{List, [], _∷_, _++_}
@@ -77,7 +77,7 @@ module _ (ℓ : Ceilings) (d : ℕ) where
   pub rows-few : (m : List ℕ) (r : List Item) → Reads ℓ d m r → length r ≤ length m
   rows-few m r x = let y = reads-derived ℓ d m r x in value-few ℓ d start m r (y .known) (y .derived)
 
-  -- ---- what is read lies within the message, and does not depend on what follows
+  -- ---- what is read lies within the message; its items and what is known do not depend on what follows, nor on the place
   module _ (c : Known) (at : ℕ) (s : List ℕ) (b : Bytes s) (n : ℕ) (u : One) (es : List (Entry Item)) (c′ : Known) (e : byteAt (valueFrom ℓ d) c at s ≡ Done n u es c′) where
     value-form : (n ≤ length s) × ValueForm ℓ d c (take n s) (items es) c′
     value-form = subst (Parsed (λ w u is c′. ValueForm ℓ d c w is c′) s) e (byte-reads (valueFrom ℓ d) (ValueForm ℓ d) (value-reads ℓ d) c at s b)

@@ -8,7 +8,13 @@ use lib.ListN.{getD}
 use Rattle.flow.specs.Tests.{pick, every, every-at, and-left, and-right}
 use Rattle.scalar.specs.declared.chart.Lead.{Lead}
 use Rattle.scalar.specs.declared.chart.Lead.the-variants as lead
-use Rattle.scalar.specs.Chart.{ranges, rangeOf, leadOf}
+use Rattle.scalar.specs.declared.numbers.Sort.the-variants as sort
+use Rattle.scalar.specs.declared.texts.Kind.the-variants.{Utf8, Binary}
+use Rattle.scalar.specs.Chart.{ranges, rangeOf, leadOf, kindOf}
+use Rattle.scalar.specs.Scalars.{Scalar, Num, Str}
+use Rattle.scalar.specs.ScalarLaws.{leadFor}
+use Rattle.record.specs.Items.{Leaf, Val}
+use Rattle.record.specs.Rows.{itemRow}
 use Rattle.record.specs.Reading.{Form, leaf, few, few-typed, few-object, counted, counted-typed, open-list, open-typed, open-map, typed-map, object, reference, formOf}
 
 abbrev pub formBy : Lead → ℕ → Form
@@ -87,3 +93,16 @@ all-same = tt
 -- what the chart says of a byte decides its form
 pub form-lead : (b : ℕ) → b < 256 → (x : Lead) → leadOf b ≡ x → formOf b ≡ formBy x b
 form-lead b l x h = same-is (formOf b) (formBy (leadOf b) b) (every-at 256 (λ b. same (formOf b) (formBy (leadOf b) b)) all-same b l) ∙ ap (λ (y : Lead). formBy y b) h
+
+-- the kind that the chart gives a scalar's first byte is the kind of its row
+pub row-kind : (p : ℕ) (x : Scalar) → itemRow p (Val (Leaf x)) .kind ≡ kindOf (leadFor x)
+unfolding kindOf
+row-kind p (Num sort.Null v) = refl
+row-kind p (Num sort.False v) = refl
+row-kind p (Num sort.True v) = refl
+row-kind p (Num sort.Int v) = refl
+row-kind p (Num sort.Long v) = refl
+row-kind p (Num sort.Double v) = refl
+row-kind p (Num sort.Date v) = refl
+row-kind p (Str Utf8 cs) = refl
+row-kind p (Str Binary cs) = refl

@@ -15,6 +15,7 @@ pub mod Claims
 pub mod Places
 pub mod Answers
 pub mod Tables
+pub mod Same
 pub mod Writing
 pub mod TableLaws
 pub mod Demands

@@ -14,7 +14,7 @@ use Rattle.scalar.specs.Scalars.{Int, Text, shortestScalar, shortestInt, shorte
 use Rattle.scalar.specs.ScalarLaws.{scalar-short, int-short, int-some, small-count, text-short}
 use Rattle.record.specs.Items.{Value, UntypedList, TypedList, UntypedMap, TypedMap, Object, Reference, Item, Val, Definition, ClassName, FieldName, TypeName, TypeNumber, Known, opened, typed, defined, Ceilings}
 use Rattle.record.specs.Grammar.{NameForm, a-name, TypeForm, type-name, type-number, PairForm, a-pair, DefinitionForm, a-definition, PlainForm, a-leaf, a-few, a-counted, an-open, a-few-typed, a-counted-typed, an-open-typed, a-map, a-typed-map, a-few-object, an-object, a-reference, Nowhere, ValueForm, Message}
-use Rattle.record.specs.Spelling.{Spelled, Put, putThen, putMany, putBytes, putNothing, putCode, className?, fieldName?, putName, putList, putMap, codeThen, objectCode, putContainer, putIf, putType, putPlainBy, putPlain, putDefined, putDefinition, putPreceded, putPrecededBy, putValue, spell}
+use Rattle.record.specs.Spelling.{Spelled, Put, putThen, putMany, putBytes, putNothing, putCode, className?, fieldName?, putName, putList, putOpen, codeThen, objectCode, putContainer, putIf, putType, putPlainBy, putPlain, putDefined, putDefinition, putPreceded, putPrecededBy, putValue, spell}
 
 -- of these items, whatever follows, g makes at most n bytes
 record Spells (g : Put) (c : Known) (is : List Item) (n : ℕ) (c′ : Known) : Type 0 where
@@ -73,7 +73,7 @@ name-spells x part e = record { covers = go }
 ended-spells : {g : Put} {c c′ : Known} {is : List Item} {n : ℕ} → Spells g c is n c′ → Spells (putThen g (putCode 0x5a)) c is (n + 1) c′
 ended-spells {g} {c} {c′} {is} {n} h = subst (λ (z : List Item). Spells (putThen g (putCode 0x5a)) c z (n + 1) c′) (append-nil is) (then-spells h (code-spells 0x5a))
 
-map-spells : (b : ℕ) {q body : Put} {c c₁ c₂ : Known} {is js : List Item} {m k : ℕ} → Spells q c is m c₁ → Spells body c₁ js k c₂ → Spells (putMap b q body) c (is ++ js) (2 + (m + k)) c₂
+map-spells : (b : ℕ) {q body : Put} {c c₁ c₂ : Known} {is js : List Item} {m k : ℕ} → Spells q c is m c₁ → Spells body c₁ js k c₂ → Spells (putOpen b q body) c (is ++ js) (2 + (m + k)) c₂
 map-spells b x y = at-most (then-spells (code-spells b) (then-spells x (ended-spells y))) (omega arith)
 
 -- ---- the code of an object
@@ -156,13 +156,13 @@ module _ (ℓ : Ceilings) (openFrom : ℕ) (most : openFrom ≤ 48) where
 
       mapped : {n : ℕ} {c c′ : Known} {w : List ℕ} {js : List Item} → T room → Ended 0x5a (PairForm G) n (opened c) w js c′ → PlainSpells c (UntypedMap n) js (suc (length w)) c′
       unfolding putPlainBy
-      mapped {n} r (ended {v = v} y) = at-most (val (holds (λ g. putMap 0x48 putNothing (putMany (putThen g g) n)) r
+      mapped {n} r (ended {v = v} y) = at-most (val (holds (λ g. putOpen 0x48 putNothing (putMany (putThen g g) n)) r
           (λ g hg. map-spells 0x48 nothing-spells (many-spells (pair-spells hg) y)))) (omega (arith, length-append v (0x5a ∷ [])))
 
       typed-mapped : {n t : ℕ} {c c₁ c′ : Known} {u w : List ℕ} {is js : List Item} → T room → TypeForm ℓ (opened c) u t is c₁ → Ended 0x5a (PairForm G) n c₁ w js c′
           → PlainSpells c (TypedMap n t) (is ++ js) (suc (length (u ++ w))) c′
       unfolding putPlainBy
-      typed-mapped {n} {t} {u = u} r q (ended {v = v} y) = at-most (val (holds (λ g. putMap 0x4d (putType ℓ t) (putMany (putThen g g) n)) r
+      typed-mapped {n} {t} {u = u} r q (ended {v = v} y) = at-most (val (holds (λ g. putOpen 0x4d (putType ℓ t) (putMany (putThen g g) n)) r
           (λ g hg. map-spells 0x4d (type-spells q) (many-spells (pair-spells hg) y))))
           (omega (arith, length-append u (v ++ (0x5a ∷ [])), length-append v (0x5a ∷ [])))
 

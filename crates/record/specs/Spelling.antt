@@ -74,14 +74,14 @@ abbrev pub putName : (Item → Option (List ℕ)) → Put
 putName part = putItem part (λ cs. putBytes (shortestText cs))
 
 -- the open form of the code b, with 5a
-abbrev pub putMap : ℕ → Put → Put → Put
-putMap b q body = putThen (putCode b) (putThen q (putThen body (putCode 0x5a)))
+abbrev pub putOpen : ℕ → Put → Put → Put
+putOpen b q body = putThen (putCode b) (putThen q (putThen body (putCode 0x5a)))
 
 -- a list of n elements, q its type, if it has one: the one-byte form up to 7, the counted form, from openFrom on the open form with 5a
 abbrev pub putList : ℕ → ℕ → ℕ → ℕ → ℕ → Put → Put → Put
 putList openFrom few counted opening n q body = cond (ltb n 8) (putThen (putCode (few + n)) (putThen q body))
     (cond (ltb n openFrom) (putThen (putCode counted) (putThen q (putThen (putBytes (shortestInt n)) body)))
-    (putMap opening q body))
+    (putOpen opening q body))
 
 abbrev pub codeThen : ℕ → Option (List ℕ) → Option (List ℕ)
 codeThen b none = none
@@ -137,8 +137,8 @@ module _ (ℓ : Ceilings) (openFrom : ℕ) where
   putPlainBy below (Leaf x) = putBytes (shortestScalar x)
   putPlainBy below (UntypedList n) = putContainer below (λ g. putList openFrom 0x78 0x58 0x57 n putNothing (putMany g n))
   putPlainBy below (TypedList n t) = putContainer below (λ g. putList openFrom 0x70 0x56 0x55 n (putType ℓ t) (putMany g n))
-  putPlainBy below (UntypedMap n) = putContainer below (λ g. putMap 0x48 putNothing (putMany (putThen g g) n))
-  putPlainBy below (TypedMap n t) = putContainer below (λ g. putMap 0x4d (putType ℓ t) (putMany (putThen g g) n))
+  putPlainBy below (UntypedMap n) = putContainer below (λ g. putOpen 0x48 putNothing (putMany (putThen g g) n))
+  putPlainBy below (TypedMap n t) = putContainer below (λ g. putOpen 0x4d (putType ℓ t) (putMany (putThen g g) n))
   putPlainBy below (Object k n) = λ c r. putIf (eqb (getD (c .classes) k 0) n && ltb k (length (c .classes))) (putContainer below (λ g. putThen (putBytes (objectCode k)) (putMany g n))) c r
   putPlainBy below (Reference k) = λ c r. putIf (ltb k (c .references)) (putBytes (codeThen 0x51 (shortestInt k))) c r
 

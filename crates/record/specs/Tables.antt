@@ -5,13 +5,12 @@ use Prim.Native.Nat.{ℕ, zero, suc, _+_, _*_, _/_}
 use lib.Dec.{ltb}
 use lib.ListN.{length, take, drop, getD}
 use Rattle.flow.specs.Tests.{pick}
-use Rattle.flow.specs.Flow.{Outcome, Done, Fault, One}
 use Rattle.flow.specs.Overlay.{stored, overlay}
 use Rattle.wire.specs.BigEndian.{joined, be}
 use Rattle.scalar.specs.Answers.{Report}
-use Rattle.record.specs.Items.{Item, Known, Ceilings}
-use Rattle.record.specs.Rows.{Row, row, rows}
-use Rattle.record.specs.Answers.{WriteAnswer, Wrote, Refused, judged, write}
+use Rattle.record.specs.Items.{Ceilings}
+use Rattle.record.specs.Rows.{Row, row}
+use Rattle.record.specs.Answers.{ReadAnswer, Accept, Refuse, read, WriteAnswer, Wrote, Refused, write}
 
 -- ---- how rows lie in a table: so many numbers a row
 pub record Layout : Type 0 where
@@ -49,20 +48,20 @@ abbrev pub reportedAt : ℕ → ℕ → ℕ → Report
 reportedAt number count place = record { number = number; count = count; place = place }
 
 -- ---- the reader: accepted are 0, the rows, the message's length; refusal 9 counts the rows needed, other refusals 0
-abbrev pub reportRead : ℕ → ℕ → Outcome Known Item One → Report
-reportRead lent len (Done n u es c) = pick (ltb lent (length es)) (reportedAt 9 (length es) 0) (reportedAt 0 (length es) len)
-reportRead lent len (Fault x o) = reportedAt x 0 o
+abbrev pub reportRead : ReadAnswer → Report
+reportRead (Accept rs n) = reportedAt 0 (length rs) n
+reportRead (Refuse x k o) = reportedAt x k o
 
-unfoldable pub readReport : Ceilings → (d longest : ℕ) → Layout → List ℕ → List ℕ → Report
-readReport ℓ d longest L m t = reportRead (lentRows L t) (length m) (judged ℓ d longest m)
+abbrev pub readReport : Ceilings → (d longest : ℕ) → Layout → List ℕ → List ℕ → Report
+readReport ℓ d longest L m t = reportRead (read ℓ d longest (lentRows L t) m)
 
 -- the table then holds the rows of an accepted message, and is else unchanged
-abbrev pub filled : Layout → List ℕ → Outcome Known Item One → List ℕ
-filled L t (Done n u es c) = pick (ltb (lentRows L t) (length es)) t (overlay (L .width) (L .encode) t 0 (rows es))
-filled L t (Fault x o) = t
+abbrev pub filled : Layout → List ℕ → ReadAnswer → List ℕ
+filled L t (Accept rs n) = overlay (L .width) (L .encode) t 0 rs
+filled L t (Refuse x k o) = t
 
-unfoldable pub readTable : Ceilings → (d longest : ℕ) → Layout → List ℕ → List ℕ → List ℕ
-readTable ℓ d longest L m t = filled L t (judged ℓ d longest m)
+abbrev pub readTable : Ceilings → (d longest : ℕ) → Layout → List ℕ → List ℕ → List ℕ
+readTable ℓ d longest L m t = filled L t (read ℓ d longest (lentRows L t) m)
 
 -- ---- the writer, of the first n rows of a table: accepted are 0, the bytes written, 0; the output past them is unchanged
 abbrev pub reportWritten : WriteAnswer → Report

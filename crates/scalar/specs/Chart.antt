@@ -52,7 +52,7 @@ leadOf b = rangeOf ranges b .opens
 unfoldable pub followOf : ℕ → ℕ
 followOf b = rangeOf ranges b .follow
 
--- the kind of the row that it opens; 16 closes, 17 opens nothing
+-- the kind of the row that it opens; 20 only closes, 21 opens nothing
 unfoldable pub kindOf : Lead → ℕ
 kindOf (lead.Number Null) = 0
 kindOf (lead.Number False) = 1
@@ -70,8 +70,8 @@ kindOf lead.TypedMap = 12
 kindOf lead.Object = 13
 kindOf lead.Reference = 14
 kindOf lead.Definition = 15
-kindOf lead.Close = 16
-kindOf lead.Reserved = 17
+kindOf lead.Close = 20
+kindOf lead.Reserved = 21
 
 -- a byte's entry in the table: ten times the kind, and the bytes that follow
 unfoldable pub entry : ℕ → ℕ

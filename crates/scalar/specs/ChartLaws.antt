@@ -21,7 +21,7 @@ use Rattle.scalar.specs.Chart.{ranges, rangeOf, leadOf, followOf, kindOf
 abbrev leads : List Lead
 leads =
     lead.Number Null ∷ lead.Number False ∷ lead.Number True ∷ lead.Number Int ∷ lead.Number Long ∷ lead.Number Double ∷ lead.Number Date ∷ lead.Text ∷ lead.Bytes ∷ lead.List ∷ lead.TypedList
-    ∷ lead.Map ∷ lead.TypedMap ∷ lead.Object ∷ lead.Reference ∷ lead.Definition ∷ lead.Close ∷ []
+    ∷ lead.Map ∷ lead.TypedMap ∷ lead.Object ∷ lead.Reference ∷ lead.Definition ∷ lead.Reserved ∷ lead.Reserved ∷ lead.Reserved ∷ lead.Reserved ∷ lead.Close ∷ []
 
 abbrev coded : ℕ → Lead
 coded n = getD leads n lead.Reserved
