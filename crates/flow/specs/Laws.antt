@@ -40,7 +40,7 @@ module _ {C I : Type 0} where
       go (Done n a es c) p = (omega arith, p .1)
       go (Fault x o) p = tt
 
-  -- what is behind: the goal, after the bytes u and the items is
+  -- what is read next: the goal, after the bytes u and the items is
   abbrev pub Behind : {A : Type 0} → Goal C I A → List ℕ → List I → Goal C I A
   Behind H u is w b js c = H (u ++ w) b (is ++ js) c
 

@@ -93,7 +93,7 @@ end-sound {G} h n = sound-as (then-sound (many-sound h n) (code-sound 0x5a)) (λ
     end : {c c′ : Known} {w : List ℕ} {is : List Item} → Seq (Many G n) (Code 0x5a) c w is c′ → Ended 0x5a G n c w is c′
     end (seq {is = is} x code) = rw (append-nil is) (ended x)
 
--- behind an item x
+-- after an item x
 item-back : (P : List ℕ → List Item → Known → Type 0) (x : Item) (r : List Item) (o : Spelling) → Back (λ w is c. P w (x ∷ is) c) r o → Back P (x ∷ r) o
 item-back P x r (Spelled w rest c) p = (x ∷ p .0, ap {B = List Item} (λ z. x ∷ z) (p .1), p .2)
 item-back P x r NoRecord p = tt
@@ -207,7 +207,7 @@ module _ (ℓ : Ceilings) (openFrom : ℕ) (most : openFrom ≤ 48) where
     Room (some g) = T room × Sound G g
 
     module _ (room-is : Room below) where
-      -- the value v, behind its item
+      -- the value v, after its item
       abbrev Plain : Value → Phrase Known Item
       Plain v c w is c′ = PlainForm ℓ room G c w (Val v ∷ is) c′
 
@@ -306,7 +306,7 @@ module _ (ℓ : Ceilings) (openFrom : ℕ) (most : openFrom ≤ 48) where
   data Given (n : ℕ) : Known → List ℕ → List Item → Known → Type 0 where
     given : {c : Known} → Given n c [] [] (defined n c)
 
-  -- behind its item
+  -- after its item
   abbrev Parts : ℕ → Phrase Known Item
   Parts n = Seq (Code 0x43) (Seq (NameForm ClassName) (Seq (Raw (λ w. Int w n)) (Seq (Many (NameForm FieldName) n) (Given n))))
 

@@ -1,4 +1,4 @@
--- Class definitions, and a value behind them, at a place of the whole message: one law for each way on, with no bound of the recursion.
+-- Class definitions, and a value after them, at a place of the whole message: one law for each way on, with no bound of the recursion.
 use mathlib.Core.Path.{_≡_, refl, sym, ap, ap₂, _∙_}
 use mathlib.Core.Bool.{true, false, cond}
 use mathlib.Core.List.{List, [], _∷_, append-nil}
@@ -23,7 +23,7 @@ use Rattle.record.specs.Parts.{laid, sizesRow, name-laid, count-got, cou
 
 -- ---- things before another, each begun by the byte z
 module _ (z : ℕ) (d : ℕ → Reader One) (f : Opening One) (m : List ℕ) where
-  -- the byte b stands at p: one of them and the others, or what stands behind them
+  -- the byte b stands at p: one of them and the others, or what stands after them
   abbrev one-of : Reader One → ℕ → ℕ → Known → ℕ → Placed One
   one-of others p b c q = pick (eqb b z) (on (run (d p) c m q) (λ e u c′. run others c′ m e)) (run (f p b) c m q)
 
@@ -110,7 +110,7 @@ module _ (n i : ℕ) (c : Known) (m : List ℕ) (p : ℕ) where
     pub names-lost : (x o : ℕ) → measuredAt Utf8 m p ≡ Fault x o → run (namesLeft n i) c m p ≡ Lost x o
     names-lost x o q = names-on (Fault x o) q
 
--- ---- a class definition behind its 43, at p: the name at q, the count behind it
+-- ---- a class definition after its 43, at p: the name at q, the count after it
 module _ (ℓ : Ceilings) (p : ℕ) (c : Known) (m : List ℕ) (q : ℕ) where
   definition-by : run (definition ℓ p) c m q ≡ pick (ltb (length (c .classes)) (ℓ .classes)) (topped p Definition (run (after (byteAt (name ClassName)) (count (fieldNames ℓ))) c m q)) (Lost 7 p)
   unfolding definition

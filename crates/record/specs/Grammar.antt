@@ -1,4 +1,4 @@
--- The grammar of messages: what is known before, the bytes, the items, what is known behind. One constructor for each production, in 01's order.
+-- The grammar of messages: what is known before, the bytes, the items, what is known after. One constructor for each production, in 01's order.
 use mathlib.Core.Bool.{Bool, true, false}
 use mathlib.Core.List.{List, [], _∷_, _++_}
 use Prim.Native.Nat.{ℕ, zero, suc, _+_, _^_, _≤_, _<_}
@@ -49,7 +49,7 @@ pub data PlainForm (ℓ : Ceilings) (room : Bool) (G : Phrase Known Item) : Know
   -- 51 int: reference
   a-reference : {c : Known} {k : ℕ} {w : List ℕ} → Int w k → k < c .references → PlainForm ℓ room G c (0x51 ∷ w) (Val (Reference k) ∷ []) c
 
--- text int text*: a class definition, behind its 43
+-- text int text*: a class definition, after its 43
 pub data DefinitionForm (ℓ : Ceilings) : Known → List ℕ → List Item → Known → Type 0 where
   a-definition : {c c₁ : Known} {u v w cs : List ℕ} {n : ℕ} {is : List Item} → length (c .classes) < ℓ .classes → Text u cs → Int v n → n < 2 ^ 63 → n ≤ ℓ .fields
       → Many (NameForm FieldName) n c w is c₁ → DefinitionForm ℓ c (u ++ (v ++ w)) (Definition n ∷ ClassName cs ∷ is) (defined n c₁)
@@ -57,7 +57,7 @@ pub data DefinitionForm (ℓ : Ceilings) : Known → List ℕ → List Item → 
 abbrev pub Nowhere : Phrase Known Item
 Nowhere c w is c′ = ⊥
 
--- definitions, each behind its 43, and then a value; d more containers may open
+-- definitions, each after its 43, and then a value; d more containers may open
 abbrev pub ValueForm : Ceilings → ℕ → Known → List ℕ → List Item → Known → Type 0
 ValueForm ℓ zero = Preceded 0x43 (DefinitionForm ℓ) (PlainForm ℓ false Nowhere)
 ValueForm ℓ (suc d) = Preceded 0x43 (DefinitionForm ℓ) (PlainForm ℓ true (ValueForm ℓ d))

@@ -97,7 +97,7 @@ module _ (ℓ : Ceilings) where
       abbrev Is : Known → ℕ → Goal Known Item One
       Is c b w u is c′ = PlainForm ℓ room G c (b ∷ w) is c′
 
-      -- the value behind the byte e, with the item x of the result
+      -- the value after the byte e, with the item x of the result
       abbrev At : {A : Type 0} → Known → ℕ → (A → Item) → Goal Known Item A
       At c e x w a is c′ = PlainForm ℓ room G c (e ∷ w) (x a ∷ is) c′
 

@@ -52,7 +52,7 @@ module _ (c : Known) (m : List ℕ) (p : ℕ) where
   unfolding stringAt
   string-run k l = lone-run (stringFrom k) (stringFrom k) c m p (string-lifts c k) l
 
-  -- behind the first byte
+  -- after the first byte
   module _ (l : p < length m) where
     pub number-behind : (s : Sort) → run (numberFrom (formsOf s) p (getD m p 0)) c m (p + 1) ≡ lone p c (numberAt s m p)
     number-behind s = sym (run-byte (numberFrom (formsOf s)) c m p l) ∙ number-run s (omega arith)

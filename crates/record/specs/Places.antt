@@ -44,7 +44,7 @@ module _ (m : List ℕ) (bytes : Bytes m) where
   OutcomeOpens (Done n a es c) = EntriesOpen es
   OutcomeOpens (Fault x o) = Unit {0}
 
-  -- a reader, from any place of the message; behind a first byte, from the place behind it
+  -- a reader, from any place of the message; after a first byte, from the place after it
   abbrev Anywhere : {A : Type 0} → Reader A → Type 0
   Anywhere f = (c : Known) (k : ℕ) → OutcomeOpens (f c k (drop k m))
 

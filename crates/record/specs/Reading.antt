@@ -14,7 +14,7 @@ use Rattle.record.specs.Items.{Leaf, UntypedList, TypedList, UntypedMap,
 abbrev pub Reader : Type 0 → Type 0
 Reader A = Read Known Item A
 
--- a reader behind a first byte
+-- a reader after a first byte
 abbrev pub Opening : Type 0 → Type 0
 Opening A = From Known Item A
 
@@ -101,7 +101,7 @@ ending c at [] = Done 0 tt [] c
 ending c at (b ∷ s) = Fault 8 at
 
 module _ (ℓ : Ceilings) where
-  -- a type name behind its first byte b, at p, and the number that it gets: one too many is refusal 7 there
+  -- a type name after its first byte b, at p, and the number that it gets: one too many is refusal 7 there
   abbrev pub typeName : Opening ℕ
   typeName p b = asking (λ c. cond (ltb (c .types) (ℓ .types)) (mapped (λ u. c .types) (changing typed (name TypeName p b))) (fail 7 p))
 
@@ -113,7 +113,7 @@ module _ (ℓ : Ceilings) where
   abbrev pub withType : {A : Type 0} → (ℕ → Reader A) → Reader A
   withType g = bind (byteAt typeFrom) g
 
-  -- ---- a value with no definition before it, behind its first byte b, at p; `below` reads the values in it, where one more container may open
+  -- ---- a value with no definition before it, after its first byte b, at p; `below` reads the values in it, where one more container may open
   unfoldable pub plainBy : Option (Opening One) → Form → Opening One
   plainBy below leaf p b = headed p (λ x. Val (Leaf x)) (scalarFrom p b)
   plainBy below (few n) p b = container below p (λ f. headed p (λ u. Val (UntypedList n)) (many f n))
@@ -135,7 +135,7 @@ module _ (ℓ : Ceilings) where
   abbrev pub fieldNames : ℕ → ℕ → Reader ℕ
   fieldNames o n = cond (ltb (ℓ .fields) n) (fail 7 o) (after (many (name FieldName) n) (changing (defined n) (give n)))
 
-  -- a class definition, behind its 43, at p: one too many is refusal 7 there
+  -- a class definition, after its 43, at p: one too many is refusal 7 there
   unfoldable pub definition : ℕ → Reader One
   definition p = asking (λ c. cond (ltb (length (c .classes)) (ℓ .classes)) (headed p Definition (after (byteAt (name ClassName)) (count fieldNames))) (fail 7 p))
 
@@ -144,7 +144,7 @@ module _ (ℓ : Ceilings) where
   valueFrom zero = precededBy 0x43 definition (plainFrom none)
   valueFrom (suc d) = precededBy 0x43 definition (plainFrom (some (valueFrom d)))
 
-  -- ---- a message: one record, and nothing behind it
+  -- ---- a message: one record, and nothing after it
   unfoldable pub message : ℕ → Reader One
   message d = after (byteAt (valueFrom d)) ending
 

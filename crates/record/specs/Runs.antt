@@ -93,7 +93,7 @@ stops m (Fields k n) i p = eqb i n
 stops m Open i p = closes m p
 stops m Pairs i p = pick (eqb (i % 2) 0) (closes m p) false
 
--- the place behind them, where none is left at p
+-- the place after them, where none is left at p
 abbrev pub past : Group → ℕ → ℕ
 past (Counted n) p = p
 past (Fields k n) p = p
@@ -143,7 +143,7 @@ closes-within m p t = go (leb (length m) p) refl t
 closes-no : (m : List ℕ) (p : ℕ) → p < length m → closes m p ≡ false → eqb (getD m p 0) 0x5a ≡ false
 closes-no m p l t = sym (pick-false _ _ (lt-leb _ _ l)) ∙ t
 
--- the place behind is within the message
+-- the place after is within the message
 pub past-within : (m : List ℕ) (g : Group) (i p : ℕ) → stops m g i p ≡ true → p ≤ length m → (p ≤ past g p) × (past g p ≤ length m)
 past-within m (Counted n) i p t l = (omega arith, l)
 past-within m (Fields k n) i p t l = (omega arith, l)

@@ -132,7 +132,7 @@ module _ (ℓ : Ceilings) where
   putPrecededBy g c r = putPreceded (length r) g c r
 
 module _ (ℓ : Ceilings) (openFrom : ℕ) where
-  -- a value with no definition before it, behind its item; `below` puts the values in it, where one more container may open
+  -- a value with no definition before it, after its item; `below` puts the values in it, where one more container may open
   unfoldable pub putPlainBy : Option Put → Value → Put
   putPlainBy below (Leaf x) = putBytes (shortestScalar x)
   putPlainBy below (UntypedList n) = putContainer below (λ g. putList openFrom 0x78 0x58 0x57 n putNothing (putMany g n))

@@ -1,4 +1,4 @@
--- A whole message at a place: one value, nothing behind it, and what the reader answers then.
+-- A whole message at a place: one value, nothing after it, and what the reader answers then.
 use mathlib.Core.Path.{_≡_, refl, sym, ap, ap₂, _∙_}
 use mathlib.Core.List.{List, [], _∷_, append-nil}
 use Prim.Native.Nat.{ℕ, suc, _≤_, _<_}

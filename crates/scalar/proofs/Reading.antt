@@ -79,7 +79,7 @@ rooms Long = search needs
 rooms Double = search needs
 rooms Date = search needs
 
--- so any bytes behind a first byte do
+-- so any bytes after a first byte do
 abbrev pub Suits : Begun → Type 0
 Suits NoForm = Unit {0}
 Suits (Starts k u r) = (k ≤ 8) × ((t : List ℕ) → length t ≡ k → Bytes t → (joined u t < 2 ^ 64) × Takes r (joined u t))

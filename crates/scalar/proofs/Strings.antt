@@ -67,7 +67,7 @@ module _ {whole rest : Answer ℕ} {m : List ℕ} {at here : ℕ} (R : Along who
       record { says = rw d (sym (shifted-twice (here - at) j left) ∙ ap (shifted (here - at)) (sym e) ∙ R .says); onward = omega (arith, R .onward); inside = l }
 
 -- ---- a character
--- the bytes behind the first lie in the message
+-- the bytes after the first lie in the message
 module _ (o k lo hi : ℕ) (m : List ℕ) (p : ℕ) (l : p < length m) (x : Extent) (t : toldExtent x ≡ extentAt (continued o k lo hi) m (p + 1)) (j : ℕ) (e : x ≡ extent.Takes j) where
   char-room : p + (j + 1) ≤ length m
   char-room = let w = continued-size o k lo hi m (p + 1) j (omega arith) (ap toldExtent (sym e) ∙ t) in omega (arith, w .0)
@@ -94,7 +94,7 @@ module _ (n : ℕ) (m : List ℕ) (p : ℕ) (z : 0 < n) where
       pub char-half : (lo hi : ℕ) → x ≡ Supplementary lo hi → n ≡ 1 → CharMet n m p (char.Refused 4 p)
       char-half lo hi e u = record { says = characters-half n m p z l lo hi (sym is ∙ e) u }
 
-    -- x: what is read of the bytes behind the first
+    -- x: what is read of the bytes after the first
     module _ (k lo hi u : ℕ) (o : Opens (getD m p 0) k lo hi u) (h : u ≤ n) (x : Extent) (t : toldExtent x ≡ extentAt (continued p k lo hi) m (p + 1)) where
       pub char-fault : (y q : ℕ) → x ≡ extent.Refused y q → CharMet n m p (char.Refused y q)
       char-fault y q e = record { says = characters-fault n m p z l k lo hi u o h y q (ap toldExtent (sym e) ∙ t) }

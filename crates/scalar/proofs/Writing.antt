@@ -159,7 +159,7 @@ module _ {r : Spelling} {o : Option (List ℕ)} (e : spelled r ≡ o) where
       pub written-not : t ≡ false → (reported 9 (k + 1) ≡ reportOf o (length l) at) × (l′ ≡ outputOf o l at)
       written-not i = by-room _ (sym (pick-false _ _ i))
 
--- a form has up to eight bytes behind its first
+-- a form has up to eight bytes after its first
 pub few-more : (s : Sort) (v : ℕ) {r : Spelling} → spelled r ≡ shortest (formsOf s) v → {c k u : ℕ} → r ≡ answer.Form c k u → Fits w64 (k + 1)
 few-more s v e {k = k} {u = u} q =
     let n = subst (IsNumber (formsOf s) v) (sym e ∙ ap spelled q) (shortest-is (formsOf s) v) in

@@ -15,7 +15,7 @@ use Rattle.scalar.specs.declared.numbers.Begun.{Begun}
 use Rattle.scalar.specs.declared.numbers.Begun.the-variants.{Starts, NoForm}
 use Rattle.scalar.specs.Numbers.{value, Form, formsOf, formAt, bytesOf, numberBy, numberFrom, numberAt}
 
--- ---- the bytes behind the first: all there, or the message ends
+-- ---- the bytes after the first: all there, or the message ends
 module _ {C I : Type 0} where
   pub bytes-there : (k u : ℕ) (c : C) (at : ℕ) (s : List ℕ) → k ≤ length s → bytesOf {I = I} k u c at s ≡ Done k (joined u (take k s)) [] c
   bytes-there zero u c at s l = refl

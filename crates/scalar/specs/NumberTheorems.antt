@@ -28,7 +28,7 @@ pub no-entries : (es : List (Entry One)) → items es ≡ [] → es ≡ []
 no-entries [] e = refl
 no-entries (x ∷ es) e = cc
 
--- and a form of the value is read as it, whatever stands before and behind it
+-- and a form of the value is read as it, whatever stands before and after it
 led : (s : Sort) (w : List ℕ) (v : ℕ) → NumberLed One (formsOf s) w v (tt {0}) → Makes {I = One} (byteAt (numberFrom (formsOf s))) (tt {0}) w v [] (tt {0})
 led s [] v h = absurd h
 led s (b ∷ w) v h = byte-makes (numberFrom (formsOf s)) b h
@@ -39,7 +39,7 @@ number-derived s w v n front tail =
     let q = led s w v (number-makes One n (properly s) tt) .makes (min (length front) (length (front ++ (w ++ tail)))) tail in
     rw (drop-append-seam front (w ++ tail)) (q .1 ∙ ap (λ (es : List (Entry One)). Done (length w) v es tt) (no-entries (q .0) (q .2)))
 
--- ---- (a) the shortest form reads back as the value, whatever stands before and behind it
+-- ---- (a) the shortest form reads back as the value, whatever stands before and after it
 pub reads-back : (s : Sort) (v : ℕ) (w : List ℕ) → shortest (formsOf s) v ≡ some w → (front tail : List ℕ) → numberAt s (front ++ (w ++ tail)) (length front) ≡ Done (length w) v [] tt
 reads-back s v w e front tail = number-derived s w v (subst (IsNumber (formsOf s) v) e (shortest-is (formsOf s) v)) front tail
 

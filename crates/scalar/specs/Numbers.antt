@@ -70,7 +70,7 @@ formAt [] b = NoForm
 formAt (w ∷ ws) b = pick (inside w b) (Starts (w .extra) (b - w .head) (w .rule)) (formAt ws b)
 
 module _ {C I : Type 0} where
-  -- k bytes more, the highest first, behind u
+  -- k bytes more, the highest first, after u
   abbrev pub bytesOf : ℕ → ℕ → Read C I ℕ
   bytesOf zero u c at s = give u c at s
   bytesOf (suc k) u c at s = byteAt (λ p b. bytesOf k (256 * u + b)) c at s

@@ -91,7 +91,7 @@ HeadSays k m p (head.Refused x o) = stringAt k m p ≡ Fault x o
 pub record HeadMet (k : Kind) (m : List ℕ) (p : ℕ) (r : HeadRead) : Type 0 where
   pub says : HeadSays k m p r
 
--- its content is the n bytes behind the head
+-- its content is the n bytes after the head
 abbrev pub ChunkSays : Kind → List ℕ → ℕ → ChunkRead → Type 0
 ChunkSays k m p (chunk.Chunk h n u l) =
     (stringAt k m p ≡ chunked k m p h l (Done n (take n (drop (p + h) m)) [] tt)) × (0 < h) × (p + (h + n) ≤ length m) × (u ≤ n) × (units k (take n (drop (p + h) m)) ≡ u)

@@ -39,12 +39,12 @@ takes-weaker : (P Q : List ℕ → Type 0) (s : List ℕ) → ((cs : List ℕ) �
 takes-weaker P Q s f (Done j cs es c) h = (h .0, h .1, h .2, f cs (h .3))
 takes-weaker P Q s f (Fault x o) h = tt
 
--- a byte, and what is read behind it
+-- a byte, and what is read after it
 byte-takes : (P : List ℕ → Type 0) (b : ℕ) (s : List ℕ) (o : Answer (List ℕ)) → Takes (λ cs. P (b ∷ cs)) s o → Takes P (b ∷ s) (stepped (renamed (λ cs. b ∷ cs) o))
 byte-takes P b s (Done j cs es c) h = (omega (arith, h .0), ap suc (h .1), h .2, h .3)
 byte-takes P b s (Fault x o) h = tt
 
--- a byte, what f reads behind it, and what g reads behind that
+-- a byte, what f reads after it, and what g reads after that
 module _ (Q R P : List ℕ → Type 0) (f g : Read One One (List ℕ)) (b : ℕ) where
   then-takes : ((at : ℕ) (s : List ℕ) → Takes Q s (f tt at s)) → ((at : ℕ) (s : List ℕ) → Takes R s (g tt at s)) → ((cs ds : List ℕ) → Q cs → R ds → P (b ∷ (cs ++ ds))) → (at : ℕ) (s : List ℕ)
       → Takes P (b ∷ s) (stepped (bind f (λ cs. mapped (λ ds. b ∷ (cs ++ ds)) g) tt at s))
@@ -60,7 +60,7 @@ module _ (Q R P : List ℕ → Type 0) (f g : Read One One (List ℕ)) (b : ℕ)
       first (Done j cs es c) x = second j cs es x (g tt (at + j) (drop j s)) (hg (at + j) (drop j s))
       first (Fault z o) x = tt
 
--- ---- of the bytes behind a character's first, of characters, of bytes
+-- ---- of the bytes after a character's first, of characters, of bytes
 continued-takes : (o n lo hi at : ℕ) (s : List ℕ) → Takes (Continued n lo hi) s (continued o n lo hi tt at s)
 continued-takes o zero lo hi at s = (omega arith, refl, refl, no-more)
 continued-takes o (suc n) lo hi at [] = tt
@@ -71,7 +71,7 @@ continued-takes o (suc n) lo hi at (b ∷ s) =
     (takes-weaker (Continued n 0x80 0xc0) (λ cs. Continued (suc n) lo hi (b ∷ cs)) s (λ cs x. follows (r .0) (r .1) x) (continued o n 0x80 0xc0 tt (at + 1) s) (continued-takes o n 0x80 0xc0 (at + 1) s)))
     (λ t. tt)
 
--- behind a character of two units, if one may stand there, g reads one unit less than n
+-- after a character of two units, if one may stand there, g reads one unit less than n
 abbrev Less : ℕ → Option (Read One One (List ℕ)) → Type 0
 Less n none = Unit {0}
 Less n (some g) = (j : ℕ) × (suc j ≡ n) × ((at : ℕ) (s : List ℕ) → Takes (Body Utf8 j) s (g tt at s))
@@ -164,7 +164,7 @@ extent-takes P f m p j h l = go (f tt p (drop p m)) (h p (drop p m))
     go (Done i cs es c) t e = let q : i ≡ j = cc in (omega (arith, t .0, length-drop p m), cs, omega (arith, t .1), t .3)
     go (Fault x o) t e = apart e
 
--- behind a byte b, what f reads and then what g reads: as f is refused; or j bytes are read, and g from there
+-- after a byte b, what f reads and then what g reads: as f is refused; or j bytes are read, and g from there
 module _ (f g : Read One One (List ℕ)) (b : ℕ) (m : List ℕ) (p : ℕ) where
   abbrev both : Answer (List ℕ)
   both = stepped (bind f (λ cs. mapped (λ ds. b ∷ (cs ++ ds)) g) tt (p + 1) (drop (p + 1) m))
@@ -197,7 +197,7 @@ module _ (f g : Read One One (List ℕ)) (b : ℕ) (m : List ℕ) (p : ℕ) wher
           rw (q, t .2, drop-drop j (p + 1) m, r) (end cs (omega (arith, t .1)) (g tt (p + (j + 1)) (drop (p + (j + 1)) m)))
       go (Fault y q) t e = apart e
 
--- ---- the bytes behind a character's first, at a place: none are left, the message ends, another byte, one byte and the others
+-- ---- the bytes after a character's first, at a place: none are left, the message ends, another byte, one byte and the others
 module _ (o n lo hi : ℕ) (m : List ℕ) (p : ℕ) where
   pub continued-none : n ≤ 0 → extentAt (continued o n lo hi) m p ≡ Done 0 0 [] tt
   continued-none z = none-left (λ i. extentAt (continued o i lo hi) m p ≡ Done 0 0 [] tt) n z refl
@@ -227,7 +227,7 @@ pub continued-size : (o n lo hi : ℕ) (m : List ℕ) (p j : ℕ) → p ≤ leng
 continued-size o n lo hi m p j l e = let t = extent-takes (Continued n lo hi) (continued o n lo hi) m p j (continued-takes o n lo hi) l e in (t .0, sym (t .2) ∙ continued-length (t .3))
 
 -- ---- characters, at a place
--- what may stand behind a character of two units, where n more than one are left with it
+-- what may stand after a character of two units, where n more than one are left with it
 abbrev behindTwo : ℕ → Option (Read One One (List ℕ))
 behindTwo zero = none
 behindTwo (suc n) = some (characters n)
@@ -236,7 +236,7 @@ characters-first : (n at : ℕ) (s : List ℕ) → characters (suc n) tt at s �
 characters-first zero at s = refl
 characters-first (suc n) at s = refl
 
--- the byte b opens a character of u units, with k bytes behind it
+-- the byte b opens a character of u units, with k bytes after it
 pub data Opens (b : ℕ) : ℕ → ℕ → ℕ → ℕ → Type 0 where
   basic : {k lo hi : ℕ} → charLead b ≡ Basic k lo hi → Opens b k lo hi 1
   supplementary : {lo hi : ℕ} → charLead b ≡ Supplementary lo hi → Opens b 3 lo hi 2
@@ -330,7 +330,7 @@ bind-same {A} n f g h e at s l = go (f tt at s)
     go (Done i a es c) = ap (before i es) (e a (at + i) (drop i s) (omega (arith, length-drop i s)))
     go (Fault x o) = refl
 
--- a chunk's content of n units; of one that is not the last, with what next reads behind it
+-- a chunk's content of n units; of one that is not the last, with what next reads after it
 abbrev contents : Kind → Read One One (List ℕ) → Bool → ℕ → Read One One (List ℕ)
 contents k next true n = body k n
 contents k next false n = bind (body k n) (λ cs. mapped (λ ds. cs ++ ds) next)
@@ -371,7 +371,7 @@ string-chunks k m p j l h =
     as-chunks at (b ∷ s) = refl
 
 -- ---- a chunk by its head
--- the forms of heads: the number itself, in up to two bytes behind the first
+-- the forms of heads: the number itself, in up to two bytes after the first
 abbrev Heads : List Form → Type 0
 Heads [] = Unit {0}
 Heads (w ∷ ws) = (w .rule ≡ Plain) × (w .extra ≤ 2) × Heads ws

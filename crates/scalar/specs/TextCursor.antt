@@ -72,7 +72,7 @@ module _ (k : Kind) (m : List ℕ) (c : Cursor) where
     going-run : Going k m c → Going k m (moved c n)
     going-run g = record { inside = omega (arith, g .inside); behind = λ f. rw end (g .behind f) }
 
--- ---- the cursor c is behind the bytes `front` of the content from the cursor a on
+-- ---- the cursor c is after the bytes `front` of the content from the cursor a on
 pub record Passed (k : Kind) (m : List ℕ) (a : Cursor) (front : List ℕ) (c : Cursor) : Type 0 where
   pub going : Going k m c
   pub joins : front ++ rest k m c ≡ rest k m a

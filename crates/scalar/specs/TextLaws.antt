@@ -68,7 +68,7 @@ module _ {C : Type 0} (I : Type 0) where
       (quietly (λ w ds. (w ≡ ds) × Body Utf8 n ds) (λ w a is c′. Whole Utf8 m c (b ∷ (v ++ w)) (b ∷ (cs ++ a)) is c′) c t
       (λ w ds z. rw (q .0, z .0) (quiet (refl, subst (λ (i : ℕ). Body Utf8 i (b ∷ (cs ++ ds))) e (with-char (x cs (q .1)) (z .1))))) (g c at₁ t) (hg at₁ t i)))
 
-  -- behind a character of two units one unit less is read
+  -- after a character of two units one unit less is read
   abbrev Less : ℕ → C → Option (Read C I (List ℕ)) → Type 0
   Less n c none = Unit {0}
   Less n c (some g) = (j : ℕ) × (suc j ≡ n) × Fills Utf8 j c g
@@ -99,14 +99,14 @@ module _ {C : Type 0} (I : Type 0) where
   body-read Utf8 n = characters-read n
   body-read Binary n = octets-read n
 
-  -- a string, and what stands behind its first byte b
+  -- a string, and what stands after its first byte b
   abbrev Text : Kind → C → Goal C I (List ℕ)
   Text k c = Quiet (String k) c
 
   abbrev Rest : Kind → ℕ → C → Goal C I (List ℕ)
   Rest k b c = Quiet (λ w cs. String k (b ∷ w) cs) c
 
-  -- a chunk, where `next` reads what stands behind one that is not the last
+  -- a chunk, where `next` reads what stands after one that is not the last
   chunk-read : (k : Kind) (next : Read C I (List ℕ)) (c : C) → ((at : ℕ) (s : List ℕ) → Bytes s → Parsed (Text k c) s (next c at s)) → (p b at : ℕ) (s : List ℕ) → Bytes s
       → Parsed (Rest k b c) s (chunk k next p b c at s)
   chunk-read k next c hn p b at s l = by-test (λ (g : Read C I (List ℕ)). Parsed (Rest k b c) s (g c at s)) (inside (partHead k) b) (λ x. part) (λ x. last)
@@ -172,7 +172,7 @@ module _ {C : Type 0} (I : Type 0) where
   body-make k empty c = body-none k c
   body-make k (with-char {n = n} {v = v} x r) c = char-make k x n v c (body-make k r c)
 
--- a string behind its first byte, read with any bound of the recursion that is not less than its bytes
+-- a string after its first byte, read with any bound of the recursion that is not less than its bytes
 module _ {C : Type 0} (I : Type 0) (k : Kind) where
   abbrev LedBy : List ℕ → List ℕ → C → Type 0
   LedBy [] cs c = ⊥
@@ -198,7 +198,7 @@ module _ {C : Type 0} (I : Type 0) (k : Kind) where
   string-by (last-chunk {n = n} {h = h} {cs = cs} y r) c = last-make h n cs c (number-makes I y (heads-proper k .0) c) (last-first k y) r
   string-by (chunk-before {n = n} {h = h} {cs = cs} {v = v} {ds = ds} y r z) c = part-make h n cs v ds c (number-makes I y (heads-proper k .1) c) (part-first (partHead k) y) r (string-by z c)
 
-  -- a string is read as its content, whatever stands behind it
+  -- a string is read as its content, whatever stands after it
   abbrev pub StringLed : List ℕ → List ℕ → C → Type 0
   StringLed w cs c = Leads {I = I} (stringFrom k) c w cs [] c
 
@@ -230,7 +230,7 @@ module _ {C I : Type 0} (c : C) where
       → Lifts c (bind (continued o j lo hi) (λ cs. mapped (λ ds. b ∷ (cs ++ ds)) f)) (bind (continued o j lo hi) (λ cs. mapped (λ ds. b ∷ (cs ++ ds)) g))
   then-lifts o b j lo hi h = bind-lifts c (continued-lifts o j lo hi) (λ cs. map-lifts c (λ ds. b ∷ (cs ++ ds)) h)
 
-  -- behind a character of two units, if it may stand there
+  -- after a character of two units, if it may stand there
   data LiftsIf : Option (Read C I (List ℕ)) → Option (Read One One (List ℕ)) → Type 0 where
     neither : LiftsIf none none
     both : {f : Read C I (List ℕ)} {g : Read One One (List ℕ)} → Lifts c f g → LiftsIf (some f) (some g)

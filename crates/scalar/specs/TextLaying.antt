@@ -30,7 +30,7 @@ module _ (k : Kind) (cs : List ℕ) where
   spelled-last h zero l = absurd (omega arith)
   spelled-last h (suc f) l = rw (longest-is, le-ltb 65535 (units k cs) h) refl
 
--- ---- from `to` on: `front` is stored, and with the form of the rest behind it is the form of the string at p. Of the rest u units and n bytes
+-- ---- from `to` on: `front` is stored, and with the form of the rest after it is the form of the string at p. Of the rest u units and n bytes
 pub record Laying (k : Kind) (m : List ℕ) (p : ℕ) (l : List ℕ) (to : ℕ) (c : Cursor) (u n place : ℕ) (l′ : List ℕ) : Type 0 where
   pub going : Going k m c
   pub units-are : u ≡ units k (rest k m c)
@@ -60,7 +60,7 @@ laying-start k m p u b to i r o l =
       holds = λ h. sym (stored-sets l to [] (omega arith));
     }
 
--- a head and a content stored behind what is stored
+-- a head and a content stored after what is stored
 stored-both : (l : List ℕ) (to : ℕ) (front h s tail l₁ l₂ : List ℕ) → to + length (front ++ (h ++ (s ++ tail))) ≤ length l → l₁ ≡ stored (stored l to front) (to + length front) h
     → l₂ ≡ stored l₁ (to + length front + length h) s → l₂ ≡ stored l to (front ++ (h ++ s))
 stored-both l to front h s tail l₁ l₂ r e d =

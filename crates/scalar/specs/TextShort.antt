@@ -155,7 +155,7 @@ weights-take k zero cs = refl
 weights-take k (suc n) [] = refl
 weights-take k (suc n) (b ∷ cs) = ap {B = List ℕ} (λ z. weight k b ∷ z) (weights-take k n cs)
 
--- a content longer than a chunk: its first chunk fits, and what is behind is shorter
+-- a content longer than a chunk: its first chunk fits, and what is after is shorter
 module _ (k : Kind) (cs : List ℕ) (h : 65535 < units k cs) where
   pub front-fits : units k (take (span longest (weights k cs)) cs) ≤ 65535
   front-fits = rw (weights-take, longest-is) (span-fits 65535 (weights k cs) .1)

@@ -25,14 +25,14 @@ string-parsed k m b p n cs es e =
     (λ x t h i. quietly (λ w a. String k (x ∷ w) a) (λ w a is c. String k (x ∷ w) a) tt t (λ w a y. y)
     (stringFrom k (min p (length m)) x tt (min p (length m) + 1) t) (string-scans One k (min p (length m)) x tt (min p (length m) + 1) t i)))
 
--- and a string of the grammar is read as its content, whatever stands before and behind it
+-- and a string of the grammar is read as its content, whatever stands before and after it
 pub string-derived : (k : Kind) (w cs : List ℕ) → String k w cs → (front tail : List ℕ) → stringAt k (front ++ (w ++ tail)) (length front) ≡ Done (length w) cs [] tt
 unfolding stringAt
 string-derived k w cs x front tail =
     let q = leads-byte (stringFrom k) w (string-makes One k x (tt {0})) .makes (min (length front) (length (front ++ (w ++ tail)))) tail in
     rw (drop-append-seam front (w ++ tail)) (q .1 ∙ ap (λ (es : List (Entry One)). Done (length w) cs es tt) (no-entries (q .0) (q .2)))
 
--- ---- (a) the shortest form of a content reads back as it, whatever stands before and behind it
+-- ---- (a) the shortest form of a content reads back as it, whatever stands before and after it
 pub text-reads-back : (k : Kind) (cs w : List ℕ) → shortestString k cs ≡ some w → (front tail : List ℕ) → stringAt k (front ++ (w ++ tail)) (length front) ≡ Done (length w) cs [] tt
 text-reads-back k cs w e front tail = string-derived k w cs (subst (IsString k cs) e (string-is k cs)) front tail
 

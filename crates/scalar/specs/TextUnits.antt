@@ -60,7 +60,7 @@ leads b =
     (either b 0xf4 0xf5 _ _ (λ h k. (omega arith, omega arith, omega arith, double b (omega arith)))
     tt))))))))
 
--- ---- the bytes behind the first are bytes, and weigh nothing
+-- ---- the bytes after the first are bytes, and weigh nothing
 abbrev Nothing : List ℕ → Type 0
 Nothing [] = Unit {0}
 Nothing (u ∷ us) = (u ≡ 0) × Nothing us

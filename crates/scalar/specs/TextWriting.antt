@@ -32,7 +32,7 @@ abbrev pub IsDone : Answer (List ℕ) → Type 0
 IsDone (Done n cs es c) = Unit {0}
 IsDone (Fault x o) = ⊥
 
--- the content from the cursor on: the rest of its chunk, and the chunks behind
+-- the content from the cursor on: the rest of its chunk, and the chunks after
 unfoldable pub rest : Kind → List ℕ → Cursor → List ℕ
 rest k m c = take (c .left) (drop (c .here) m) ++ cond (c .last) [] (contentOf (stringAt k m (c .here + c .left)))
 
@@ -50,7 +50,7 @@ pub record Spans (k : Kind) (cs : List ℕ) (cap : ℕ) (r : Span) : Type 0 wher
   pub bytes : r .bytes ≡ span cap (weights k cs)
   pub units-are : r .units ≡ units k (take (r .bytes) cs)
 
--- n bytes of the content from the cursor c on are in the list, where they fit; the cursor r is behind them
+-- n bytes of the content from the cursor c on are in the list, where they fit; the cursor r is after them
 pub record Copies (k : Kind) (m : List ℕ) (c : Cursor) (n : ℕ) (l : List ℕ) (to : ℕ) (l′ : List ℕ) (r : Cursor) : Type 0 where
   pub going : Going k m r
   pub behind : rest k m r ≡ drop n (rest k m c)

@@ -66,7 +66,7 @@ module _ {C I : Type 0} where
   continued o zero lo hi c at s = give [] c at s
   continued o (suc n) lo hi c at s = byteAt (λ p b. cond (within lo hi b) (mapped (λ cs. b ∷ cs) (continued o n 0x80 0xc0)) (fail 4 o)) c at s
 
-  -- a character behind its first byte b, at p, and then f where it counts one unit, g where it counts two; no g: one unit is left
+  -- a character after its first byte b, at p, and then f where it counts one unit, g where it counts two; no g: one unit is left
   abbrev pub character : CharLead → Read C I (List ℕ) → Option (Read C I (List ℕ)) → From C I (List ℕ)
   character (Basic k lo hi) f g p b c at s = bind (continued p k lo hi) (λ cs. mapped (λ ds. b ∷ (cs ++ ds)) f) c at s
   character (Supplementary lo hi) f none p b c at s = fail 4 p c at s
@@ -88,7 +88,7 @@ module _ {C I : Type 0} where
   body Binary n = octets n
   body Utf8 n = characters n
 
-  -- a chunk behind its first byte b, at p; `next` reads the chunks behind one that is not the last
+  -- a chunk after its first byte b, at p; `next` reads the chunks after one that is not the last
   abbrev pub chunk : Kind → Read C I (List ℕ) → From C I (List ℕ)
   chunk k next p b = cond (inside (partHead k) b)
       (bind (numberFrom (partHead k ∷ []) p b) (λ n. bind (body k n) (λ cs. mapped (λ ds. cs ++ ds) next)))
@@ -133,7 +133,7 @@ pub data String (k : Kind) : List ℕ → List ℕ → Type 0 where
 unfoldable pub longest : ℕ
 longest = 65_535
 
--- how many bytes of these weights fit cap units: whole characters, since the bytes behind a character's first weigh nothing
+-- how many bytes of these weights fit cap units: whole characters, since the bytes after a character's first weigh nothing
 abbrev pub span : ℕ → List ℕ → ℕ
 span cap [] = 0
 span cap (u ∷ us) = cond (ltb cap u) 0 (suc (span (cap - u) us))

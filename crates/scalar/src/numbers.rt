@@ -56,7 +56,7 @@ pub enum NumberRead {
     Refused { number: u8, place: usize },
 }
 
-// A form's first byte, and the lowest `more` bytes of `rest` behind it; or the value has no form of its kind.
+// A form's first byte, and the lowest `more` bytes of `rest` after it; or the value has no form of its kind.
 pub enum Spelling {
     Form { code: u8, more: usize, rest: u64 },
     Absent,
@@ -280,7 +280,7 @@ fn guess(rule: Rule, v: u64) -> u64
     }
 }
 
-// The form with these first bytes, so many bytes behind them, and this rule, where it holds v.
+// The form with these first bytes, so many bytes after them, and this rule, where it holds v.
 fn try_form(head: u8, codes: u64, more: usize, rule: Rule, v: u64) -> Spelling
     requires { ⌜ Good (form head codes more rule) ⌝ }
     ensures { λ r. ⌜ spelled r ≡ tried (form head codes more rule) v none ⌝ }

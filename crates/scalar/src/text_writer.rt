@@ -136,7 +136,7 @@ fn least(a: usize, b: usize) -> usize
     if a < b { a } else { b }
 }
 
-// `count` bytes of the content from the cursor on, in `out` from `to` on, where they fit. The cursor behind them.
+// `count` bytes of the content from the cursor on, in `out` from `to` on, where they fit. The cursor after them.
 fn copy(kind: Kind, source: &[u8], from: Cursor, count: usize, out: &mut [u8], to: usize) -> Cursor
     requires { ⌜ Going kind (now source) from × (count ≤ length (restOf kind (now source) from)) × (to + count < 2 ^ 64) ⌝ }
     ensures { λ r. ⌜ Copies kind (now (source .entry)) from count (now (out .entry)) to (now (out .exit)) r ⌝ }

@@ -128,7 +128,7 @@ fn char_lead(b: u8) -> CharLead
     }
 }
 
-// `more` bytes from `at` on, behind the first of the character at `place`.
+// `more` bytes from `at` on, after the first of the character at `place`.
 fn continued(message: &[u8], place: usize, at: usize, more: usize, from: u8, below: u8) -> Extent
     requires { ⌜ at ≤ length (now message) ⌝ }
     ensures { λ r. ⌜ toldExtent r ≡ extentAt (continuedBy place more from below) (now (message .entry)) at ⌝ }

@@ -1,7 +1,7 @@
 // Runs the functions on texts and byte strings over cases from standard input, and prints a line for each case.
 //
 // A case is a line: `u` for a text or `b` for a byte string, the place in decimal, and the message in segments, one space between. A
-// segment is bytes, two hexadecimal digits each; `*` and a number behind them say how often they stand there.
+// segment is bytes, two hexadecimal digits each; `*` and a number after them say how often they stand there.
 //
 // Where a string stands at the place, the line has its units, its content's bytes, and the bytes that it takes; its shortest form's
 // length, and that form in segments; and what holds:
@@ -25,7 +25,7 @@ const BLANK: u8 = 0xee;
 // Where the form is stored.
 const PLACE: usize = 5;
 
-// How many bytes are lent behind it.
+// How many bytes are lent after it.
 const BEHIND: usize = 6;
 
 // The longest message and the longest form that are looked at.

@@ -17,7 +17,7 @@ abbrev pub high : ℕ → ℕ → ℕ
 high zero u = u
 high (suc k) u = high k (u / 256)
 
--- how many numbers k bytes make behind one of c
+-- how many numbers k bytes make after one of c
 abbrev pub wider : ℕ → ℕ → ℕ
 wider zero c = c
 wider (suc k) c = 256 * wider k c

@@ -1,4 +1,4 @@
--- The loop's invariant: what is stored so far, with the form of the rest behind it, is the whole form. The measure is how many bytes of content are left.
+-- The loop's invariant: what is stored so far, with the form of the rest after it, is the whole form. The measure is how many bytes of content are left.
 use mathlib.Core.Path.{_∙_}
 use native.Mathlib.Omega.{arith}
 use borrow.Author.Needs.{needs}
