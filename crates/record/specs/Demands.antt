@@ -4,7 +4,8 @@ use mathlib.Core.Logic.{_↔_, _⊎_, inl, inr}
 use mathlib.Core.Bool.{Bool, true, false}
 use mathlib.Core.List.{List, [], _∷_}
 use mathlib.Core.Option.{Option, none, some}
-use Prim.Native.Nat.{ℕ, suc, _≤_, _<_}
+use Prim.Native.Nat.{ℕ, suc, _/_, _≤_, _<_}
+use native.Mathlib.Nat.{le-trans, mul-le-mul-right, div-mul-le-self}
 use native.Mathlib.Omega.{arith}
 use lib.Dec.{ltb}
 use lib.ListN.{length}
@@ -16,7 +17,10 @@ use Rattle.record.specs.Reading.{message, Accepted, Reads}
 use Rattle.record.specs.Grammar.{Message}
 use Rattle.record.specs.Rows.{Row, rows}
 use Rattle.record.specs.Meaning.{reads-derived, derived-reads, message-all}
-use Rattle.record.specs.Answers.{WriteAnswer, Wrote, Refused, judged, shortestOf, write, stored, Has}
+use Rattle.record.specs.Answers.{ReadAnswer, Accept, Refuse, judged, answered, read, WriteAnswer, Wrote, Refused, shortestOf, write, stored, Has}
+use Rattle.record.specs.Tables.{Layout, lentRows, rowsOf, filled, readTable}
+use Rattle.record.specs.TableLaws.{Sound, All, rows-again}
+use Rattle.record.specs.Whole.{rows-length}
 use Rattle.record.specs.Writing.{rows-no-longer, rows-back, rows-none, judged-done, done-judged}
 
 never : {A : Type 0} → _≡_ {A = ℕ} 0 1 → A
@@ -35,8 +39,8 @@ module _ (ℓ : Ceilings) (d longest : ℕ) where
   reads-accepts m r l x = go (message ℓ d start 0 m) refl (x .accepted)
     where
       go : (o : Outcome Known Item One) → message ℓ d start 0 m ≡ o → Accepted r o → Accepts ℓ d longest m r
-      go (Done n tt es c) e a =
-          let all = message-all ℓ d m (x .bytes) n tt es c e in
+      go (Done n u es c) e a =
+          let all = message-all ℓ d m (x .bytes) n u es c e in
           record { entries = es; known = c; done = done-judged ℓ d longest m (length m) es c l (e ∙ ap (λ (k : ℕ). Done k tt es c) all); reads-as = a }
       go (Fault y o) e a = absurd a
 
@@ -46,6 +50,46 @@ module _ (ℓ : Ceilings) (d longest : ℕ) where
         (p .0, reads-derived ℓ d m r (record { bytes = b; accepted = rw (p .1) (x .reads-as) })),
     λ x. reads-accepts m r (x .0) (derived-reads ℓ d m r (x .1)),
   )
+
+  -- and the lent rows suffice: the answer then is the record's rows; too few are refusal 9, which counts the rows needed
+  module _ (lent : ℕ) (m : List ℕ) where
+    pub rows-suffice : (r : List Item) (x : Accepts ℓ d longest m r) → length (x .entries) ≤ lent → read ℓ d longest lent m ≡ Accept (rows (x .entries)) (length m)
+    rows-suffice r x h = ap (answered lent) (x .done) ∙ pick-false _ _ (le-ltb lent (length (x .entries)) h)
+
+    pub rows-too-few : (r : List Item) (x : Accepts ℓ d longest m r) → lent < length (x .entries) → read ℓ d longest lent m ≡ Refuse 9 (length (x .entries)) 0
+    rows-too-few r x h = ap (answered lent) (x .done) ∙ pick-true _ _ (lt-ltb lent (length (x .entries)) h)
+
+    -- the answer holds the rows of a message that is accepted, and they fit
+    pub record Holds (rs : List Row) : Type 0 where
+      pub record-of : List Item
+      pub accepts : Accepts ℓ d longest m record-of
+      pub holds : rs ≡ rows (accepts .entries)
+      pub enough : length (accepts .entries) ≤ lent
+
+    -- and no other message is accepted
+    pub answer-holds : Bytes m → (rs : List Row) (n : ℕ) → read ℓ d longest lent m ≡ Accept rs n → Holds rs
+    answer-holds b rs n = go (judged ℓ d longest m) refl
+      where
+        go : (o : Outcome Known Item One) → judged ℓ d longest m ≡ o → answered lent o ≡ Accept rs n → Holds rs
+        go (Fault x o) e = λ a. never cc
+        go (Done k u es c) e = pick-either (λ z. z ≡ Accept rs n → Holds rs) (ltb lent (length es))
+            (λ t a. never cc)
+            (λ t a. let p = judged-done ℓ d longest m k es c e in
+            let all = message-all ℓ d m b k u es c (p .1) in
+            record {
+              record-of = items es;
+              accepts = record { entries = es; known = c; done = e ∙ ap (λ (j : ℕ). Done j tt es c) all; reads-as = refl };
+              holds = cc;
+              enough = ltb-false lent (length es) t;
+            })
+
+  -- the table then holds that record, whatever the layout in which these rows can be stored
+  pub table-holds : (L : Layout) → ((r : Row) → length (L .encode r) ≡ L .width) → (m t : List ℕ) → Bytes m → (rs : List Row) (n : ℕ) → All (Sound L) rs
+      → read ℓ d longest (lentRows L t) m ≡ Accept rs n → rowsOf L (length rs) (readTable ℓ d longest L m t) ≡ rs
+  table-holds L sized m t b rs n h e =
+      let x = answer-holds (lentRows L t) m b rs n e in
+      let k : length rs ≤ length t / L .width = omega (arith, ap length (x .holds), rows-length (x .accepts .entries), x .enough) in
+      ap (λ (z : ReadAnswer). rowsOf L (length rs) (filled L t z)) e ∙ rows-again L sized rs h t (le-trans (mul-le-mul-right (L .width) k) (div-mul-le-self (length t) (L .width)))
 
   module _ (openFrom : ℕ) (most : openFrom ≤ 48) (source : List ℕ) (r : List Row) where
     -- ---- the writer's answer, in the order of its refusals

@@ -31,7 +31,7 @@ abbrev answeredBy : ℕ → Placed One → ReadAnswer
 answeredBy lent (Got e u rs c) = pick (ltb lent (length rs)) (Refuse 9 (length rs) 0) (Accept rs e)
 answeredBy lent (Lost x o) = Refuse x 0 o
 
-rows-length : (es : List (Entry Item)) → length (rows es) ≡ length es
+pub rows-length : (es : List (Entry Item)) → length (rows es) ≡ length es
 rows-length [] = refl
 rows-length (e ∷ es) = ap suc (rows-length es)
 
