@@ -1,11 +1,12 @@
 -- What the reader and the writer answer: number, count and place, and what the table or the output then holds.
+use mathlib.Core.Path.{_≡_}
 use mathlib.Core.List.{List, [], _∷_}
 use mathlib.Core.Option.{Option, none, some}
 use Prim.Native.Nat.{ℕ}
 use lib.Dec.{ltb}
 use lib.ListN.{length}
 use Rattle.flow.specs.Tests.{pick}
-use Rattle.flow.specs.Flow.{Outcome, Done, Fault, One}
+use Rattle.flow.specs.Flow.{Entry, Outcome, Done, Fault, One, items}
 use Rattle.record.specs.Items.{Item, Known, start, Ceilings}
 use Rattle.record.specs.Reading.{message, Reads}
 use Rattle.record.specs.Rows.{Row, rows}
@@ -49,6 +50,13 @@ stored longest lent (some w) = pick (ltb longest (length w)) (Refused 1 0) (pick
 -- a source longer than `longest` is refusal 1, before all else
 unfoldable pub write : Ceilings → (openFrom d longest lent : ℕ) → List ℕ → List Row → WriteAnswer
 write ℓ openFrom d longest lent source r = pick (ltb longest (length source)) (Refused 1 0) (stored longest lent (shortestOf ℓ openFrom d source r))
+
+-- none of refusals 1 to 8 is given for the message m, which reads as the items r
+pub record Accepts (ℓ : Ceilings) (d longest : ℕ) (m : List ℕ) (r : List Item) : Type 0 where
+  pub entries : List (Entry Item)
+  pub known : Known
+  pub done : judged ℓ d longest m ≡ Done (length m) tt entries known
+  pub reads-as : items entries ≡ r
 
 -- ---- the message m has the record that the rows claim
 pub record Has (ℓ : Ceilings) (d : ℕ) (source : List ℕ) (r : List Row) (m : List ℕ) : Type 0 where

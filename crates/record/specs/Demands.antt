@@ -17,38 +17,20 @@ use Rattle.record.specs.Reading.{message, Accepted, Reads}
 use Rattle.record.specs.Grammar.{Message}
 use Rattle.record.specs.Rows.{Row, rows}
 use Rattle.record.specs.Meaning.{reads-derived, derived-reads, message-all}
-use Rattle.record.specs.Answers.{ReadAnswer, Accept, Refuse, judged, answered, read, WriteAnswer, Wrote, Refused, shortestOf, write, stored, Has}
-use Rattle.record.specs.Tables.{Layout, lentRows, rowsOf, filled, readTable}
+use Rattle.record.specs.Answers.{ReadAnswer, Accept, Refuse, judged, answered, read, WriteAnswer, Wrote, Refused, shortestOf, write, Has, Accepts}
+use Rattle.record.specs.Tables.{Layout, lentRows, rowsOf, reportRead, filled, readTable}
 use Rattle.record.specs.TableLaws.{Sound, All, rows-again}
 use Rattle.record.specs.Whole.{rows-length}
-use Rattle.record.specs.Writing.{rows-no-longer, rows-back, rows-none, judged-done, done-judged}
-
-never : {A : Type 0} → _≡_ {A = ℕ} 0 1 → A
-never z = absurd (omega arith)
-
--- none of refusals 1 to 8 is given for the message m, which reads as the items r
-pub record Accepts (ℓ : Ceilings) (d longest : ℕ) (m : List ℕ) (r : List Item) : Type 0 where
-  pub entries : List (Entry Item)
-  pub known : Known
-  pub done : judged ℓ d longest m ≡ Done (length m) tt entries known
-  pub reads-as : items entries ≡ r
+use Rattle.record.specs.Writing.{rows-no-longer, rows-back, rows-none, judged-done}
+use Rattle.record.specs.Answering.{never, reads-accepts, misfit-judged, by-read, by-answer, wrote-when, needed-when}
 
 module _ (ℓ : Ceilings) (d longest : ℕ) where
   -- ---- demand 2: a message is accepted exactly when the grammar reads it as one record within the limits
-  reads-accepts : (m : List ℕ) (r : List Item) → length m ≤ longest → Reads ℓ d m r → Accepts ℓ d longest m r
-  reads-accepts m r l x = go (message ℓ d start 0 m) refl (x .accepted)
-    where
-      go : (o : Outcome Known Item One) → message ℓ d start 0 m ≡ o → Accepted r o → Accepts ℓ d longest m r
-      go (Done n u es c) e a =
-          let all = message-all ℓ d m (x .bytes) n u es c e in
-          record { entries = es; known = c; done = done-judged ℓ d longest m (length m) es c l (e ∙ ap (λ (k : ℕ). Done k tt es c) all); reads-as = a }
-      go (Fault y o) e a = absurd a
-
   pub accepted-exactly : (m : List ℕ) → Bytes m → (r : List Item) → Accepts ℓ d longest m r ↔ ((length m ≤ longest) × Message ℓ d m r)
   accepted-exactly m b r = (
     λ x. let p = judged-done ℓ d longest m (length m) (x .entries) (x .known) (x .done) in
         (p .0, reads-derived ℓ d m r (record { bytes = b; accepted = rw (p .1) (x .reads-as) })),
-    λ x. reads-accepts m r (x .0) (derived-reads ℓ d m r (x .1)),
+    λ x. reads-accepts ℓ d longest m r (x .0) (derived-reads ℓ d m r (x .1)),
   )
 
   -- and the lent rows suffice: the answer then is the record's rows; too few are refusal 9, which counts the rows needed
@@ -59,6 +41,22 @@ module _ (ℓ : Ceilings) (d longest : ℕ) where
     pub rows-too-few : (r : List Item) (x : Accepts ℓ d longest m r) → lent < length (x .entries) → read ℓ d longest lent m ≡ Refuse 9 (length (x .entries)) 0
     rows-too-few r x h = ap (answered lent) (x .done) ∙ pick-true _ _ (lt-ltb lent (length (x .entries)) h)
 
+    -- ---- the reader's refusals: 1 to 9
+    pub read-numbered : Bytes m → reportRead (read ℓ d longest lent m) .number ≤ 9
+    read-numbered b = by-read ℓ d longest lent m b (λ a. reportRead a .number ≤ 9) (λ h. omega arith) (λ x o h. omega (arith, h .1)) (λ r x h. omega arith) (λ r x h. omega arith)
+
+    -- refusal 1 exactly where the message is empty or too long
+    pub read-refused-1 : Bytes m → (reportRead (read ℓ d longest lent m) .number ≡ 1) ↔ ((length m ≡ 0) ⊎ (longest < length m))
+    read-refused-1 b = (
+      by-read ℓ d longest lent m b (λ a. reportRead a .number ≡ 1 → (length m ≡ 0) ⊎ (longest < length m)) (λ h e. h) (λ x o h e. absurd (omega (arith, h .0))) (λ r x h e. absurd (omega arith)) (λ r x h e. absurd (omega arith)),
+      λ h. ap (λ (o : Outcome Known Item One). reportRead (answered lent o) .number) (misfit-judged ℓ d longest m h),
+    )
+
+    -- refusal 9 only where the message is else accepted, and its rows are more than are lent
+    pub read-refused-9 : Bytes m → reportRead (read ℓ d longest lent m) .number ≡ 9 → (r : List Item) × (x : Accepts ℓ d longest m r) × (lent < length (x .entries))
+    read-refused-9 b = by-read ℓ d longest lent m b (λ a. reportRead a .number ≡ 9 → (r : List Item) × (x : Accepts ℓ d longest m r) × (lent < length (x .entries)))
+        (λ h e. absurd (omega arith)) (λ x o h e. absurd (omega (arith, h .1))) (λ r x h e. (r, x, h)) (λ r x h e. absurd (omega arith))
+
     -- the answer holds the rows of a message that is accepted, and they fit
     pub record Holds (rs : List Row) : Type 0 where
       pub record-of : List Item
@@ -66,22 +64,11 @@ module _ (ℓ : Ceilings) (d longest : ℕ) where
       pub holds : rs ≡ rows (accepts .entries)
       pub enough : length (accepts .entries) ≤ lent
 
-    -- and no other message is accepted
+    -- no other message is accepted
     pub answer-holds : Bytes m → (rs : List Row) (n : ℕ) → read ℓ d longest lent m ≡ Accept rs n → Holds rs
-    answer-holds b rs n = go (judged ℓ d longest m) refl
-      where
-        go : (o : Outcome Known Item One) → judged ℓ d longest m ≡ o → answered lent o ≡ Accept rs n → Holds rs
-        go (Fault x o) e = λ a. never cc
-        go (Done k u es c) e = pick-either (λ z. z ≡ Accept rs n → Holds rs) (ltb lent (length es))
-            (λ t a. never cc)
-            (λ t a. let p = judged-done ℓ d longest m k es c e in
-            let all = message-all ℓ d m b k u es c (p .1) in
-            record {
-              record-of = items es;
-              accepts = record { entries = es; known = c; done = e ∙ ap (λ (j : ℕ). Done j tt es c) all; reads-as = refl };
-              holds = cc;
-              enough = ltb-false lent (length es) t;
-            })
+    answer-holds b rs n = by-read ℓ d longest lent m b (λ a. a ≡ Accept rs n → Holds rs)
+        (λ h e. never cc) (λ x o h e. never cc) (λ r x h e. never cc)
+        (λ r x h e. record { record-of = r; accepts = x; holds = cc; enough = h })
 
   -- the table then holds that record, whatever the layout in which these rows can be stored
   pub table-holds : (L : Layout) → ((r : Row) → length (L .encode r) ≡ L .width) → (m t : List ℕ) → Bytes m → (rs : List Row) (n : ℕ) → All (Sound L) rs
@@ -92,52 +79,27 @@ module _ (ℓ : Ceilings) (d longest : ℕ) where
       ap (λ (z : ReadAnswer). rowsOf L (length rs) (filled L t z)) e ∙ rows-again L sized rs h t (le-trans (mul-le-mul-right (L .width) k) (div-mul-le-self (length t) (L .width)))
 
   module _ (openFrom : ℕ) (most : openFrom ≤ 48) (source : List ℕ) (r : List Row) where
-    -- ---- the writer's answer, in the order of its refusals
-    by-answer : (lent : ℕ) (P : WriteAnswer → Type 0)
-        → (longest < length source → P (Refused 1 0))
-        → (length source ≤ longest → shortestOf ℓ openFrom d source r ≡ none → P (Refused 10 0))
-        → (length source ≤ longest → (w : List ℕ) → shortestOf ℓ openFrom d source r ≡ some w → longest < length w → P (Refused 1 0))
-        → (length source ≤ longest → (w : List ℕ) → shortestOf ℓ openFrom d source r ≡ some w → length w ≤ longest → lent < length w → P (Refused 9 (length w)))
-        → (length source ≤ longest → (w : List ℕ) → shortestOf ℓ openFrom d source r ≡ some w → length w ≤ longest → length w ≤ lent → P (Wrote w))
-        → P (write ℓ openFrom d longest lent source r)
-    unfolding write
-    by-answer lent P a b c e f = pick-either P (ltb longest (length source)) (λ t. a (ltb-true longest (length source) t)) (λ t. go (ltb-false longest (length source) t) (shortestOf ℓ openFrom d source r) refl)
-      where
-        go : length source ≤ longest → (o : Option (List ℕ)) → shortestOf ℓ openFrom d source r ≡ o → P (stored longest lent o)
-        go l none q = b l q
-        go l (some w) q = pick-either P (ltb longest (length w)) (λ t. c l w q (ltb-true longest (length w) t)) (λ t. pick-either P (ltb lent (length w))
-            (λ s. e l w q (ltb-false longest (length w) t) (ltb-true lent (length w) s))
-            (λ s. f l w q (ltb-false longest (length w) t) (ltb-false lent (length w) s)))
-
-    wrote-when : (lent : ℕ) (w : List ℕ) → length source ≤ longest → shortestOf ℓ openFrom d source r ≡ some w → length w ≤ longest → length w ≤ lent → write ℓ openFrom d longest lent source r ≡ Wrote w
-    unfolding write
-    wrote-when lent w l q i j = pick-false _ _ (le-ltb longest (length source) l) ∙ rw q (pick-false _ _ (le-ltb longest (length w) i) ∙ pick-false _ _ (le-ltb lent (length w) j))
-
-    needed-when : (k : ℕ) (w : List ℕ) → length source ≤ longest → shortestOf ℓ openFrom d source r ≡ some w → length w ≤ longest → k < length w → write ℓ openFrom d longest k source r ≡ Refused 9 (length w)
-    unfolding write
-    needed-when k w l q i j = pick-false _ _ (le-ltb longest (length source) l) ∙ rw q (pick-false _ _ (le-ltb longest (length w) i) ∙ pick-true _ _ (lt-ltb k (length w) j))
-
     -- ---- demand 2: what is written is accepted, and reads as the record that it was written from
     pub written-back : (lent : ℕ) (w : List ℕ) → write ℓ openFrom d longest lent source r ≡ Wrote w → (x : Has ℓ d source r w) × Accepts ℓ d longest w (x .record-of)
-    written-back lent w = by-answer lent (λ a. a ≡ Wrote w → (x : Has ℓ d source r w) × Accepts ℓ d longest w (x .record-of))
+    written-back lent w = by-answer ℓ d longest openFrom source r lent (λ a. a ≡ Wrote w → (x : Has ℓ d source r w) × Accepts ℓ d longest w (x .record-of))
         (λ l e. never cc)
         (λ l q e. never cc)
         (λ l v q i e. never cc)
         (λ l v q i j e. never cc)
         (λ l v q i j e. let s : v ≡ w = cc in
         let x = rows-back ℓ openFrom most d source r w (q ∙ ap {B = Option (List ℕ)} some s) in
-        (x, reads-accepts w (x .record-of) (subst (λ (z : List ℕ). length z ≤ longest) s i) (x .read-as)))
+        (x, reads-accepts ℓ d longest w (x .record-of) (subst (λ (z : List ℕ). length z ≤ longest) s i) (x .read-as)))
 
     -- ---- refusal 10 is given exactly when, length set aside, no message within the other ceilings has the record
     pub refused-10 : (lent : ℕ) → length source ≤ longest → (write ℓ openFrom d longest lent source r ≡ Refused 10 0) ↔ ((m : List ℕ) → Has ℓ d source r m → ⊥)
     refused-10 lent l = (
-      by-answer lent (λ a. a ≡ Refused 10 0 → (m : List ℕ) → Has ℓ d source r m → ⊥)
+      by-answer ℓ d longest openFrom source r lent (λ a. a ≡ Refused 10 0 → (m : List ℕ) → Has ℓ d source r m → ⊥)
           (λ i e. never cc)
           (λ i q e. rows-none ℓ openFrom most d source r .0 q)
           (λ i v q j e. never cc)
           (λ i v q j k e. never cc)
           (λ i v q j k e. never cc),
-      λ h. by-answer lent (λ a. a ≡ Refused 10 0)
+      λ h. by-answer ℓ d longest openFrom source r lent (λ a. a ≡ Refused 10 0)
           (λ i. absurd (omega arith))
           (λ i q. refl)
           (λ i v q j. let e = rows-none ℓ openFrom most d source r .1 h in never cc)
@@ -157,13 +119,13 @@ module _ (ℓ : Ceilings) (d longest : ℕ) where
 
     pub refused-1 : (lent : ℕ) → (write ℓ openFrom d longest lent source r ≡ Refused 1 0) ↔ ((longest < length source) ⊎ TooLong)
     refused-1 lent = (
-      by-answer lent (λ a. a ≡ Refused 1 0 → (longest < length source) ⊎ TooLong)
+      by-answer ℓ d longest openFrom source r lent (λ a. a ≡ Refused 1 0 → (longest < length source) ⊎ TooLong)
           (λ i e. inl i)
           (λ i q e. never cc)
           (λ i v q j e. inr (long-message v q j))
           (λ i v q j k e. never cc)
           (λ i v q j k e. never cc),
-      λ h. by-answer lent (λ a. a ≡ Refused 1 0)
+      λ h. by-answer ℓ d longest openFrom source r lent (λ a. a ≡ Refused 1 0)
           (λ i. refl)
           (λ i q. none-claimed i q h)
           (λ i v q j. refl)
@@ -191,7 +153,7 @@ module _ (ℓ : Ceilings) (d longest : ℕ) where
       pub needed : (lent : ℕ) → lent < length message-of → write ℓ openFrom d longest lent source r ≡ Refused 9 (length message-of)
 
     pub demand-3 : (lent : ℕ) → (write ℓ openFrom d longest lent source r ≡ Refused 1 0 → ⊥) → (write ℓ openFrom d longest lent source r ≡ Refused 10 0 → ⊥) → Shortest
-    demand-3 lent = by-answer lent (λ a. (a ≡ Refused 1 0 → ⊥) → (a ≡ Refused 10 0 → ⊥) → Shortest)
+    demand-3 lent = by-answer ℓ d longest openFrom source r lent (λ a. (a ≡ Refused 1 0 → ⊥) → (a ≡ Refused 10 0 → ⊥) → Shortest)
         (λ i x y. absurd (x refl))
         (λ i q x y. absurd (y refl))
         (λ i v q j x y. absurd (x refl))
@@ -203,9 +165,9 @@ module _ (ℓ : Ceilings) (d longest : ℕ) where
             let x = rows-back ℓ openFrom most d source r w q in
             record {
               message-of = w;
-              given-room = λ k l. wrote-when k w i q j l;
+              given-room = λ k l. wrote-when ℓ d longest openFrom source r k w i q j l;
               has = x;
-              accepted = reads-accepts w (x .record-of) j (x .read-as);
+              accepted = reads-accepts ℓ d longest w (x .record-of) j (x .read-as);
               none-shorter = λ m h. let p = rows-no-longer ℓ openFrom most d source r m h in let e = p .1 in let f : p .0 ≡ w = cc in omega (arith, p .2, ap length f);
-              needed = λ k l. needed-when k w i q j l;
+              needed = λ k l. needed-when ℓ d longest openFrom source r k w i q j l;
             }

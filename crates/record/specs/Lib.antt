@@ -18,6 +18,8 @@ pub mod Tables
 pub mod Same
 pub mod Writing
 pub mod TableLaws
+pub mod Refusals
+pub mod Answering
 pub mod Demands
 pub mod Placed
 pub mod Runs

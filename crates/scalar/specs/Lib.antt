@@ -24,3 +24,4 @@ pub mod TextHeads
 pub mod TextCursor
 pub mod TextLaying
 pub mod ScalarLaws
+pub mod Refusals

@@ -1,0 +1,124 @@
+-- A message that is not read is refused with one of 2 to 8.
+use mathlib.Core.Path.{_≡_, subst}
+use mathlib.Core.Bool.{cond}
+use mathlib.Core.List.{List, [], _∷_}
+use mathlib.Core.Option.{Option, none, some}
+use Prim.Native.Nat.{ℕ, zero, suc, _^_, _≤_}
+use native.Mathlib.Omega.{arith}
+use lib.Dec.{ltb}
+use lib.ListN.{length, getD}
+use Rattle.flow.specs.Flow.{Fault, One, give, fail, byteAt, changing, mapped, headed, bind, after, many, untilEnd}
+use Rattle.flow.specs.Refusals as tell
+use Rattle.scalar.specs.Scalars.{isText, scalarFrom, intFrom, textFrom}
+use Rattle.scalar.specs.Refusals.{scalar-tells, int-tells, text-tells}
+use Rattle.record.specs.Items.{Leaf, UntypedList, TypedList, UntypedMap, TypedMap, Object, Reference, Item, Val, Definition, ClassName, FieldName, TypeName, TypeNumber, Known, start, typed, defined, Ceilings}
+use Rattle.record.specs.Reading.{Reader, Opening, Form, leaf, few, few-typed, few-object, counted, counted-typed, open-list, open-typed, open-map, typed-map, object, reference, formOf, int, count, name, typeNumber, referenceTo, with-two, container, fieldValues, pair, typeName, typeFrom, withType, fieldNames, plainBy, plainFrom, definition, valueFrom, ending, message}
+
+abbrev pub Numbered : ℕ → Type 0
+Numbered x = (2 ≤ x) × (x ≤ 8)
+
+abbrev Tells : {A : Type 0} → Reader A → Type 0
+Tells f = tell.Tells Numbered f
+
+abbrev TellsFrom : {A : Type 0} → Opening A → Type 0
+TellsFrom f = tell.TellsFrom Numbered f
+
+two : Numbered 2
+two = (omega arith, omega arith)
+
+-- ---- parts
+int-part : {A : Type 0} (g : ℕ → ℕ → Reader A) → ((o n : ℕ) → Tells (g o n)) → Tells (int g)
+int-part g h = tell.byte-tells Numbered two (λ p b. bind (intFrom p b) (g p)) (λ p b. tell.bind-tells Numbered (intFrom p b) (g p) (int-tells Known Item Numbered two (omega arith, omega arith) (omega arith, omega arith) p b) (h p))
+
+count-part : {A : Type 0} (g : ℕ → ℕ → Reader A) → ((o n : ℕ) → Tells (g o n)) → Tells (count g)
+count-part g h = int-part (λ o n. cond (ltb n (2 ^ 63)) (g o n) (fail 5 o)) (λ o n. tell.cond-tells Numbered (ltb n (2 ^ 63)) (g o n) (fail 5 o) (h o n) (λ c at s. (omega arith, omega arith)))
+
+name-part : (x : List ℕ → Item) → TellsFrom (name x)
+name-part x p b = tell.headed-tells Numbered p x (textFrom p b) (text-tells Known Item Numbered two (omega arith, omega arith) (omega arith, omega arith) p b)
+
+number-part : (p k : ℕ) → Tells (typeNumber p k)
+number-part p k c at s =
+    tell.cond-tells Numbered (ltb k (c .types)) (mapped (λ u. k) (headed p TypeNumber (give k))) (fail 6 p) (λ c at s. tt) (λ c at s. (omega arith, omega arith)) c at s
+
+reference-part : (p k : ℕ) → Tells (referenceTo p k)
+reference-part p k c at s = tell.cond-tells Numbered (ltb k (c .references)) (give k) (fail 6 p) (λ c at s. tt) (λ c at s. (omega arith, omega arith)) c at s
+
+fields-part : (f : Opening One) → TellsFrom f → (p k : ℕ) → Tells (fieldValues f p k)
+fields-part f h p k c at s =
+    let n = getD (c .classes) k 0 in
+    tell.cond-tells Numbered (ltb k (length (c .classes))) (mapped (λ u. n) (many f n)) (fail 6 p) (tell.mapped-tells Numbered (λ u. n) (many f n) (tell.many-tells Numbered two f h n)) (λ c at s. (omega arith, omega arith)) c at s
+
+pair-part : (f : Opening One) → TellsFrom f → TellsFrom (pair f)
+pair-part f h p b = tell.bind-tells Numbered (f p b) (λ u. byteAt f) (h p b) (λ u. tell.byte-tells Numbered two f h)
+
+ending-part : Tells ending
+ending-part c at [] = tt
+ending-part c at (b ∷ s) = (omega arith, omega arith)
+
+abbrev TellsBelow : Option (Opening One) → Type 0
+TellsBelow none = Unit {0}
+TellsBelow (some f) = TellsFrom f
+
+container-part : (below : Option (Opening One)) → TellsBelow below → (p : ℕ) (body : Opening One → Reader One) → ((f : Opening One) → TellsFrom f → Tells (body f)) → Tells (container below p body)
+container-part none h p body k c at s = (omega arith, omega arith)
+container-part (some f) h p body k c at s = k f h _ at s
+
+module _ (ℓ : Ceilings) where
+  type-name-part : TellsFrom (typeName ℓ)
+  type-name-part p b c at s =
+      tell.cond-tells Numbered (ltb (c .types) (ℓ .types)) (mapped (λ u. c .types) (changing typed (name TypeName p b))) (fail 7 p)
+      (tell.mapped-tells Numbered (λ u. c .types) (changing typed (name TypeName p b)) (λ c at s. name-part TypeName p b (typed c) at s)) (λ c at s. (omega arith, omega arith)) c at s
+
+  type-part : {A : Type 0} (g : ℕ → Reader A) → ((t : ℕ) → Tells (g t)) → Tells (withType ℓ g)
+  unfolding typeFrom
+  type-part g h = tell.bind-tells Numbered (byteAt (typeFrom ℓ)) g (tell.byte-tells Numbered two (typeFrom ℓ) (λ p b.
+      tell.cond-tells Numbered (isText b) (typeName ℓ p b) (bind (intFrom p b) (typeNumber p)) (type-name-part p b)
+      (tell.bind-tells Numbered (intFrom p b) (typeNumber p) (int-tells Known Item Numbered two (omega arith, omega arith) (omega arith, omega arith) p b) (number-part p)))) h
+
+  -- ---- values
+  plain-part : (below : Option (Opening One)) → TellsBelow below → (x : Form) → TellsFrom (plainBy ℓ below x)
+  unfolding plainBy
+  plain-part below h leaf p b = tell.headed-tells Numbered p (λ x. Val (Leaf x)) (scalarFrom p b) (scalar-tells Known Item Numbered two (omega arith, omega arith) (omega arith, omega arith) p b)
+  plain-part below h (few n) p b = container-part below h p (λ f. headed p (λ u. Val (UntypedList n)) (many f n)) (λ f k. tell.headed-tells Numbered p (λ u. Val (UntypedList n)) (many f n) (tell.many-tells Numbered two f k n))
+  plain-part below h (few-typed n) p b = container-part below h p (λ f. headed p (λ t. Val (TypedList n t)) (withType ℓ (λ t. mapped (λ u. t) (many f n)))) (λ f k.
+      tell.headed-tells Numbered p (λ t. Val (TypedList n t)) (withType ℓ (λ t. mapped (λ u. t) (many f n))) (type-part (λ t. mapped (λ u. t) (many f n)) (λ t. tell.mapped-tells Numbered (λ u. t) (many f n) (tell.many-tells Numbered two f k n))))
+  plain-part below h (few-object i) p b = container-part below h p (λ f. headed p (λ n. Val (Object i n)) (fieldValues f p i)) (λ f k. tell.headed-tells Numbered p (λ n. Val (Object i n)) (fieldValues f p i) (fields-part f k p i))
+  plain-part below h counted p b = container-part below h p (λ f. headed p (λ n. Val (UntypedList n)) (count (λ o n. mapped (λ u. n) (many f n)))) (λ f k.
+      tell.headed-tells Numbered p (λ n. Val (UntypedList n)) (count (λ o n. mapped (λ u. n) (many f n))) (count-part (λ o n. mapped (λ u. n) (many f n)) (λ o n. tell.mapped-tells Numbered (λ u. n) (many f n) (tell.many-tells Numbered two f k n))))
+  plain-part below h counted-typed p b = container-part below h p (λ f. headed p (λ x. Val (TypedList (x .two) (x .one))) (withType ℓ (λ t. count (λ o n. mapped (λ u. with-two t n) (many f n))))) (λ f k.
+      tell.headed-tells Numbered p (λ x. Val (TypedList (x .two) (x .one))) (withType ℓ (λ t. count (λ o n. mapped (λ u. with-two t n) (many f n)))) (type-part (λ t. count (λ o n. mapped (λ u. with-two t n) (many f n)))
+      (λ t. count-part (λ o n. mapped (λ u. with-two t n) (many f n)) (λ o n. tell.mapped-tells Numbered (λ u. with-two t n) (many f n) (tell.many-tells Numbered two f k n)))))
+  plain-part below h open-list p b = container-part below h p (λ f. headed p (λ n. Val (UntypedList n)) (untilEnd 0x5a f)) (λ f k. tell.headed-tells Numbered p (λ n. Val (UntypedList n)) (untilEnd 0x5a f) (tell.end-tells Numbered two 0x5a f k))
+  plain-part below h open-typed p b = container-part below h p (λ f. headed p (λ x. Val (TypedList (x .two) (x .one))) (withType ℓ (λ t. mapped (with-two t) (untilEnd 0x5a f)))) (λ f k.
+      tell.headed-tells Numbered p (λ x. Val (TypedList (x .two) (x .one))) (withType ℓ (λ t. mapped (with-two t) (untilEnd 0x5a f))) (type-part (λ t. mapped (with-two t) (untilEnd 0x5a f)) (λ t. tell.mapped-tells Numbered (with-two t) (untilEnd 0x5a f) (tell.end-tells Numbered two 0x5a f k))))
+  plain-part below h open-map p b = container-part below h p (λ f. headed p (λ n. Val (UntypedMap n)) (untilEnd 0x5a (pair f))) (λ f k.
+      tell.headed-tells Numbered p (λ n. Val (UntypedMap n)) (untilEnd 0x5a (pair f)) (tell.end-tells Numbered two 0x5a (pair f) (pair-part f k)))
+  plain-part below h typed-map p b = container-part below h p (λ f. headed p (λ x. Val (TypedMap (x .two) (x .one))) (withType ℓ (λ t. mapped (with-two t) (untilEnd 0x5a (pair f))))) (λ f k.
+      tell.headed-tells Numbered p (λ x. Val (TypedMap (x .two) (x .one))) (withType ℓ (λ t. mapped (with-two t) (untilEnd 0x5a (pair f)))) (type-part (λ t. mapped (with-two t) (untilEnd 0x5a (pair f)))
+      (λ t. tell.mapped-tells Numbered (with-two t) (untilEnd 0x5a (pair f)) (tell.end-tells Numbered two 0x5a (pair f) (pair-part f k)))))
+  plain-part below h object p b = container-part below h p (λ f. headed p (λ x. Val (Object (x .one) (x .two))) (int (λ o k. mapped (with-two k) (fieldValues f p k)))) (λ f k.
+      tell.headed-tells Numbered p (λ x. Val (Object (x .one) (x .two))) (int (λ o k. mapped (with-two k) (fieldValues f p k))) (int-part (λ o k. mapped (with-two k) (fieldValues f p k)) (λ o i. tell.mapped-tells Numbered (with-two i) (fieldValues f p i) (fields-part f k p i))))
+  plain-part below h reference p b = tell.headed-tells Numbered p (λ k. Val (Reference k)) (int (λ o. referenceTo p)) (int-part (λ o. referenceTo p) (λ o. reference-part p))
+
+  definition-part : (p : ℕ) → Tells (definition ℓ p)
+  unfolding definition
+  definition-part p c at s =
+      tell.cond-tells Numbered (ltb (length (c .classes)) (ℓ .classes)) (headed p Definition (after (byteAt (name ClassName)) (count (fieldNames ℓ)))) (fail 7 p)
+      (tell.headed-tells Numbered p Definition (after (byteAt (name ClassName)) (count (fieldNames ℓ))) (tell.bind-tells Numbered (byteAt (name ClassName)) (λ u. count (fieldNames ℓ))
+      (tell.byte-tells Numbered two (name ClassName) (name-part ClassName))
+      (λ u. count-part (fieldNames ℓ) (λ o n. tell.cond-tells Numbered (ltb (ℓ .fields) n) (fail 7 o) (after (many (name FieldName) n) (changing (defined n) (give n))) (λ c at s. (omega arith, omega arith))
+      (tell.bind-tells Numbered (many (name FieldName) n) (λ u. changing (defined n) (give n)) (tell.many-tells Numbered two (name FieldName) (name-part FieldName) n) (λ u c at s. tt))))))
+      (λ c at s. (omega arith, omega arith)) c at s
+
+  value-part : (d : ℕ) → TellsFrom (valueFrom ℓ d)
+  unfolding valueFrom
+  value-part zero = tell.precededBy-tells Numbered two 0x43 (definition ℓ) (plainFrom ℓ none) definition-part (λ p b. plain-part none tt (formOf b) p b)
+  value-part (suc d) = tell.precededBy-tells Numbered two 0x43 (definition ℓ) (plainFrom ℓ (some (valueFrom ℓ d))) definition-part (λ p b. plain-part (some (valueFrom ℓ d)) (value-part d) (formOf b) p b)
+
+  pub message-tells : (d : ℕ) → Tells (message ℓ d)
+  unfolding message
+  message-tells d = tell.bind-tells Numbered (byteAt (valueFrom ℓ d)) (λ u. ending) (tell.byte-tells Numbered two (valueFrom ℓ d) (value-part d)) (λ u. ending-part)
+
+  -- the refusals of a message that is neither empty nor too long
+  pub message-numbered : (d x o : ℕ) (m : List ℕ) → message ℓ d start 0 m ≡ Fault x o → Numbered x
+  message-numbered d x o m e = subst (tell.Told Numbered) e (message-tells d start 0 m)
