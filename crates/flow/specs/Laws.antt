@@ -5,11 +5,11 @@ use mathlib.Core.Bool.{Bool, true, false, cond, not}
 use mathlib.Core.List.{List, [], _∷_, _++_, map, append-assoc}
 use Prim.Native.Nat.{ℕ, zero, suc, _+_, _≤_, _<_}
 use native.Mathlib.Omega.{arith}
-use lib.Dec.{T, eqb, eqb→eq, eqb-refl, not-T}
+use lib.Dec.{T, eqb, eqb→eq, eqb-refl}
 use lib.ListN.{length, take, drop, length-append, length-drop}
 use lib.Seq.{take-add, drop-append-seam}
-use Rattle.flow.specs.Tests.{by-test, tests, neqb, Bytes, bytes-drop, bytes-take}
-use Rattle.flow.specs.Flow.{Entry, Outcome, Done, Fault, Read, From, One, items, then, before, stepped, give, fail, byteAt, changing, asking, renamed, mapped, top, headed, bind, after, many, until, untilEnd, preceded, precededBy}
+use Rattle.flow.specs.Tests.{by-test, neqb, Bytes, bytes-drop}
+use Rattle.flow.specs.Flow.{Entry, Outcome, Done, Fault, Read, From, One, items, then, before, stepped, give, byteAt, changing, asking, renamed, mapped, top, headed, bind, after, many, until, untilEnd, preceded, precededBy}
 
 abbrev pub Goal : Type 0 → Type 0 → Type 0 → Type 1
 Goal C I A = List ℕ → A → List I → C → Type 0

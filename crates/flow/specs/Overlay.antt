@@ -1,6 +1,6 @@
 -- Lists stored in lists: a run of numbers in a lent slice, and the entries of a table, `width` numbers each by `encode`.
 use mathlib.Core.List.{List, [], _∷_, _++_}
-use Prim.Native.Nat.{ℕ, zero, suc, _+_, _*_}
+use Prim.Native.Nat.{ℕ, suc, _+_, _*_}
 use lib.Dec.{leb}
 use lib.ListN.{length, take, drop}
 use Rattle.flow.specs.Tests.{pick}

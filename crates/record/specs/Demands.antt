@@ -1,23 +1,23 @@
 -- The demands, in their words, for every ceiling, every allowance d of open containers and every threshold openFrom up to 48.
-use mathlib.Core.Path.{_≡_, refl, sym, _∙_, ap, subst}
+use mathlib.Core.Path.{_≡_, refl, _∙_, ap, subst}
 use mathlib.Core.Logic.{_↔_, _⊎_, inl, inr}
-use mathlib.Core.Bool.{Bool, true, false}
+use mathlib.Core.Bool.{true, false}
 use mathlib.Core.List.{List, [], _∷_}
 use mathlib.Core.Option.{Option, none, some}
-use Prim.Native.Nat.{ℕ, suc, _/_, _≤_, _<_}
+use Prim.Native.Nat.{ℕ, _/_, _≤_, _<_}
 use native.Mathlib.Nat.{le-trans, mul-le-mul-right, div-mul-le-self}
 use native.Mathlib.Omega.{arith}
 use lib.Dec.{ltb}
 use lib.ListN.{length}
-use borrow.Author.Tests.{le-ltb, lt-ltb, ltb-true, ltb-false}
-use Rattle.flow.specs.Tests.{pick, pick-true, pick-false, pick-either, Bytes}
-use Rattle.flow.specs.Flow.{Entry, Outcome, Done, Fault, One, items}
-use Rattle.record.specs.Items.{Item, Known, start, Ceilings}
-use Rattle.record.specs.Reading.{message, Accepted, Reads}
+use borrow.Author.Tests.{le-ltb, lt-ltb}
+use Rattle.flow.specs.Tests.{pick, pick-true, pick-false, Bytes}
+use Rattle.flow.specs.Flow.{Outcome, One}
+use Rattle.record.specs.Items.{Item, Known, Ceilings}
+use Rattle.record.specs.Reading.{message}
 use Rattle.record.specs.Grammar.{Message}
 use Rattle.record.specs.Rows.{Row, rows}
-use Rattle.record.specs.Meaning.{reads-derived, derived-reads, message-all}
-use Rattle.record.specs.Answers.{ReadAnswer, Accept, Refuse, judged, answered, read, WriteAnswer, Wrote, Refused, shortestOf, write, Has, Accepts}
+use Rattle.record.specs.Meaning.{reads-derived, derived-reads}
+use Rattle.record.specs.Answers.{ReadAnswer, Accept, Refuse, judged, answered, read, Wrote, Refused, shortestOf, write, Has, Accepts}
 use Rattle.record.specs.Tables.{Layout, lentRows, rowsOf, reportRead, filled, readTable}
 use Rattle.record.specs.TableLaws.{Sound, All, rows-again}
 use Rattle.record.specs.Whole.{rows-length}

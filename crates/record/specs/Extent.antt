@@ -1,5 +1,5 @@
 -- How far a value goes: a record has at most as many items as bytes, and the items read do not depend on what follows.
-use mathlib.Core.Path.{_≡_, refl, sym, _∙_, ap, subst}
+use mathlib.Core.Path.{_≡_, ap, subst}
 use mathlib.Core.Bool.{Bool, true, false}
 use mathlib.Core.List.{List, [], _∷_, _++_}
 use Prim.Native.Nat.{ℕ, zero, suc, _+_, _≤_, _<_}
@@ -7,15 +7,15 @@ use native.Mathlib.Omega.{arith}
 use lib.ListN.{length, take, length-append}
 use lib.Seq.{length-take-le}
 use Rattle.flow.specs.Tests.{Bytes}
-use Rattle.flow.specs.Flow.{Entry, Outcome, Done, Fault, One, items, byteAt}
+use Rattle.flow.specs.Flow.{Entry, Done, One, items, byteAt}
 use Rattle.flow.specs.Laws.{Phrase, Parsed, byte-reads, leads-byte, Many, finished, another, Ended, ended, Preceded, alone, first}
-use Rattle.scalar.specs.Scalars.{Spelt, Text}
+use Rattle.scalar.specs.Scalars.{Spelt}
 use Rattle.scalar.specs.Scalars as scalars
 use Rattle.scalar.specs.NumberLaws.{number-some}
 use Rattle.scalar.specs.TextLaws.{string-some}
 use Rattle.record.specs.Items.{Item, FieldName, Known, start, Ceilings}
 use Rattle.record.specs.Reading.{valueFrom, message, Reads}
-use Rattle.record.specs.Grammar.{NameForm, a-name, TypeForm, type-name, type-number, PairForm, a-pair, DefinitionForm, a-definition, PlainForm, a-leaf, a-few, a-counted, an-open, a-few-typed, a-counted-typed, an-open-typed, a-map, a-typed-map, a-few-object, an-object, a-reference, Nowhere, ValueForm, Message}
+use Rattle.record.specs.Grammar.{NameForm, a-name, TypeForm, type-name, type-number, PairForm, a-pair, DefinitionForm, a-definition, PlainForm, a-leaf, a-few, a-counted, an-open, a-few-typed, a-counted-typed, an-open-typed, a-map, a-typed-map, a-few-object, an-object, a-reference, Nowhere, ValueForm}
 use Rattle.record.specs.Parses.{value-reads}
 use Rattle.record.specs.Derives.{value-makes}
 use Rattle.record.specs.Meaning.{reads-derived}

@@ -2,14 +2,13 @@
 use mathlib.Core.Path.{_≡_, refl, sym, _∙_, ap}
 use mathlib.Core.Logic.{_↔_}
 use mathlib.Core.List.{List, [], _∷_}
-use mathlib.Core.Option.{Option, none, some}
-use Prim.Native.Nat.{ℕ, _≤_}
+use Prim.Native.Nat.{ℕ}
 use Rattle.scalar.specs.declared.texts.Kind.the-variants.{Utf8, Binary}
 use Rattle.scalar.specs.Scalars.{Num, Str}
 use Rattle.record.specs.Items.{Leaf, UntypedList, TypedList, UntypedMap, TypedMap, Object, Reference, Item, Val, Definition, ClassName, FieldName, TypeName, TypeNumber, Ceilings}
 use Rattle.record.specs.Rows.{Row, row, itemRow}
 use Rattle.record.specs.Spelling.{spell}
-use Rattle.record.specs.Claims.{contentOf, contentAt, Claims, ClaimAll, no-rows, a-row, onSome, recordOf, all-claimed}
+use Rattle.record.specs.Claims.{contentAt, Claims, ClaimAll, no-rows, a-row, onSome, all-claimed}
 use Rattle.record.specs.Answers.{shortestOf}
 
 -- two rows agree in all but place, and their places open the same content, each in its own source

@@ -10,7 +10,7 @@ use lib.ListN.{length, take, drop, getD, length-append, length-take, length-drop
 use lib.Seq.{length-take-le}
 use mir.Syntax.{w8, w64}
 use mir.Val.{Fits}
-use Rattle.flow.specs.Tests.{pick, Bytes, bytes-take, bytes-drop, bytes-all}
+use Rattle.flow.specs.Tests.{pick, bytes-take, bytes-drop, bytes-all}
 use Rattle.flow.specs.Flow.{Answer, Done, Fault}
 use Rattle.wire.specs.BigEndian.{joined, wider}
 use Rattle.wire.specs.Laws.{joined-below}

@@ -1,9 +1,9 @@
 -- A table that a function computes: antt compares the two entry by entry.
-use mathlib.Core.Path.{_≡_, refl, ap, _∙_, sym}
+use mathlib.Core.Path.{_≡_, ap, _∙_, sym}
 use mathlib.Core.List.{List, [], _∷_}
 use Prim.Native.Nat.{ℕ, zero, suc, _+_, _<_}
 use native.Mathlib.Nat.{add-zero, zero-add, add-suc, suc-add, le-of-suc-le-suc, not-suc-le-zero}
-use lib.ListN.{length, getD}
+use lib.ListN.{getD}
 
 -- f at k, k + 1, .., n of them
 abbrev pub tabled : (ℕ → ℕ) → ℕ → ℕ → List ℕ

@@ -1,13 +1,13 @@
 -- The longest chunks first are the shortest spelling. Chunks count units. A content is here the list of its bytes' units, at most two each.
 use mathlib.Core.Path.{_≡_, refl, sym, _∙_, ap}
 use mathlib.Core.Bool.{Bool, true, false, cond, not}
-use mathlib.Core.List.{List, [], _∷_, _++_}
-use Prim.Native.Nat.{ℕ, zero, suc, _+_, _*_, _-_, _≤_, _<_}
+use mathlib.Core.List.{List, [], _∷_}
+use Prim.Native.Nat.{ℕ, zero, suc, _+_, _-_, _≤_, _<_}
 use native.Mathlib.Omega.{arith}
 use lib.Dec.{T, ltb}
 use lib.ListN.{length, take, drop, length-drop}
 use lib.Seq.{drop-drop}
-use Rattle.flow.specs.Tests.{by-test, pass, skip, tests}
+use Rattle.flow.specs.Tests.{by-test, tests}
 use Rattle.scalar.specs.Texts.{total, span}
 
 abbrev pub Chars : List ℕ → Type 0

@@ -1,21 +1,19 @@
 -- Single values: what is read is a form of the grammar, and a form of the grammar is read; the shortest form.
 use mathlib.Core.Path.{_≡_, refl, sym, _∙_, ap, subst}
-use mathlib.Core.Bool.{Bool, true, false, cond, not, _&&_}
-use mathlib.Core.List.{List, [], _∷_, _++_}
+use mathlib.Core.Bool.{Bool, true, false, cond, _&&_}
+use mathlib.Core.List.{List, [], _∷_}
 use mathlib.Core.Option.{Option, none, some}
-use Prim.Native.Nat.{ℕ, zero, suc, _+_, _*_, _-_, _^_, _≤_, _<_}
+use Prim.Native.Nat.{ℕ, zero, suc, _+_, _*_, _-_, _≤_, _<_}
 use native.Mathlib.Omega.{arith}
 use lib.Dec.{T, ltb, leb, leb→le, eqb, eqb→eq, eqb-refl, ltb→lt}
-use lib.ListN.{length, length-append}
-use Rattle.flow.specs.Tests.{by-test, pass, tests, and-left, and-right, and-both, pick, pick-true, pick-false, pick-either, within, within-yes, within-below, within-above, within-is, Bytes, First}
-use Rattle.flow.specs.Flow.{Read, Outcome, Done, Fault, byteAt, mapped}
-use Rattle.flow.specs.Laws.{Goal, Parsed, gives, takes, maps, Makes, give-makes, byte-makes, map-makes, Quiet, quiet}
+use lib.ListN.{length}
+use Rattle.flow.specs.Tests.{by-test, pass, and-left, and-right, and-both, pick, pick-true, pick-false, pick-either, within, within-yes, within-below, within-above, within-is, Bytes, First}
+use Rattle.flow.specs.Laws.{Goal, Parsed, gives, takes, maps, Makes, byte-makes, map-makes, Quiet, quiet}
 use Rattle.wire.specs.BigEndian.{joined, be, high, wider}
 use Rattle.wire.specs.Laws.{be-length, be-bytes, joined-be, high-below, joined-below}
-use Rattle.scalar.specs.declared.numbers.Rule.{Rule}
 use Rattle.scalar.specs.declared.numbers.Begun.{Begun}
-use Rattle.scalar.specs.declared.numbers.Begun.the-variants.{Starts, NoForm}
-use Rattle.scalar.specs.Numbers.{value, Form, inside, formAt, bytesOf, numberBy, numberFrom, Held, held, Number, here, later, guess, spelling, fits, tried, shortest}
+use Rattle.scalar.specs.declared.numbers.Begun.the-variants.{Starts}
+use Rattle.scalar.specs.Numbers.{value, Form, inside, formAt, bytesOf, numberBy, numberFrom, Held, held, Number, here, later, guess, spelling, fits, shortest}
 
 -- how many numbers a form holds
 abbrev pub size : Form → ℕ

@@ -1,16 +1,16 @@
 -- The laws of single values by name, for every kind: null, false, true, int, long, double, date.
-use mathlib.Core.Path.{_≡_, refl, sym, _∙_, ap, subst}
+use mathlib.Core.Path.{_≡_, refl, _∙_, ap, subst}
 use mathlib.Core.List.{List, [], _∷_, _++_}
-use mathlib.Core.Option.{Option, none, some}
-use Prim.Native.Nat.{ℕ, suc, _+_, _-_, _≤_, _<_, min}
+use mathlib.Core.Option.{none, some}
+use Prim.Native.Nat.{ℕ, _+_, _-_, _≤_, _<_, min}
 use native.Mathlib.Omega.{arith}
 use lib.ListN.{length, take, drop, length-drop, length-take}
 use lib.Seq.{drop-append-seam, length-take-le}
 use Rattle.flow.specs.Tests.{Bytes, bytes-drop}
-use Rattle.flow.specs.Flow.{Entry, Outcome, Answer, Done, Fault, One, items, byteAt}
-use Rattle.flow.specs.Laws.{Parsed, takes, weaker, quietly, Makes, byte-makes}
+use Rattle.flow.specs.Flow.{Entry, Answer, Done, One, items, byteAt}
+use Rattle.flow.specs.Laws.{Parsed, takes, quietly, Makes, byte-makes}
 use Rattle.scalar.specs.declared.numbers.Sort.{Sort}
-use Rattle.scalar.specs.Numbers.{Form, formsOf, numberFrom, numberAt, Number, shortest}
+use Rattle.scalar.specs.Numbers.{formsOf, numberFrom, numberAt, Number, shortest}
 use Rattle.scalar.specs.NumberLaws.{number-scans, number-makes, NumberLed, number-some, shortest-is, IsNumber, Shorter}
 use Rattle.scalar.specs.Sorts.{properly, none-shorter}
 

@@ -7,7 +7,6 @@ use lib.ListN.{length}
 use Rattle.flow.specs.Tests.{within}
 use Rattle.flow.specs.Flow.{Read, From, mapped, fail, bind}
 use Rattle.flow.specs.Refusals.{Tells, TellsFrom, cond-tells, byte-tells, mapped-tells, bind-tells}
-use Rattle.scalar.specs.declared.numbers.Sort.{Sort}
 use Rattle.scalar.specs.declared.numbers.Sort.the-variants as sort
 use Rattle.scalar.specs.declared.numbers.Begun.{Begun}
 use Rattle.scalar.specs.declared.numbers.Begun.the-variants.{Starts, NoForm}

@@ -1,17 +1,17 @@
 -- Scalars: what the layer above uses of their forms.
-use mathlib.Core.Path.{_≡_, refl, sym, _∙_, ap, subst}
+use mathlib.Core.Path.{_≡_, refl, _∙_, ap, subst}
 use mathlib.Core.Bool.{Bool, true, false, cond, not}
 use mathlib.Core.List.{List, [], _∷_, _++_}
 use mathlib.Core.Option.{Option, none, some}
-use Prim.Native.Nat.{ℕ, zero, suc, _+_, _≤_, _<_}
+use Prim.Native.Nat.{ℕ, _+_, _≤_, _<_}
 use native.Mathlib.Omega.{arith}
 use lib.Dec.{T, ltb, eqb, eqb→eq}
 use lib.IntN.{pos}
 use borrow.Author.Tests.{le-leb}
 use lib.ListN.{length}
-use Rattle.flow.specs.Tests.{by-test, pick, pass, every, every-at, implies, implied, and-both, within-yes, Bytes, First}
+use Rattle.flow.specs.Tests.{by-test, pick, pass, every, every-at, implies, implied, within-yes, Bytes, First}
 use Rattle.flow.specs.Flow.{From, Fault, mapped}
-use Rattle.flow.specs.Laws.{Parsed, maps, Quiet, quiet, quietly, Makes, map-makes, Leads}
+use Rattle.flow.specs.Laws.{Parsed, maps, Quiet, quiet, quietly, map-makes, Leads}
 use Rattle.scalar.specs.declared.numbers.Sort.{Sort}
 use Rattle.scalar.specs.declared.numbers.Sort.the-variants as sort
 use Rattle.scalar.specs.declared.texts.Kind.{Kind}

@@ -1,7 +1,7 @@
 -- A scalar: a single value, a text or a byte string. What the layer above sees of all their forms.
 use mathlib.Core.Bool.{Bool}
 use mathlib.Core.List.{List, [], _∷_}
-use mathlib.Core.Option.{Option, none, some}
+use mathlib.Core.Option.{Option}
 use Prim.Native.Nat.{ℕ}
 use lib.Dec.{ltb, eqb}
 use Rattle.flow.specs.Flow.{From, fail, mapped}

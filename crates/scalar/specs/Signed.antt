@@ -1,14 +1,14 @@
 -- Numbers with a sign, in two's complement: what the definitions say in ℤ, said in ℕ.
-use mathlib.Core.Path.{_≡_, refl, sym, ap, _∙_, subst}
-use mathlib.Core.Bool.{Bool, true, false, not, cond}
+use mathlib.Core.Path.{_≡_, refl, sym, ap, subst}
+use mathlib.Core.Bool.{true, false, not, cond}
 use Prim.Native.Nat.{ℕ, zero, suc, _+_, _-_, _*_, _/_, _^_, _%_, _≤_, _<_}
 use native.Mathlib.Omega.{arith}
 use lib.Dec.{T, ltb, ltb→lt, nltb→le}
 use borrow.Author.Tests.{ltb-true}
 use lib.IntN.{ℤ, pos, negsuc, negℤ, subℕ, _-ℤ_, _*ℤ_}
 use lib.Signed.{mag, ltZ, quotZ}
-use mir.Syntax.{Width, w32, w64}
-use mir.Val.{SFits, ofZ, toZ, bits, hbits}
+use mir.Syntax.{w32, w64}
+use mir.Val.{SFits, ofZ, toZ, bits}
 use mir.ValLaws.{toZ-ofZ, toZ-neg, toZ-pos}
 use Rattle.flow.specs.Tests.{by-test, split}
 

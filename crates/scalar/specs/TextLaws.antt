@@ -1,22 +1,21 @@
 -- Texts and byte strings: what is read is a string of the grammar, and a string of the grammar is read; its bytes and its units.
-use mathlib.Core.Path.{_≡_, refl, sym, _∙_, ap, subst}
-use mathlib.Core.Bool.{Bool, true, false, cond, not}
+use mathlib.Core.Path.{_≡_, refl, ap, subst}
+use mathlib.Core.Bool.{true, false, cond, not}
 use mathlib.Core.List.{List, [], _∷_, _++_}
 use mathlib.Core.Option.{Option, none, some}
 use Prim.Native.Nat.{ℕ, zero, suc, _+_, _≤_, _<_}
 use native.Mathlib.Omega.{arith}
-use lib.Dec.{T, ltb}
-use borrow.Author.Tests.{lt-ltb, le-ltb}
-use lib.ListN.{length, drop, length-append}
-use Rattle.flow.specs.Tests.{by-test, pick, pick-either, within, within-yes, within-below, within-above, within-is, Bytes, bytes-append, First}
-use Rattle.flow.specs.Flow.{Entry, Read, From, Outcome, Done, Fault, One, then, before, stepped, renamed, give, fail, byteAt, mapped, bind}
+use lib.Dec.{T}
+use lib.ListN.{length, length-append}
+use Rattle.flow.specs.Tests.{by-test, within, within-yes, within-is, Bytes, bytes-append, First}
+use Rattle.flow.specs.Flow.{Read, From, One, then, before, give, fail, mapped, bind}
 use Rattle.flow.specs.Lifts.{Lifts, give-lifts, fail-lifts, byte-lifts, map-lifts, bind-lifts, test-lifts}
-use Rattle.flow.specs.Laws.{Goal, Parsed, gives, takes, maps, weaker, Quiet, quiet, quietly, binds-quiet, Makes, give-makes, byte-makes, bind-makes, map-makes, pass-makes, skip-makes, bound-makes, Leads}
+use Rattle.flow.specs.Laws.{Goal, Parsed, gives, takes, maps, Quiet, quiet, quietly, binds-quiet, Makes, byte-makes, bind-makes, map-makes, pass-makes, skip-makes, bound-makes, Leads}
 use Rattle.scalar.specs.declared.texts.Kind.{Kind}
 use Rattle.scalar.specs.declared.texts.Kind.the-variants.{Utf8, Binary}
 use Rattle.scalar.specs.declared.texts.CharLead.{CharLead}
 use Rattle.scalar.specs.declared.texts.CharLead.the-variants.{Basic, Supplementary, NoChar}
-use Rattle.scalar.specs.Numbers.{Form, inside, numberFrom, Number, here, later, held}
+use Rattle.scalar.specs.Numbers.{Form, inside, numberFrom, Number, here, held}
 use Rattle.scalar.specs.NumberLaws.{proper, clear, number-apart, number-scans, NumberLed, number-makes, number-bytes, number-some}
 use Rattle.scalar.specs.NumberAt.{number-lifts}
 use Rattle.scalar.specs.TextUnits.{body-bytes}

@@ -1,14 +1,14 @@
 -- The laws of texts and byte strings by name, for both kinds.
-use mathlib.Core.Path.{_≡_, refl, sym, _∙_, ap, subst}
+use mathlib.Core.Path.{_≡_, _∙_, ap, subst}
 use mathlib.Core.List.{List, [], _∷_, _++_, append-assoc}
-use mathlib.Core.Option.{Option, none, some}
-use Prim.Native.Nat.{ℕ, suc, _+_, _≤_, _<_, min}
+use mathlib.Core.Option.{some}
+use Prim.Native.Nat.{ℕ, _+_, _≤_, _<_, min}
 use native.Mathlib.Omega.{arith}
 use lib.ListN.{length, take, drop, length-drop, length-take}
 use lib.Seq.{drop-append-seam, length-take-le, take-add}
 use Rattle.flow.specs.Tests.{Bytes, bytes-drop}
-use Rattle.flow.specs.Flow.{Entry, Answer, Done, Fault, One, items, byteAt}
-use Rattle.flow.specs.Laws.{Parsed, takes, quietly, Makes, leads-byte}
+use Rattle.flow.specs.Flow.{Entry, Answer, Done, One}
+use Rattle.flow.specs.Laws.{Parsed, takes, quietly, leads-byte}
 use Rattle.scalar.specs.declared.texts.Kind.{Kind}
 use Rattle.scalar.specs.NumberTheorems.{no-entries}
 use Rattle.scalar.specs.Texts.{stringFrom, stringAt, String, shortestString}
