@@ -11,10 +11,10 @@ use Rattle.record.specs.Items.{Item, Known, start, Ceilings}
 use Rattle.record.specs.Reading.{message, Reads}
 use Rattle.record.specs.Rows.{Row, rows}
 use Rattle.record.specs.Spelling.{spell}
-use Rattle.record.specs.Claims.{ClaimAll, onSome, recordOf}
+use Rattle.record.specs.Claims.{ClaimAll}
+use Rattle.record.specs.Claimed.{onSome, recordOf}
 
--- ---- the reader
--- Accept: the rows, the message's length. Refuse: number, count, place
+-- ---- the reader. Accept: the rows, the message's length. Refuse: number, count, place
 pub data ReadAnswer : Type 0 where
   Accept : List Row → ℕ → ReadAnswer
   Refuse : ℕ → ℕ → ℕ → ReadAnswer
@@ -32,8 +32,7 @@ answered lent (Fault x o) = Refuse x 0 o
 abbrev pub read : Ceilings → (d longest lent : ℕ) → List ℕ → ReadAnswer
 read ℓ d longest lent m = answered lent (judged ℓ d longest m)
 
--- ---- the writer
--- Wrote: the bytes written. Refused: number, count; the place is 0
+-- ---- the writer. Wrote: the bytes written. Refused: number, count; the place is 0
 pub data WriteAnswer : Type 0 where
   Wrote : List ℕ → WriteAnswer
   Refused : ℕ → ℕ → WriteAnswer
@@ -48,8 +47,11 @@ stored longest lent none = Refused 10 0
 stored longest lent (some w) = pick (ltb longest (length w)) (Refused 1 0) (pick (ltb lent (length w)) (Refused 9 (length w)) (Wrote w))
 
 -- a source longer than `longest` is refusal 1, before all else
+abbrev pub answeredTo : (longest lent : ℕ) → (source : List ℕ) → Option (List ℕ) → WriteAnswer
+answeredTo longest lent source o = pick (ltb longest (length source)) (Refused 1 0) (stored longest lent o)
+
 unfoldable pub write : Ceilings → (openFrom d longest lent : ℕ) → List ℕ → List Row → WriteAnswer
-write ℓ openFrom d longest lent source r = pick (ltb longest (length source)) (Refused 1 0) (stored longest lent (shortestOf ℓ openFrom d source r))
+write ℓ openFrom d longest lent source r = answeredTo longest lent source (shortestOf ℓ openFrom d source r)
 
 -- none of refusals 1 to 8 is given for the message m, which reads as the items r
 pub record Accepts (ℓ : Ceilings) (d longest : ℕ) (m : List ℕ) (r : List Item) : Type 0 where

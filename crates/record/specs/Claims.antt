@@ -1,23 +1,19 @@
 -- What the rows of a table claim: the items whose rows they are, with the contents that their places open in the source.
-use mathlib.Core.Path.{_≡_, refl, sym, _∙_, ap, subst}
-use mathlib.Core.Bool.{Bool, true, false, cond, _&&_}
-use mathlib.Core.Logic.{_↔_}
+use mathlib.Core.Path.{_≡_}
+use mathlib.Core.Bool.{_||_}
 use mathlib.Core.List.{List, [], _∷_}
 use mathlib.Core.Option.{Option, none, some}
 use Prim.Native.Nat.{ℕ}
-use lib.Dec.{T, eqb, eqb→eq, eqb-refl}
-use Rattle.flow.specs.Tests.{by-test, pass, pick, within, and-left, and-right, and-both}
+use lib.Dec.{eqb}
+use Rattle.flow.specs.Tests.{pick, within}
 use Rattle.flow.specs.Flow.{Answer, Done, Fault}
-use Rattle.scalar.specs.declared.numbers.Sort.the-variants as sort
-use Rattle.scalar.specs.declared.texts.Kind.{Kind}
 use Rattle.scalar.specs.declared.texts.Kind.the-variants.{Utf8, Binary}
 use Rattle.scalar.specs.Texts.{stringAt}
 use Rattle.scalar.specs.Scalars.{Num, Str}
 use Rattle.record.specs.Items.{Leaf, UntypedList, TypedList, UntypedMap, TypedMap, Object, Reference, Item, Val, Definition, ClassName, FieldName, TypeName, TypeNumber}
 use Rattle.record.specs.Rows.{Row, itemRow}
 
--- ---- contents
--- an item's content: a text's or name's characters in UTF-8, a byte string's bytes
+-- ---- an item's content: a text's or name's characters in UTF-8, a byte string's bytes
 abbrev pub contentOf : Item → List ℕ
 contentOf (Val (Leaf (Num s v))) = []
 contentOf (Val (Leaf (Str k cs))) = cs
@@ -33,21 +29,14 @@ contentOf (FieldName cs) = cs
 contentOf (TypeName cs) = cs
 contentOf (TypeNumber k) = []
 
--- what rows of the kind k have as content: 7, 16, 17 and 18 a text's, 8 a byte string's, the others none
-unfoldable pub contentKind : ℕ → Option Kind
-contentKind k = pick (eqb k 7) (some Utf8) (pick (eqb k 8) (some Binary) (pick (within 16 19 k) (some Utf8) none))
-
 abbrev pub told : Answer (List ℕ) → Option (List ℕ)
 told (Done n cs es c) = some cs
 told (Fault x o) = none
 
-abbrev pub contentBy : Option Kind → List ℕ → ℕ → Option (List ℕ)
-contentBy none source p = some []
-contentBy (some k) source p = told (stringAt k source p)
-
--- the content that a row of the kind k and the place p has in the source: none where no complete item of its kind is opened there
-abbrev pub contentAt : List ℕ → ℕ → ℕ → Option (List ℕ)
-contentAt source k p = contentBy (contentKind k) source p
+-- the content that a row of the kind k and the place p has in the source: 7, 16, 17 and 18 a text's, 8 a byte string's, the others an empty one;
+-- none where no complete item of its kind is opened there
+unfoldable pub contentAt : List ℕ → ℕ → ℕ → Option (List ℕ)
+contentAt source k p = pick (eqb k 8) (told (stringAt Binary source p)) (pick (eqb k 7 || within 16 19 k) (told (stringAt Utf8 source p)) (some []))
 
 -- ---- a row claims an item: it is the item's row at its own place, which opens the item's content
 pub record Claims (source : List ℕ) (x : Row) (i : Item) : Type 0 where
@@ -57,150 +46,3 @@ pub record Claims (source : List ℕ) (x : Row) (i : Item) : Type 0 where
 pub data ClaimAll (source : List ℕ) : List Row → List Item → Type 0 where
   no-rows : ClaimAll source [] []
   a-row : {x : Row} {i : Item} {r : List Row} {is : List Item} → Claims source x i → ClaimAll source r is → ClaimAll source (x ∷ r) (i ∷ is)
-
--- ---- the items claimed, or none
--- the item of the row's kind, with the row's numbers or this content
-unfoldable pub ofKind : Row → List ℕ → Item
-ofKind x cs =
-    pick (eqb (x .kind) 0) (Val (Leaf (Num sort.Null (x .first))))
-    (pick (eqb (x .kind) 1) (Val (Leaf (Num sort.False (x .first))))
-    (pick (eqb (x .kind) 2) (Val (Leaf (Num sort.True (x .first))))
-    (pick (eqb (x .kind) 3) (Val (Leaf (Num sort.Int (x .first))))
-    (pick (eqb (x .kind) 4) (Val (Leaf (Num sort.Long (x .first))))
-    (pick (eqb (x .kind) 5) (Val (Leaf (Num sort.Double (x .first))))
-    (pick (eqb (x .kind) 6) (Val (Leaf (Num sort.Date (x .first))))
-    (pick (eqb (x .kind) 7) (Val (Leaf (Str Utf8 cs)))
-    (pick (eqb (x .kind) 8) (Val (Leaf (Str Binary cs)))
-    (pick (eqb (x .kind) 9) (Val (UntypedList (x .first)))
-    (pick (eqb (x .kind) 10) (Val (TypedList (x .first) (x .second)))
-    (pick (eqb (x .kind) 11) (Val (UntypedMap (x .first)))
-    (pick (eqb (x .kind) 12) (Val (TypedMap (x .first) (x .second)))
-    (pick (eqb (x .kind) 13) (Val (Object (x .first) (x .second)))
-    (pick (eqb (x .kind) 14) (Val (Reference (x .first)))
-    (pick (eqb (x .kind) 15) (Definition (x .first))
-    (pick (eqb (x .kind) 16) (ClassName cs)
-    (pick (eqb (x .kind) 17) (FieldName cs)
-    (pick (eqb (x .kind) 18) (TypeName cs)
-    (TypeNumber (x .first))))))))))))))))))))
-
-abbrev pub sameList : List ℕ → List ℕ → Bool
-sameList [] [] = true
-sameList [] (b ∷ t) = false
-sameList (a ∷ s) [] = false
-sameList (a ∷ s) (b ∷ t) = eqb a b && sameList s t
-
-abbrev pub sameRow : Row → Row → Bool
-sameRow x y = eqb (x .kind) (y .kind) && (eqb (x .place) (y .place) && (eqb (x .first) (y .first) && eqb (x .second) (y .second)))
-
--- the item i, if the row claims it with the content cs
-abbrev pub checked : Row → List ℕ → Item → Option Item
-checked x cs i = cond (sameRow (itemRow (x .place) i) x && sameList (contentOf i) cs) (some i) none
-
-abbrev pub onSome : {A B : Type 0} → (A → Option B) → Option A → Option B
-onSome f none = none
-onSome f (some a) = f a
-
-unfoldable pub itemAt : List ℕ → Row → Option Item
-itemAt source x = onSome (λ cs. checked x cs (ofKind x cs)) (contentAt source (x .kind) (x .place))
-
--- the record that the rows claim, or none
-abbrev pub recordOf : List ℕ → List Row → Option (List Item)
-recordOf source [] = some []
-recordOf source (x ∷ r) = onSome (λ i. onSome (λ is. some (i ∷ is)) (recordOf source r)) (itemAt source x)
-
--- ---- the items claimed are exactly these
-same-refl : (s : List ℕ) → T (sameList s s)
-same-refl [] = tt
-same-refl (a ∷ s) = and-both (eqb a a) (sameList s s) (eqb-refl a) (same-refl s)
-
-same-eq : (s t : List ℕ) → T (sameList s t) → s ≡ t
-same-eq [] [] h = refl
-same-eq [] (b ∷ t) h = absurd h
-same-eq (a ∷ s) [] h = absurd h
-same-eq (a ∷ s) (b ∷ t) h =
-    let e = eqb→eq a b (and-left (eqb a b) (sameList s t) h) in
-    let f = same-eq s t (and-right (eqb a b) (sameList s t) h) in
-    cc
-
-row-refl : (x : Row) → T (sameRow x x)
-row-refl x = and-both (eqb (x .kind) (x .kind)) _ (eqb-refl (x .kind)) (and-both (eqb (x .place) (x .place)) _ (eqb-refl (x .place))
-    (and-both (eqb (x .first) (x .first)) _ (eqb-refl (x .first)) (eqb-refl (x .second))))
-
-row-eq : (x y : Row) → T (sameRow x y) → x ≡ y
-row-eq x y h =
-    let h₁ = and-right (eqb (x .kind) (y .kind)) (eqb (x .place) (y .place) && (eqb (x .first) (y .first) && eqb (x .second) (y .second))) h in
-    let h₂ = and-right (eqb (x .place) (y .place)) (eqb (x .first) (y .first) && eqb (x .second) (y .second)) h₁ in
-    let a = eqb→eq (x .kind) (y .kind) (and-left (eqb (x .kind) (y .kind)) (eqb (x .place) (y .place) && (eqb (x .first) (y .first) && eqb (x .second) (y .second))) h) in
-    let b = eqb→eq (x .place) (y .place) (and-left (eqb (x .place) (y .place)) (eqb (x .first) (y .first) && eqb (x .second) (y .second)) h₁) in
-    let c = eqb→eq (x .first) (y .first) (and-left (eqb (x .first) (y .first)) (eqb (x .second) (y .second)) h₂) in
-    let d = eqb→eq (x .second) (y .second) (and-right (eqb (x .first) (y .first)) (eqb (x .second) (y .second)) h₂) in
-    λ i. record { kind = a i; place = b i; first = c i; second = d i }
-
-kind-back : (p : ℕ) (i : Item) → ofKind (itemRow p i) (contentOf i) ≡ i
-unfolding ofKind pick
-kind-back p (Val (Leaf (Num sort.Null v))) = refl
-kind-back p (Val (Leaf (Num sort.False v))) = refl
-kind-back p (Val (Leaf (Num sort.True v))) = refl
-kind-back p (Val (Leaf (Num sort.Int v))) = refl
-kind-back p (Val (Leaf (Num sort.Long v))) = refl
-kind-back p (Val (Leaf (Num sort.Double v))) = refl
-kind-back p (Val (Leaf (Num sort.Date v))) = refl
-kind-back p (Val (Leaf (Str Utf8 cs))) = refl
-kind-back p (Val (Leaf (Str Binary cs))) = refl
-kind-back p (Val (UntypedList n)) = refl
-kind-back p (Val (TypedList n t)) = refl
-kind-back p (Val (UntypedMap n)) = refl
-kind-back p (Val (TypedMap n t)) = refl
-kind-back p (Val (Object k n)) = refl
-kind-back p (Val (Reference k)) = refl
-kind-back p (Definition n) = refl
-kind-back p (ClassName cs) = refl
-kind-back p (FieldName cs) = refl
-kind-back p (TypeName cs) = refl
-kind-back p (TypeNumber k) = refl
-
-module _ (source : List ℕ) where
-  pub item-claimed : (x : Row) (i : Item) → Claims source x i → itemAt source x ≡ some i
-  unfolding itemAt
-  item-claimed x i h =
-      let back : ofKind x (contentOf i) ≡ i = subst (λ (y : Row). ofKind y (contentOf i) ≡ i) (h .agrees) (kind-back (x .place) i) in
-      rw (h .content, back) (pass (sameRow (itemRow (x .place) i) x && sameList (contentOf i) (contentOf i)) _ _
-      (and-both (sameRow (itemRow (x .place) i) x) _ (rw (h .agrees) (row-refl x)) (same-refl (contentOf i))) refl)
-
-  abbrev ClaimedBy : Row → Option Item → Type 0
-  ClaimedBy x none = Unit {0}
-  ClaimedBy x (some i) = Claims source x i
-
-  claims-item : (x : Row) → ClaimedBy x (itemAt source x)
-  unfolding itemAt
-  claims-item x = go (contentAt source (x .kind) (x .place)) refl
-    where
-      go : (o : Option (List ℕ)) → contentAt source (x .kind) (x .place) ≡ o → ClaimedBy x (onSome (λ cs. checked x cs (ofKind x cs)) o)
-      go none e = tt
-      go (some cs) e = let i = ofKind x cs in
-          by-test (ClaimedBy x) (sameRow (itemRow (x .place) i) x && sameList (contentOf i) cs)
-          (λ t. record {
-            agrees = row-eq (itemRow (x .place) i) x (and-left (sameRow (itemRow (x .place) i) x) (sameList (contentOf i) cs) t);
-            content = e ∙ ap {B = Option (List ℕ)} some (sym (same-eq (contentOf i) cs (and-right (sameRow (itemRow (x .place) i) x) (sameList (contentOf i) cs) t)));
-          }) (λ t. tt)
-
-  pub all-claimed : {r : List Row} {is : List Item} → ClaimAll source r is → recordOf source r ≡ some is
-  all-claimed no-rows = refl
-  all-claimed (a-row {x = x} {i = i} h k) = rw (item-claimed x i h, all-claimed k) refl
-
-  abbrev AllClaimedBy : List Row → Option (List Item) → Type 0
-  AllClaimedBy r none = Unit {0}
-  AllClaimedBy r (some is) = ClaimAll source r is
-
-  claims-all : (r : List Row) → AllClaimedBy r (recordOf source r)
-  claims-all [] = no-rows
-  claims-all (x ∷ r) = go (itemAt source x) (claims-item x) (recordOf source r) (claims-all r)
-    where
-      go : (o : Option Item) → ClaimedBy x o → (q : Option (List Item)) → AllClaimedBy r q → AllClaimedBy (x ∷ r) (onSome (λ i. onSome (λ is. some (i ∷ is)) q) o)
-      go none h q k = tt
-      go (some i) h none k = tt
-      go (some i) h (some is) k = a-row h k
-
-  -- the rows claim a record exactly when it is the one computed
-  pub claims-exactly : (r : List Row) (is : List Item) → ClaimAll source r is ↔ (recordOf source r ≡ some is)
-  claims-exactly r is = (all-claimed, λ e. subst (AllClaimedBy r) e (claims-all r))

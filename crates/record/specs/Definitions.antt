@@ -14,11 +14,12 @@ use Rattle.scalar.specs.declared.numbers.Sort.the-variants.{Int}
 use Rattle.scalar.specs.declared.texts.Kind.the-variants.{Utf8}
 use Rattle.scalar.specs.Numbers.{numberAt}
 use Rattle.scalar.specs.TextAnswers.{Sizes, sized, measuredAt}
+use Rattle.record.specs.declared.Group.the-variants.{Counted}
 use Rattle.record.specs.Items.{Definition, ClassName, FieldName, Known, defined, Ceilings}
 use Rattle.record.specs.Reading.{Reader, Opening, count, name, plainFrom, fieldNames, definition, valueFrom}
 use Rattle.record.specs.Rows.{Row, row}
 use Rattle.record.specs.Placed.{Placed, Got, Lost, run, front, on, through, topped, on-same, run-give, run-fail, run-byte, run-end, run-changing, run-asking, run-test, run-headed, run-mapped, run-bind, run-bounded, run-same}
-use Rattle.record.specs.Runs.{Counted, rest, rest-stop, rest-step, rest-many}
+use Rattle.record.specs.Runs.{rest, rest-stop, rest-step, rest-many}
 use Rattle.record.specs.Parts.{laid, sizesRow, name-laid, count-got, count-negative, count-lost}
 
 -- ---- things before another, each begun by the byte z
@@ -167,7 +168,7 @@ module _ (ℓ : Ceilings) (p : ℕ) (c : Known) (m : List ℕ) (q : ℕ) where
             go (Lost x o) = refl
 
         module _ (v : n < 2 ^ 63) (w : n ≤ ℓ .fields) where
-          names-in : (o : Placed ℕ) → run (namesLeft n 0) c m (r + k) ≡ o → run (definition ℓ p) c m q ≡ topped p Definition (front (row 16 q u b ∷ []) (on o (λ e u c′. Got e n [] (defined n c′))))
+          pub names-in : (o : Placed ℕ) → run (namesLeft n 0) c m (r + k) ≡ o → run (definition ℓ p) c m q ≡ topped p Definition (front (row 16 q u b ∷ []) (on o (λ e u c′. Got e n [] (defined n c′))))
           names-in o a =
               counts (on o (λ e u c′. Got e n [] (defined n c′)))
               (names-test v ∙ pick-false _ _ (le-ltb (ℓ .fields) n w) ∙ names-given ∙ ap (λ (o : Placed ℕ). on o (λ e u c′. Got e n [] (defined n c′))) a)

@@ -1,25 +1,23 @@
 -- The demands, in their words, for every ceiling, every allowance d of open containers and every threshold openFrom up to 48.
-use mathlib.Core.Path.{_≡_, refl, _∙_, ap, subst}
+use mathlib.Core.Path.{_≡_, refl, sym, _∙_, ap, subst}
 use mathlib.Core.Logic.{_↔_, _⊎_, inl, inr}
-use mathlib.Core.Bool.{true, false}
-use mathlib.Core.List.{List, [], _∷_}
+use mathlib.Core.List.{List}
 use mathlib.Core.Option.{Option, none, some}
-use Prim.Native.Nat.{ℕ, _/_, _≤_, _<_}
+use Prim.Native.Nat.{ℕ, _/_, _^_, _≤_, _<_}
 use native.Mathlib.Nat.{le-trans, mul-le-mul-right, div-mul-le-self}
 use native.Mathlib.Omega.{arith}
-use lib.Dec.{ltb}
 use lib.ListN.{length}
 use borrow.Author.Tests.{le-ltb, lt-ltb}
-use Rattle.flow.specs.Tests.{pick, pick-true, pick-false, Bytes}
+use Rattle.flow.specs.Tests.{pick-true, pick-false, Bytes}
 use Rattle.flow.specs.Flow.{Outcome, One}
 use Rattle.record.specs.Items.{Item, Known, Ceilings}
-use Rattle.record.specs.Reading.{message}
 use Rattle.record.specs.Grammar.{Message}
 use Rattle.record.specs.Rows.{Row, rows}
 use Rattle.record.specs.Meaning.{reads-derived, derived-reads}
-use Rattle.record.specs.Answers.{ReadAnswer, Accept, Refuse, judged, answered, read, Wrote, Refused, shortestOf, write, Has, Accepts}
-use Rattle.record.specs.Tables.{Layout, lentRows, rowsOf, reportRead, filled, readTable}
-use Rattle.record.specs.TableLaws.{Sound, All, rows-again}
+use Rattle.record.specs.Answers.{ReadAnswer, Accept, Refuse, answered, read, Wrote, Refused, shortestOf, write, Has, Accepts}
+use Rattle.record.specs.Tables.{Layout, asNumbers, asBytes, lentRows, rowsOf, reportRead, filled, readTable}
+use Rattle.record.specs.TableLaws.{Sound, All, rows-again, Fits, bytes-sized, all-numbers, all-bytes}
+use Rattle.record.specs.Widths.{rows-fit}
 use Rattle.record.specs.Whole.{rows-length}
 use Rattle.record.specs.Writing.{rows-no-longer, rows-back, rows-none, judged-done}
 use Rattle.record.specs.Answering.{never, reads-accepts, misfit-judged, by-read, by-answer, wrote-when, needed-when}
@@ -77,6 +75,17 @@ module _ (ℓ : Ceilings) (d longest : ℕ) where
       let x = answer-holds (lentRows L t) m b rs n e in
       let k : length rs ≤ length t / L .width = omega (arith, ap length (x .holds), rows-length (x .accepts .entries), x .enough) in
       ap (λ (z : ReadAnswer). rowsOf L (length rs) (filled L t z)) e ∙ rows-again L sized rs h t (le-trans (mul-le-mul-right (L .width) k) (div-mul-le-self (length t) (L .width)))
+
+  -- so C's table holds the record of every accepted message of fewer than 2 ^ 63 bytes, and a table of numbers that of every one
+  pub bytes-hold : (m t : List ℕ) → Bytes m → length m < 2 ^ 63 → (rs : List Row) (n : ℕ) → read ℓ d longest (lentRows asBytes t) m ≡ Accept rs n
+      → rowsOf asBytes (length rs) (readTable ℓ d longest asBytes m t) ≡ rs
+  bytes-hold m t b l rs n e =
+      let x = answer-holds (lentRows asBytes t) m b rs n e in
+      table-holds asBytes bytes-sized m t b rs n (all-bytes rs (subst (All Fits) (sym (x .holds)) (rows-fit ℓ d longest m b l (x .record-of) (x .accepts)))) e
+
+  pub numbers-hold : (m t : List ℕ) → Bytes m → (rs : List Row) (n : ℕ) → read ℓ d longest (lentRows asNumbers t) m ≡ Accept rs n
+      → rowsOf asNumbers (length rs) (readTable ℓ d longest asNumbers m t) ≡ rs
+  numbers-hold m t b rs n e = table-holds asNumbers (λ r. refl) m t b rs n (all-numbers rs) e
 
   module _ (openFrom : ℕ) (most : openFrom ≤ 48) (source : List ℕ) (r : List Row) where
     -- ---- demand 2: what is written is accepted, and reads as the record that it was written from

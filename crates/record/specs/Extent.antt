@@ -1,8 +1,8 @@
 -- How far a value goes: a record has at most as many items as bytes, and the items read do not depend on what follows.
-use mathlib.Core.Path.{_≡_, ap, subst}
+use mathlib.Core.Path.{_≡_, subst}
 use mathlib.Core.Bool.{Bool, true, false}
 use mathlib.Core.List.{List, [], _∷_, _++_}
-use Prim.Native.Nat.{ℕ, zero, suc, _+_, _≤_, _<_}
+use Prim.Native.Nat.{ℕ, zero, suc, _≤_, _<_}
 use native.Mathlib.Omega.{arith}
 use lib.ListN.{length, take, length-append}
 use lib.Seq.{length-take-le}
@@ -14,7 +14,7 @@ use Rattle.scalar.specs.Scalars as scalars
 use Rattle.scalar.specs.NumberLaws.{number-some}
 use Rattle.scalar.specs.TextLaws.{string-some}
 use Rattle.record.specs.Items.{Item, FieldName, Known, start, Ceilings}
-use Rattle.record.specs.Reading.{valueFrom, message, Reads}
+use Rattle.record.specs.Reading.{valueFrom, Reads}
 use Rattle.record.specs.Grammar.{NameForm, a-name, TypeForm, type-name, type-number, PairForm, a-pair, DefinitionForm, a-definition, PlainForm, a-leaf, a-few, a-counted, an-open, a-few-typed, a-counted-typed, an-open-typed, a-map, a-typed-map, a-few-object, an-object, a-reference, Nowhere, ValueForm}
 use Rattle.record.specs.Parses.{value-reads}
 use Rattle.record.specs.Derives.{value-makes}
@@ -31,7 +31,7 @@ many-few G h (another {c = c} {c₁ = c₁} {u = u} {v = v} {is = is} {js = js} 
 end-few : (G : Phrase Known Item) → Few G → {n : ℕ} {c c′ : Known} {w : List ℕ} {is : List Item} → Ended 0x5a G n c w is c′ → length is ≤ length w
 end-few G h (ended {v = v} r) = omega (arith, length-append v (0x5a ∷ []), many-few G h r)
 
-scalar-some : {w : List ℕ} {x : scalars.Scalar} → Spelt w x → 0 < length w
+pub scalar-some : {w : List ℕ} {x : scalars.Scalar} → Spelt w x → 0 < length w
 scalar-some (scalars.a-number n) = number-some n
 scalar-some (scalars.a-string x) = string-some x
 

@@ -14,17 +14,14 @@ pub data Value : Type 0 where
   Object : ℕ → ℕ → Value
   Reference : ℕ → Value
 
--- an item of a record. A name carries its content: the UTF-8 bytes, its chunks joined
+-- an item of a record: a value; 15 a class definition of so many fields, 16 its name, 17 a field's name; 18 a type name written out, 19 a type by number.
+-- A name carries its content: the UTF-8 bytes, its chunks joined
 pub data Item : Type 0 where
   Val : Value → Item
-  -- 15: fields
   Definition : ℕ → Item
-  -- 16, 17: the names in a class definition
   ClassName : List ℕ → Item
   FieldName : List ℕ → Item
-  -- 18: a type name written out
   TypeName : List ℕ → Item
-  -- 19: a type by number
   TypeNumber : ℕ → Item
 
 -- ---- what is known: reference numbers given, type numbers given, and each class's number of fields

@@ -2,6 +2,7 @@ pub mod Items
 pub mod Reading
 pub mod Grammar
 pub mod Rows
+pub mod RowLaws
 pub mod Spelling
 pub mod Forms
 pub mod Parses
@@ -12,6 +13,7 @@ pub mod Short
 pub mod Back
 pub mod ItemTheorems
 pub mod Claims
+pub mod Claimed
 pub mod Places
 pub mod Answers
 pub mod Tables
@@ -20,7 +22,9 @@ pub mod Writing
 pub mod TableLaws
 pub mod Refusals
 pub mod Answering
+pub mod Widths
 pub mod Demands
+pub mod Bounds
 pub mod Placed
 pub mod Runs
 pub mod Parts
@@ -28,4 +32,12 @@ pub mod Values
 pub mod Definitions
 pub mod Whole
 pub mod Leads
+pub mod Walked
+pub mod Drops
+pub mod Writes
+pub mod Contents
+pub mod WrittenNames
+pub mod WrittenValues
+pub mod WrittenWhole
+pub mod RowItems
 pub mod Samples

@@ -1,12 +1,12 @@
--- The place of an item with content opens that content: a complete scalar, or a complete name, stands there in the message.
+-- The place of an item lies in the message, and that of one with content opens that content: a complete scalar, or a complete name, stands there.
 use mathlib.Core.Path.{_≡_, refl, sym, _∙_, ap, subst}
 use mathlib.Core.Bool.{Bool, true, false, cond}
 use mathlib.Core.List.{List, [], _∷_, _++_}
 use mathlib.Core.Option.{Option, none, some}
-use Prim.Native.Nat.{ℕ, zero, suc, _+_, _^_}
+use Prim.Native.Nat.{ℕ, zero, suc, _+_, _^_, _<_}
 use native.Mathlib.Omega.{arith}
 use lib.Dec.{ltb, eqb}
-use lib.ListN.{length, take, drop, getD, take-append-drop}
+use lib.ListN.{length, take, drop, getD, take-append-drop, length-drop}
 use lib.Seq.{drop-drop}
 use Rattle.flow.specs.Tests.{by-test, Bytes, bytes-drop}
 use Rattle.flow.specs.Flow.{Entry, Outcome, Done, Fault, One, then, before, stepped, give, fail, byteAt, changing, renamed, mapped, top, headed, bind, after, many, until, untilEnd, preceded}
@@ -38,7 +38,7 @@ Opens s (TypeNumber k) = Unit {0}
 module _ (m : List ℕ) (bytes : Bytes m) where
   abbrev pub EntriesOpen : List (Entry Item) → Type 0
   EntriesOpen [] = Unit {0}
-  EntriesOpen (e ∷ es) = Opens (drop (e .place) m) (e .item) × EntriesOpen es
+  EntriesOpen (e ∷ es) = (e .place < length m) × Opens (drop (e .place) m) (e .item) × EntriesOpen es
 
   abbrev pub OutcomeOpens : {A : Type 0} → Outcome Known Item A → Type 0
   OutcomeOpens (Done n a es c) = EntriesOpen es
@@ -53,10 +53,13 @@ module _ (m : List ℕ) (bytes : Bytes m) where
 
   append-opened : (es fs : List (Entry Item)) → EntriesOpen es → EntriesOpen fs → EntriesOpen (es ++ fs)
   append-opened [] fs p q = q
-  append-opened (e ∷ es) fs p q = (p .0, append-opened es fs (p .1) q)
+  append-opened (e ∷ es) fs p q = (p .0, p .1, append-opened es fs (p .2) q)
 
   next-byte : (k b : ℕ) (s : List ℕ) → drop k m ≡ b ∷ s → drop (k + 1) m ≡ s
   next-byte k b s e = sym (drop-drop 1 k m) ∙ ap (drop 1) e
+
+  in-message : (k b : ℕ) {s : List ℕ} → drop k m ≡ b ∷ s → k < length m
+  in-message k b e = omega (arith, length-drop k m, ap length e)
 
   byte-opens : {A : Type 0} (f : Opening A) → AfterByte f → Anywhere (byteAt f)
   byte-opens {A} f h c k = go (drop k m) refl
@@ -81,17 +84,17 @@ module _ (m : List ℕ) (bytes : Bytes m) where
   bind-opens : {A B : Type 0} (f : Reader A) (g : A → Reader B) → Anywhere f → ((a : A) → Anywhere (g a)) → Anywhere (bind f g)
   bind-opens f g hf hg c k = then-opens g hg k (f c k (drop k m)) (hf c k)
 
-  behind-opens : {A B : Type 0} (f : Opening A) (g : ℕ → A → Reader B) → AfterByte f → ((p : ℕ) (a : A) → Anywhere (g p a)) → AfterByte (λ p b. bind (f p b) (g p))
-  behind-opens f g hf hg c k b e = then-opens (g k) (hg k) (k + 1) (f k b c (k + 1) (drop (k + 1) m)) (hf c k b e)
+  behind-opens : {A B : Type 0} (f : Opening A) (g : ℕ → A → Reader B) → AfterByte f → ((p : ℕ) → p < length m → (a : A) → Anywhere (g p a)) → AfterByte (λ p b. bind (f p b) (g p))
+  behind-opens f g hf hg c k b e = then-opens (g k) (hg k (in-message k b e)) (k + 1) (f k b c (k + 1) (drop (k + 1) m)) (hf c k b e)
 
   map-opens : {A B : Type 0} (φ : A → B) (o : Outcome Known Item A) → OutcomeOpens o → OutcomeOpens (renamed φ o)
   map-opens φ (Done n a es c) p = p
   map-opens φ (Fault x o) p = tt
 
   -- an item without content
-  head-opens : {A : Type 0} (p : ℕ) (x : A → Item) → ((a : A) (s : List ℕ) → Opens s (x a)) → (o : Outcome Known Item A) → OutcomeOpens o → OutcomeOpens (top p x o)
-  head-opens p x h (Done n a es c) q = (h a (drop p m), q)
-  head-opens p x h (Fault y o) q = tt
+  head-opens : {A : Type 0} (p : ℕ) → p < length m → (x : A → Item) → ((a : A) (s : List ℕ) → Opens s (x a)) → (o : Outcome Known Item A) → OutcomeOpens o → OutcomeOpens (top p x o)
+  head-opens p l x h (Done n a es c) q = (l, h a (drop p m), q)
+  head-opens p l x h (Fault y o) q = tt
 
   cond-opens : {A : Type 0} (t : Bool) (f g : Reader A) → Anywhere f → Anywhere g → Anywhere (cond t f g)
   cond-opens true f g hf hg = hf
@@ -107,6 +110,7 @@ module _ (m : List ℕ) (bytes : Bytes m) where
       → (c : Known) (o : Outcome Known Item A)
       → Parsed (Quiet (λ w a. S (b ∷ w) a) c) (drop (k + 1) m) o → OutcomeOpens (top k x o)
   own-opens S x k b e h c (Done n a es c′) p = (
+    in-message k b e,
     h a (b ∷ take n (drop (k + 1) m), drop n (drop (k + 1) m), e ∙ ap {B = List ℕ} (λ z. b ∷ z) (sym (take-append-drop n (drop (k + 1) m))), quiet-is (λ w a. S (b ∷ w) a) c (p .1) .0),
     quiet-none (λ w a. S (b ∷ w) a) c (drop (k + 1) m) (Done n a es c′) p,
   )
@@ -123,7 +127,7 @@ module _ (m : List ℕ) (bytes : Bytes m) where
 
   -- ---- parts
   int-then : {A : Type 0} (g : ℕ → ℕ → Reader A) → ((o v : ℕ) → Anywhere (g o v)) → Anywhere (int g)
-  int-then g h = byte-opens (λ p b. bind (intFrom p b) (g p)) (behind-opens intFrom g int-opens h)
+  int-then g h = byte-opens (λ p b. bind (intFrom p b) (g p)) (behind-opens intFrom g int-opens (λ p l. h p))
 
   count-then : {A : Type 0} (g : ℕ → ℕ → Reader A) → ((o n : ℕ) → Anywhere (g o n)) → Anywhere (count g)
   count-then g h = int-then (λ o n. cond (ltb n (2 ^ 63)) (g o n) (fail 5 o)) (λ o n. cond-opens (ltb n (2 ^ 63)) (g o n) (fail 5 o) (h o n) (λ c k. tt))
@@ -136,13 +140,13 @@ module _ (m : List ℕ) (bytes : Bytes m) where
   until-opens f h zero c k = tt
   until-opens f h (suc j) c k = byte-opens (λ p b. cond (eqb b 0x5a) (give 0) (after (f p b) (mapped suc (until 0x5a f j))))
       (λ c k b e. by-test (λ (g : Reader ℕ). OutcomeOpens (g c (k + 1) (drop (k + 1) m))) (eqb b 0x5a) (λ t. tt)
-      (λ t. behind-opens f (λ p u. mapped suc (until 0x5a f j)) h (λ p u c k. map-opens suc (until 0x5a f j c k (drop k m)) (until-opens f h j c k)) c k b e)) c k
+      (λ t. behind-opens f (λ p u. mapped suc (until 0x5a f j)) h (λ p l u c k. map-opens suc (until 0x5a f j c k (drop k m)) (until-opens f h j c k)) c k b e)) c k
 
   end-opens : (f : Opening One) → AfterByte f → Anywhere (untilEnd 0x5a f)
   end-opens f h c k = until-opens f h (length (drop k m)) c k
 
   pair-opens : (f : Opening One) → AfterByte f → AfterByte (pair f)
-  pair-opens f h = behind-opens f (λ p u. byteAt f) h (λ p u. byte-opens f h)
+  pair-opens f h = behind-opens f (λ p u. byteAt f) h (λ p l u. byte-opens f h)
 
   fields-opens : (f : Opening One) → AfterByte f → (p k : ℕ) → Anywhere (fieldValues f p k)
   fields-opens f h p k c j = cond-opens (ltb k (length (c .classes))) (mapped (λ (u : One). getD (c .classes) k 0) (many f (getD (c .classes) k 0))) (fail 6 p)
@@ -155,7 +159,7 @@ module _ (m : List ℕ) (bytes : Bytes m) where
         (λ t. by-test (λ (g : Reader ℕ). OutcomeOpens (g c (k + 1) (drop (k + 1) m))) (ltb (c .types) (ℓ .types))
         (λ y. map-opens (λ (u : One). c .types) (name TypeName k b (typed c) (k + 1) (drop (k + 1) m)) (name-opens TypeName (λ cs s x. x) (typed c) k b e)) (λ y. tt))
         (λ t. behind-opens intFrom typeNumber int-opens
-        (λ p v c j. cond-opens (ltb v (c .types)) (mapped (λ u. v) (headed p TypeNumber (give v))) (fail 6 p) (λ c j. (tt, tt)) (λ c j. tt) c j) c k b e))
+        (λ p l v c j. cond-opens (ltb v (c .types)) (mapped (λ u. v) (headed p TypeNumber (give v))) (fail 6 p) (λ c j. (l, tt, tt)) (λ c j. tt) c j) c k b e))
 
     with-opens : {A : Type 0} (g : ℕ → Reader A) → ((t : ℕ) → Anywhere (g t)) → Anywhere (withType ℓ g)
     with-opens g h = bind-opens (byteAt (typeFrom ℓ)) g type-opens h
@@ -165,13 +169,13 @@ module _ (m : List ℕ) (bytes : Bytes m) where
     Below (some f) = AfterByte f
 
     module _ (below : Option (Opening One)) (u : Below below) where
-      holds : {A : Type 0} (x : A → Item) (g : Opening One → Reader A) → ((a : A) (s : List ℕ) → Opens s (x a)) → ((f : Opening One) → AfterByte f → Anywhere (g f)) → (c : Known) (k : ℕ)
+      holds : {A : Type 0} (x : A → Item) (g : Opening One → Reader A) → ((a : A) (s : List ℕ) → Opens s (x a)) → ((f : Opening One) → AfterByte f → Anywhere (g f)) → (c : Known) (k : ℕ) → k < length m
           → OutcomeOpens (container below k (λ f. headed k x (g f)) c (k + 1) (drop (k + 1) m))
-      holds {A} x g h i c k = go below u
+      holds {A} x g h i c k l = go below u
         where
           go : (o : Option (Opening One)) → Below o → OutcomeOpens (container o k (λ f. headed k x (g f)) c (k + 1) (drop (k + 1) m))
           go none v = tt
-          go (some f) v = head-opens k x h (g f (opened c) (k + 1) (drop (k + 1) m)) (i f v (opened c) (k + 1))
+          go (some f) v = head-opens k l x h (g f (opened c) (k + 1) (drop (k + 1) m)) (i f v (opened c) (k + 1))
 
       mapped-many : {A : Type 0} (f : Opening One) → AfterByte f → (n : ℕ) (a : A) → Anywhere (mapped (λ (u : One). a) (many f n))
       mapped-many f h n a c k = map-opens (λ (u : One). a) (many f n c k (drop k m)) (many-opens f h n c k)
@@ -179,23 +183,23 @@ module _ (m : List ℕ) (bytes : Bytes m) where
       plain-by : (l : Form) → AfterByte (plainBy ℓ below l)
       unfolding plainBy
       plain-by leaf c k b e = leaf-opens c k b e
-      plain-by (few n) c k b e = holds (λ u. Val (UntypedList n)) (λ f. many f n) (λ a s. tt) (λ f h. many-opens f h n) c k
+      plain-by (few n) c k b e = holds (λ u. Val (UntypedList n)) (λ f. many f n) (λ a s. tt) (λ f h. many-opens f h n) c k (in-message k b e)
       plain-by (few-typed n) c k b e = holds (λ t. Val (TypedList n t)) (λ f. withType ℓ (λ t. mapped (λ u. t) (many f n))) (λ a s. tt)
-          (λ f h. with-opens (λ t. mapped (λ u. t) (many f n)) (λ t. mapped-many f h n t)) c k
-      plain-by (few-object j) c k b e = holds (λ n. Val (Object j n)) (λ f. fieldValues f k j) (λ a s. tt) (λ f h. fields-opens f h k j) c k
+          (λ f h. with-opens (λ t. mapped (λ u. t) (many f n)) (λ t. mapped-many f h n t)) c k (in-message k b e)
+      plain-by (few-object j) c k b e = holds (λ n. Val (Object j n)) (λ f. fieldValues f k j) (λ a s. tt) (λ f h. fields-opens f h k j) c k (in-message k b e)
       plain-by counted c k b e = holds (λ n. Val (UntypedList n)) (λ f. count (λ o n. mapped (λ u. n) (many f n))) (λ a s. tt)
-          (λ f h. count-then (λ o n. mapped (λ u. n) (many f n)) (λ o n. mapped-many f h n n)) c k
+          (λ f h. count-then (λ o n. mapped (λ u. n) (many f n)) (λ o n. mapped-many f h n n)) c k (in-message k b e)
       plain-by counted-typed c k b e = holds (λ x. Val (TypedList (x .two) (x .one))) (λ f. withType ℓ (λ t. count (λ o n. mapped (λ u. with-two t n) (many f n)))) (λ a s. tt)
-          (λ f h. with-opens (λ t. count (λ o n. mapped (λ u. with-two t n) (many f n))) (λ t. count-then (λ o n. mapped (λ u. with-two t n) (many f n)) (λ o n. mapped-many f h n (with-two t n)))) c k
-      plain-by open-list c k b e = holds (λ n. Val (UntypedList n)) (untilEnd 0x5a) (λ a s. tt) end-opens c k
+          (λ f h. with-opens (λ t. count (λ o n. mapped (λ u. with-two t n) (many f n))) (λ t. count-then (λ o n. mapped (λ u. with-two t n) (many f n)) (λ o n. mapped-many f h n (with-two t n)))) c k (in-message k b e)
+      plain-by open-list c k b e = holds (λ n. Val (UntypedList n)) (untilEnd 0x5a) (λ a s. tt) end-opens c k (in-message k b e)
       plain-by open-typed c k b e = holds (λ x. Val (TypedList (x .two) (x .one))) (λ f. withType ℓ (λ t. mapped (with-two t) (untilEnd 0x5a f))) (λ a s. tt)
-          (λ f h. with-opens (λ t. mapped (with-two t) (untilEnd 0x5a f)) (λ t c j. map-opens (with-two t) (untilEnd 0x5a f c j (drop j m)) (end-opens f h c j))) c k
-      plain-by open-map c k b e = holds (λ n. Val (UntypedMap n)) (λ f. untilEnd 0x5a (pair f)) (λ a s. tt) (λ f h. end-opens (pair f) (pair-opens f h)) c k
+          (λ f h. with-opens (λ t. mapped (with-two t) (untilEnd 0x5a f)) (λ t c j. map-opens (with-two t) (untilEnd 0x5a f c j (drop j m)) (end-opens f h c j))) c k (in-message k b e)
+      plain-by open-map c k b e = holds (λ n. Val (UntypedMap n)) (λ f. untilEnd 0x5a (pair f)) (λ a s. tt) (λ f h. end-opens (pair f) (pair-opens f h)) c k (in-message k b e)
       plain-by typed-map c k b e = holds (λ x. Val (TypedMap (x .two) (x .one))) (λ f. withType ℓ (λ t. mapped (with-two t) (untilEnd 0x5a (pair f)))) (λ a s. tt)
-          (λ f h. with-opens (λ t. mapped (with-two t) (untilEnd 0x5a (pair f))) (λ t c j. map-opens (with-two t) (untilEnd 0x5a (pair f) c j (drop j m)) (end-opens (pair f) (pair-opens f h) c j))) c k
+          (λ f h. with-opens (λ t. mapped (with-two t) (untilEnd 0x5a (pair f))) (λ t c j. map-opens (with-two t) (untilEnd 0x5a (pair f) c j (drop j m)) (end-opens (pair f) (pair-opens f h) c j))) c k (in-message k b e)
       plain-by object c k b e = holds (λ x. Val (Object (x .one) (x .two))) (λ f. int (λ o j. mapped (with-two j) (fieldValues f k j))) (λ a s. tt)
-          (λ f h. int-then (λ o j. mapped (with-two j) (fieldValues f k j)) (λ o j c i. map-opens (with-two j) (fieldValues f k j c i (drop i m)) (fields-opens f h k j c i))) c k
-      plain-by reference c k b e = head-opens k (λ j. Val (Reference j)) (λ a s. tt) (int (λ o. referenceTo k) c (k + 1) (drop (k + 1) m))
+          (λ f h. int-then (λ o j. mapped (with-two j) (fieldValues f k j)) (λ o j c i. map-opens (with-two j) (fieldValues f k j c i (drop i m)) (fields-opens f h k j c i))) c k (in-message k b e)
+      plain-by reference c k b e = head-opens k (in-message k b e) (λ j. Val (Reference j)) (λ a s. tt) (int (λ o. referenceTo k) c (k + 1) (drop (k + 1) m))
           (int-then (λ o. referenceTo k) (λ o j c i. cond-opens (ltb j (c .references)) (give j) (fail 6 k) (λ c i. tt) (λ c i. tt) c i) c (k + 1))
 
       plain-opens : AfterByte (plainFrom ℓ below)
@@ -205,18 +209,18 @@ module _ (m : List ℕ) (bytes : Bytes m) where
     names-open o n = cond-opens (ltb (ℓ .fields) n) (fail 7 o) (after (many (name FieldName) n) (changing (defined n) (give n))) (λ c k. tt)
         (bind-opens (many (name FieldName) n) (λ u. changing (defined n) (give n)) (many-opens (name FieldName) (name-opens FieldName (λ cs s x. x)) n) (λ u c k. tt))
 
-    definition-opens : (p : ℕ) → Anywhere (definition ℓ p)
+    definition-opens : (p : ℕ) → p < length m → Anywhere (definition ℓ p)
     unfolding definition
-    definition-opens p c k = cond-opens (ltb (length (c .classes)) (ℓ .classes)) (headed p Definition (after (byteAt (name ClassName)) (count (fieldNames ℓ)))) (fail 7 p)
-        (λ c k. head-opens p Definition (λ n s. tt) (after (byteAt (name ClassName)) (count (fieldNames ℓ)) c k (drop k m))
+    definition-opens p l c k = cond-opens (ltb (length (c .classes)) (ℓ .classes)) (headed p Definition (after (byteAt (name ClassName)) (count (fieldNames ℓ)))) (fail 7 p)
+        (λ c k. head-opens p l Definition (λ n s. tt) (after (byteAt (name ClassName)) (count (fieldNames ℓ)) c k (drop k m))
         (bind-opens (byteAt (name ClassName)) (λ u. count (fieldNames ℓ)) (byte-opens (name ClassName) (name-opens ClassName (λ cs s x. x))) (λ u. count-then (fieldNames ℓ) names-open) c k))
         (λ c k. tt) c k
 
     preceded-opens : (f : Opening One) → AfterByte f → (j : ℕ) → AfterByte (preceded 0x43 (definition ℓ) f j)
     preceded-opens f h zero c k b e = by-test (λ (g : Reader One). OutcomeOpens (g c (k + 1) (drop (k + 1) m))) (eqb b 0x43)
-        (λ t. bind-opens (definition ℓ k) (λ u. λ c at s. Fault 2 at) (definition-opens k) (λ u c k. tt) c (k + 1)) (λ t. h c k b e)
+        (λ t. bind-opens (definition ℓ k) (λ u. λ c at s. Fault 2 at) (definition-opens k (in-message k b e)) (λ u c k. tt) c (k + 1)) (λ t. h c k b e)
     preceded-opens f h (suc j) c k b e = by-test (λ (g : Reader One). OutcomeOpens (g c (k + 1) (drop (k + 1) m))) (eqb b 0x43)
-        (λ t. bind-opens (definition ℓ k) (λ u. byteAt (preceded 0x43 (definition ℓ) f j)) (definition-opens k) (λ u. byte-opens (preceded 0x43 (definition ℓ) f j) (preceded-opens f h j)) c
+        (λ t. bind-opens (definition ℓ k) (λ u. byteAt (preceded 0x43 (definition ℓ) f j)) (definition-opens k (in-message k b e)) (λ u. byte-opens (preceded 0x43 (definition ℓ) f j) (preceded-opens f h j)) c
         (k + 1)) (λ t. h c k b e)
 
     value-opens : (d : ℕ) → AfterByte (valueFrom ℓ d)
@@ -224,7 +228,7 @@ module _ (m : List ℕ) (bytes : Bytes m) where
     value-opens zero c k b e = preceded-opens (plainFrom ℓ none) (plain-opens none tt) (length (drop (k + 1) m)) c k b e
     value-opens (suc d) c k b e = preceded-opens (plainFrom ℓ (some (valueFrom ℓ d))) (plain-opens (some (valueFrom ℓ d)) (value-opens d)) (length (drop (k + 1) m)) c k b e
 
-    -- every item's place opens its content
+    -- every item's place lies in the message and opens its content
     pub places : (d : ℕ) → OutcomeOpens (message ℓ d start 0 m)
     unfolding message
     places d = bind-opens (byteAt (valueFrom ℓ d)) (λ u. ending) (byte-opens (valueFrom ℓ d) (value-opens d)) (λ u c k. at-end c k (drop k m)) start 0

@@ -53,8 +53,7 @@ formOf b =
     (pick (eqb b 0x4f) object
     (pick (eqb b 0x51) reference leaf))))))))))
 
--- ---- parts
--- an int, and then what its first byte's place and its value say
+-- ---- parts: an int, and then what its first byte's place and its value say
 abbrev pub int : {A : Type 0} → (ℕ → ℕ → Reader A) → Reader A
 int g = byteAt (λ p b. bind (intFrom p b) (g p))
 

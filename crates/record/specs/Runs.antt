@@ -11,6 +11,8 @@ use lib.ListN.{length, getD}
 use borrow.Author.Tests.{eqb-true, eqb-false, eq-eqb, ne-eqb, lt-leb, leb-false}
 use Rattle.flow.specs.Tests.{pick, pick-true, pick-false, by-cases, split}
 use Rattle.flow.specs.Flow.{One, give, byteAt, mapped, after, many, until, untilEnd}
+use Rattle.record.specs.declared.Group.{Group}
+use Rattle.record.specs.declared.Group.the-variants.{Counted, Fields, Open, Pairs}
 use Rattle.record.specs.Items.{Known}
 use Rattle.record.specs.Reading.{Reader, Opening, pair}
 use Rattle.record.specs.Placed.{Placed, Got, Lost, run, on, through, on-same, on-on, through-on, through-through, run-give, run-byte, run-end, run-test, run-bounded, run-mapped, run-bind, run-same}
@@ -68,13 +70,6 @@ module _ (z : ℕ) (f : Opening One) (m : List ℕ) where
   untilEnd-out c p l = run-bounded (until z f) c m p ∙ until-out (length m - p) c p l
 
 -- ---- what holds values
--- Counted: so many. Fields: the class, and so many. Open: up to 5a. Pairs: keys and values up to 5a
-pub data Group : Type 0 where
-  Counted : ℕ → Group
-  Fields : ℕ → ℕ → Group
-  Open : Group
-  Pairs : Group
-
 -- the values left after i of them; the result is how many there are in all, of a map the pairs
 unfoldable pub rest : Opening One → Group → ℕ → Reader ℕ
 rest f (Counted n) i = mapped (λ u. n) (many f (n - i))

@@ -1,14 +1,14 @@
 -- Two tables hold the same record when their rows agree in all but place and their texts and bytes have the same content.
-use mathlib.Core.Path.{_≡_, refl, sym, _∙_, ap}
+use mathlib.Core.Path.{_≡_, sym, _∙_, ap}
 use mathlib.Core.Logic.{_↔_}
 use mathlib.Core.List.{List, [], _∷_}
 use Prim.Native.Nat.{ℕ}
-use Rattle.scalar.specs.declared.texts.Kind.the-variants.{Utf8, Binary}
-use Rattle.scalar.specs.Scalars.{Num, Str}
-use Rattle.record.specs.Items.{Leaf, UntypedList, TypedList, UntypedMap, TypedMap, Object, Reference, Item, Val, Definition, ClassName, FieldName, TypeName, TypeNumber, Ceilings}
-use Rattle.record.specs.Rows.{Row, row, itemRow}
+use Rattle.record.specs.Items.{Item, Ceilings}
+use Rattle.record.specs.Rows.{Row, row}
+use Rattle.record.specs.RowLaws.{moved, item-moved}
 use Rattle.record.specs.Spelling.{spell}
-use Rattle.record.specs.Claims.{contentAt, Claims, ClaimAll, no-rows, a-row, onSome, all-claimed}
+use Rattle.record.specs.Claims.{contentAt, Claims, ClaimAll, no-rows, a-row}
+use Rattle.record.specs.Claimed.{onSome, all-claimed}
 use Rattle.record.specs.Answers.{shortestOf}
 
 -- two rows agree in all but place, and their places open the same content, each in its own source
@@ -22,41 +22,18 @@ pub data SameRecord (s t : List ℕ) : List Row → List Row → Type 0 where
   no-more : SameRecord s t [] []
   same-row : {x y : Row} {r q : List Row} → SameRow s t x y → SameRecord s t r q → SameRecord s t (x ∷ r) (y ∷ q)
 
--- ---- a row's other numbers do not depend on its place
-moved : Row → ℕ → Row
-moved x p = row (x .kind) p (x .first) (x .second)
-
-item-moved : (p q : ℕ) (i : Item) → itemRow q i ≡ moved (itemRow p i) q
-unfolding moved
-item-moved p q (Val (Leaf (Num s v))) = refl
-item-moved p q (Val (Leaf (Str Utf8 cs))) = refl
-item-moved p q (Val (Leaf (Str Binary cs))) = refl
-item-moved p q (Val (UntypedList n)) = refl
-item-moved p q (Val (TypedList n t)) = refl
-item-moved p q (Val (UntypedMap n)) = refl
-item-moved p q (Val (TypedMap n t)) = refl
-item-moved p q (Val (Object k n)) = refl
-item-moved p q (Val (Reference k)) = refl
-item-moved p q (Definition n) = refl
-item-moved p q (ClassName cs) = refl
-item-moved p q (FieldName cs) = refl
-item-moved p q (TypeName cs) = refl
-item-moved p q (TypeNumber k) = refl
-
+-- ---- a table that holds a record holds the same as another exactly when both claim the same items
 same-claims : (s t : List ℕ) (x y : Row) (i : Item) → SameRow s t x y → Claims s x i → Claims t y i
-unfolding moved
 same-claims s t x y i h c = record {
   agrees = item-moved (x .place) (y .place) i ∙ ap (λ (z : Row). moved z (y .place)) (c .agrees) ∙ (λ j. row (h .kind j) (y .place) (h .first j) (h .second j));
   content = sym (h .content) ∙ c .content;
 }
 
 claims-same : (s t : List ℕ) (x y : Row) (i : Item) → Claims s x i → Claims t y i → SameRow s t x y
-unfolding moved
 claims-same s t x y i c d =
     let e : moved x (y .place) ≡ y = ap (λ (z : Row). moved z (y .place)) (sym (c .agrees)) ∙ sym (item-moved (x .place) (y .place) i) ∙ d .agrees in
     record { kind = ap (λ (z : Row). z .kind) e; first = ap (λ (z : Row). z .first) e; second = ap (λ (z : Row). z .second) e; content = c .content ∙ sym (d .content) }
 
--- ---- a table that holds a record holds the same as another exactly when both claim the same items
 pub same-exactly : (s t : List ℕ) {r : List Row} {is : List Item} → ClaimAll s r is → (q : List Row) → SameRecord s t r q ↔ ClaimAll t q is
 same-exactly s t c q = (λ h. forward c h, λ d. backward c d)
   where

@@ -14,7 +14,8 @@ use Rattle.scalar.specs.Scalars.{scalarFrom, intFrom, textFrom, shortestScalar}
 use Rattle.record.specs.Reading.{formOf, typeFrom, plainBy, definition, valueFrom, message}
 use Rattle.record.specs.Rows.{Row, row, rows}
 use Rattle.record.specs.Spelling.{objectCode, putType, putDefinition, putPlainBy, putPlain, putValue, spell}
-use Rattle.record.specs.Claims.{contentKind, ofKind, itemAt}
+use Rattle.record.specs.Claims.{contentAt}
+use Rattle.record.specs.Claimed.{ofKind, itemAt}
 use Rattle.record.specs.Answers.{ReadAnswer, Accept, Refuse, judged, read, WriteAnswer, Wrote, Refused, shortestOf, write, base, baseRead, baseWrite}
 
 -- ---- what a sample says
@@ -76,6 +77,12 @@ marked =
 abbrev pub car : List Sample
 car =
     reads (0x43 ∷ 0x03 ∷ 0x43 ∷ 0x61 ∷ 0x72 ∷ 0x91 ∷ 0x05 ∷ 0x63 ∷ 0x6f ∷ 0x6c ∷ 0x6f ∷ 0x72 ∷ 0x60 ∷ 0x03 ∷ 0x72 ∷ 0x65 ∷ 0x64 ∷ []) (Accept (row 15 0 1 0 ∷ row 16 1 3 3 ∷ row 17 6 5 5 ∷ row 13 12 0 1 ∷ row 7 13 3 3 ∷ []) 17)
+    ∷ []
+
+-- two class definitions before an object of the first: numbers in their order
+abbrev pub classes : List Sample
+classes =
+    reads (0x43 ∷ 0x00 ∷ 0x91 ∷ 0x00 ∷ 0x43 ∷ 0x00 ∷ 0x90 ∷ 0x60 ∷ 0x4e ∷ []) (Accept (row 15 0 1 0 ∷ row 16 1 0 0 ∷ row 17 3 0 0 ∷ row 15 4 0 0 ∷ row 16 5 0 0 ∷ row 13 7 0 1 ∷ row 0 8 0 0 ∷ []) 9)
     ∷ []
 
 -- rows of lists, maps, references, texts and numbers
@@ -145,12 +152,13 @@ refused-5 =
     ∷ reads (0x43 ∷ 0x00 ∷ 0x8f ∷ []) (Refuse 5 0 2)
     ∷ []
 
--- a number that is not given: of a reference, a class, a type
+-- a number that is not given: of a reference (a text gets none), a class, a type
 abbrev pub refused-6 : List Sample
 refused-6 =
     reads (0x51 ∷ 0x90 ∷ []) (Refuse 6 0 0)
     ∷ reads (0x51 ∷ 0x8f ∷ []) (Refuse 6 0 0)
     ∷ reads (0x79 ∷ 0x51 ∷ 0x91 ∷ []) (Refuse 6 0 1)
+    ∷ reads (0x7a ∷ 0x01 ∷ 0x61 ∷ 0x51 ∷ 0x91 ∷ []) (Refuse 6 0 3)
     ∷ reads (0x60 ∷ []) (Refuse 6 0 0)
     ∷ reads (0x4f ∷ 0x90 ∷ []) (Refuse 6 0 0)
     ∷ reads (0x70 ∷ 0x91 ∷ []) (Refuse 6 0 1)
@@ -223,17 +231,17 @@ placed =
 -- ---- they hold
 pub marked-hold : Hold marked
 unfolding judged message valueFrom plainBy definition typeFrom formOf pick scalarFrom intFrom textFrom stringFrom leadOf rangeOf ranges kindOf formsOf formAt value whole widened magnitude scaled leadingZeros partHead lastHeads charLead
-    write shortestOf itemAt ofKind contentKind stringAt spell putValue putPlain putPlainBy putDefinition putType objectCode shortestScalar shortest guess wholeGuess wholeSize narrowed narrowMagnitude shortestString content longest
+    write shortestOf itemAt ofKind contentAt stringAt spell putValue putPlain putPlainBy putDefinition putType objectCode shortestScalar shortest guess wholeGuess wholeSize narrowed narrowMagnitude shortestString content longest
 marked-hold = refl
 
-pub samples-hold : Hold (car ++ (accepted ++ (refused-1 ++ (refused-2 ++ (refused-3 ++ (refused-4 ++ (refused-5 ++ (refused-6 ++ (refused-7 ++ (refused-8 ++ (written ++ (list-forms ++ (no-records ++ placed)))))))))))))
+pub samples-hold : Hold (car ++ (classes ++ (accepted ++ (refused-1 ++ (refused-2 ++ (refused-3 ++ (refused-4 ++ (refused-5 ++ (refused-6 ++ (refused-7 ++ (refused-8 ++ (written ++ (list-forms ++ (no-records ++ placed))))))))))))))
 unfolding judged message valueFrom plainBy definition typeFrom formOf pick scalarFrom intFrom textFrom stringFrom leadOf rangeOf ranges kindOf formsOf formAt value whole widened magnitude scaled leadingZeros partHead lastHeads charLead
-    write shortestOf itemAt ofKind contentKind stringAt spell putValue putPlain putPlainBy putDefinition putType objectCode shortestScalar shortest guess wholeGuess wholeSize narrowed narrowMagnitude shortestString content longest
+    write shortestOf itemAt ofKind contentAt stringAt spell putValue putPlain putPlainBy putDefinition putType objectCode shortestScalar shortest guess wholeGuess wholeSize narrowed narrowMagnitude shortestString content longest
 samples-hold = refl
 
 -- lengths: a message too long for the ceiling, fewer rows lent than needed; a source too long, a shortest message too long, fewer bytes lent than needed
 pub lengths : (read base 32 3 9 (0x7b ∷ 0x90 ∷ 0x90 ∷ 0x90 ∷ []) ≡ Refuse 1 0 0) × (baseRead 1 (0x79 ∷ 0x90 ∷ []) ≡ Refuse 9 2 0)
     × (write base 48 32 1 9 (0x90 ∷ 0x90 ∷ []) [] ≡ Refused 1 0) × (write base 48 32 1 9 [] (row 3 0 48 0 ∷ []) ≡ Refused 1 0) × (baseWrite 1 [] (row 3 0 48 0 ∷ []) ≡ Refused 9 2)
 unfolding judged message valueFrom plainBy definition typeFrom formOf pick scalarFrom intFrom textFrom stringFrom leadOf rangeOf ranges kindOf formsOf formAt value whole widened magnitude scaled leadingZeros partHead lastHeads charLead
-    write shortestOf itemAt ofKind contentKind stringAt spell putValue putPlain putPlainBy putDefinition putType objectCode shortestScalar shortest guess wholeGuess wholeSize narrowed narrowMagnitude shortestString content longest
+    write shortestOf itemAt ofKind contentAt stringAt spell putValue putPlain putPlainBy putDefinition putType objectCode shortestScalar shortest guess wholeGuess wholeSize narrowed narrowMagnitude shortestString content longest
 lengths = (refl, refl, refl, refl, refl)

@@ -68,8 +68,7 @@ className? x = elim x [ Val v ↦ none | Definition n ↦ none | ClassName cs �
 abbrev pub fieldName? : Item → Option (List ℕ)
 fieldName? x = elim x [ Val v ↦ none | Definition n ↦ none | ClassName cs ↦ none | FieldName cs ↦ some cs | TypeName cs ↦ none | TypeNumber k ↦ none ]
 
--- ---- parts
--- a name in its shortest form
+-- ---- parts: a name in its shortest form
 abbrev pub putName : (Item → Option (List ℕ)) → Put
 putName part = putItem part (λ cs. putBytes (shortestText cs))
 

@@ -1,7 +1,7 @@
 -- Tables: the rows that were stored are read again, as numbers and as bytes.
 use mathlib.Core.Path.{_≡_, refl, sym, _∙_, ap}
 use mathlib.Core.List.{List, [], _∷_, _++_, append-assoc}
-use Prim.Native.Nat.{ℕ, _+_, _*_, _^_, _≤_, _<_}
+use Prim.Native.Nat.{ℕ, _*_, _^_, _≤_, _<_}
 use native.Mathlib.Omega.{arith}
 use lib.ListN.{length, take, drop, length-append}
 use lib.Seq.{take-at, drop-at, take-all, drop-drop}
@@ -84,3 +84,11 @@ bytes-sound r h =
     let c = ap (joined 0) (p .three) ∙ be-back (r .first) (h .first) in
     let d = ap (joined 0) (p .four) ∙ be-back (r .second) (h .second) in
     record { sized = p .all; back = λ i. row (a i) (b i) (c i) (d i) }
+
+pub all-numbers : (rs : List Row) → All (Sound asNumbers) rs
+all-numbers [] = tt
+all-numbers (r ∷ rs) = (numbers-sound r, all-numbers rs)
+
+pub all-bytes : (rs : List Row) → All Fits rs → All (Sound asBytes) rs
+all-bytes [] h = tt
+all-bytes (r ∷ rs) h = (bytes-sound r (h .0), all-bytes rs (h .1))

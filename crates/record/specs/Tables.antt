@@ -1,15 +1,16 @@
 -- The tables and slices that are lent: what the reader and the writer answer, and what a lent table or output then holds.
 use mathlib.Core.List.{List, [], _∷_, _++_}
-use Prim.Native.Nat.{ℕ, zero, suc, _+_, _/_}
+use mathlib.Core.Option.{none}
+use Prim.Native.Nat.{ℕ, zero, suc, _/_}
 use lib.Dec.{ltb}
 use lib.ListN.{length, take, drop, getD}
 use Rattle.flow.specs.Tests.{pick}
 use Rattle.flow.specs.Overlay.{stored, overlay}
 use Rattle.wire.specs.BigEndian.{joined, be}
-use Rattle.scalar.specs.Answers.{Report}
+use Rattle.scalar.specs.Answers.{Report, reported}
 use Rattle.record.specs.Items.{Ceilings}
 use Rattle.record.specs.Rows.{Row, row}
-use Rattle.record.specs.Answers.{ReadAnswer, Accept, Refuse, read, WriteAnswer, Wrote, Refused, write}
+use Rattle.record.specs.Answers.{ReadAnswer, Accept, Refuse, read, WriteAnswer, Wrote, Refused, shortestOf, answeredTo}
 
 -- ---- how rows lie in a table: so many numbers a row
 pub record Layout : Type 0 where
@@ -42,14 +43,10 @@ unfoldable pub rowsOf : Layout → ℕ → List ℕ → List Row
 rowsOf L zero t = []
 rowsOf L (suc n) t = L .decode (take (L .width) t) ∷ rowsOf L n (drop (L .width) t)
 
--- ---- number, count and place
-abbrev pub reportedAt : ℕ → ℕ → ℕ → Report
-reportedAt number count place = record { number = number; count = count; place = place }
-
 -- ---- the reader: accepted are 0, the rows, the message's length; refusal 9 counts the rows needed, other refusals 0
 abbrev pub reportRead : ReadAnswer → Report
-reportRead (Accept rs n) = reportedAt 0 (length rs) n
-reportRead (Refuse x k o) = reportedAt x k o
+reportRead (Accept rs n) = record { number = 0; count = length rs; place = n }
+reportRead (Refuse x k o) = record { number = x; count = k; place = o }
 
 abbrev pub readReport : Ceilings → (d longest : ℕ) → Layout → List ℕ → List ℕ → Report
 readReport ℓ d longest L m t = reportRead (read ℓ d longest (lentRows L t) m)
@@ -64,19 +61,16 @@ readTable ℓ d longest L m t = filled L t (read ℓ d longest (lentRows L t) m)
 
 -- ---- the writer, of the first n rows of a table: accepted are 0, the bytes written, 0; the output past them is unchanged
 abbrev pub reportWritten : WriteAnswer → Report
-reportWritten (Wrote w) = reportedAt 0 (length w) 0
-reportWritten (Refused x n) = reportedAt x n 0
+reportWritten (Wrote w) = reported 0 (length w)
+reportWritten (Refused x n) = reported x n
 
 abbrev pub outputWritten : List ℕ → WriteAnswer → List ℕ
 outputWritten out (Wrote w) = stored out 0 w
 outputWritten out (Refused x n) = out
 
--- a source beyond the ceiling is refusal 1, before all else; then more rows claimed than lent are no record
+-- more rows claimed than lent are no record
 unfoldable pub written : Ceilings → (openFrom d longest : ℕ) → Layout → List ℕ → List ℕ → ℕ → (lent : ℕ) → WriteAnswer
-written ℓ openFrom d longest L source t n lent =
-    pick (ltb longest (length source)) (Refused 1 0)
-    (pick (ltb (lentRows L t) n) (Refused 10 0)
-    (write ℓ openFrom d longest lent source (rowsOf L n t)))
+written ℓ openFrom d longest L source t n lent = answeredTo longest lent source (pick (ltb (lentRows L t) n) none (shortestOf ℓ openFrom d source (rowsOf L n t)))
 
 abbrev pub writeReport : Ceilings → (openFrom d longest : ℕ) → Layout → List ℕ → List ℕ → ℕ → List ℕ → Report
 writeReport ℓ openFrom d longest L source t n out = reportWritten (written ℓ openFrom d longest L source t n (length out))

@@ -22,11 +22,13 @@ use Rattle.scalar.specs.Texts.{stringFrom, stringAt}
 use Rattle.scalar.specs.TextAnswers.{Sizes, sized, sizes, measuredAt}
 use Rattle.scalar.specs.Scalars.{Scalar, Num, Str, isScalar, scalarBy, scalarFrom}
 use Rattle.scalar.specs.ScalarLaws.{scalar-shut}
+use Rattle.record.specs.declared.Group.{Group}
+use Rattle.record.specs.declared.Group.the-variants.{Counted, Fields, Open, Pairs}
 use Rattle.record.specs.Items.{Leaf, UntypedList, TypedList, UntypedMap, TypedMap, Object, Reference, Item, Val, Known, opened, Ceilings}
 use Rattle.record.specs.Reading.{Reader, Opening, Form, leaf, few, few-typed, few-object, counted, counted-typed, open-list, open-typed, open-map, typed-map, object, reference, formOf, int, count, referenceTo, Two, with-two, fieldValues, pair, typeFrom, withType, plainBy, plainFrom}
 use Rattle.record.specs.Rows.{Row, row, sortKind, itemRow}
 use Rattle.record.specs.Placed.{Placed, Got, Lost, placed, run, front, on, through, topped, topped-through, run-give, run-fail, run-changing, run-asking, run-test, run-headed, run-mapped, run-bind}
-use Rattle.record.specs.Runs.{Group, Counted, Fields, Open, Pairs, rest, rest-many, rest-fields, rest-open, rest-pairs}
+use Rattle.record.specs.Runs.{rest, rest-many, rest-fields, rest-open, rest-pairs}
 use Rattle.record.specs.Parts.{lone, laid, number-behind, string-behind, string-laid, int-got, int-lost, count-got, count-negative, count-lost}
 
 -- ---- leaves

@@ -20,11 +20,13 @@ use Rattle.scalar.specs.Scalars.{Num, Str, Spelt, a-string}
 use Rattle.record.specs.Items.{Leaf, UntypedList, TypedList, UntypedMap, TypedMap, Object, Reference, Item, Val, Definition, ClassName, FieldName, TypeName, TypeNumber, Known, start, Ceilings}
 use Rattle.record.specs.Reading.{message, Accepted, Reads}
 use Rattle.record.specs.Rows.{Row, itemRow, rows}
+use Rattle.record.specs.RowLaws.{item-moved}
 use Rattle.record.specs.Spelling.{spell}
 use Rattle.record.specs.Meaning.{message-all}
 use Rattle.record.specs.ItemTheorems.{no-longer, reads-back}
 use Rattle.record.specs.Places.{Stands, Opens, EntriesOpen, OutcomeOpens, places}
-use Rattle.record.specs.Claims.{contentOf, contentKind, told, contentAt, ClaimAll, no-rows, a-row, onSome, recordOf, all-claimed, claims-exactly}
+use Rattle.record.specs.Claims.{contentOf, told, contentAt, ClaimAll, no-rows, a-row}
+use Rattle.record.specs.Claimed.{onSome, recordOf, all-claimed, claims-exactly}
 use Rattle.record.specs.Answers.{judged, shortestOf, write, Wrote, Has}
 
 -- ---- the writer, of any rows
@@ -67,7 +69,7 @@ spelt-string k cs s x = (x .0, x .1, x .2, go (x .3))
     go (a-string y) = y
 
 content-is : (m : List ℕ) (p : ℕ) (i : Item) → Opens (drop p m) i → contentAt m (itemRow p i .kind) p ≡ some (contentOf i)
-unfolding contentKind pick
+unfolding contentAt pick
 content-is m p (Val (Leaf (Num sort.Null v))) h = refl
 content-is m p (Val (Leaf (Num sort.False v))) h = refl
 content-is m p (Val (Leaf (Num sort.True v))) h = refl
@@ -89,30 +91,14 @@ content-is m p (FieldName cs) h = string-at Utf8 m p cs h
 content-is m p (TypeName cs) h = string-at Utf8 m p cs h
 content-is m p (TypeNumber k) h = refl
 
-place-is : (p : ℕ) (i : Item) → itemRow p i .place ≡ p
-place-is p (Val (Leaf (Num s v))) = refl
-place-is p (Val (Leaf (Str Utf8 cs))) = refl
-place-is p (Val (Leaf (Str Binary cs))) = refl
-place-is p (Val (UntypedList n)) = refl
-place-is p (Val (TypedList n t)) = refl
-place-is p (Val (UntypedMap n)) = refl
-place-is p (Val (TypedMap n t)) = refl
-place-is p (Val (Object k n)) = refl
-place-is p (Val (Reference k)) = refl
-place-is p (Definition n) = refl
-place-is p (ClassName cs) = refl
-place-is p (FieldName cs) = refl
-place-is p (TypeName cs) = refl
-place-is p (TypeNumber k) = refl
-
 entries-claim : (m : List ℕ) (bytes : Bytes m) (es : List (Entry Item)) → EntriesOpen m bytes es → ClaimAll m (rows es) (items es)
 entries-claim m bytes [] h = no-rows
 entries-claim m bytes (e ∷ es) h =
-    let q = place-is (e .place) (e .item) in
+    let q = ap (λ (x : Row). x .place) (item-moved (e .place) (e .place) (e .item)) in
     a-row (record {
       agrees = ap (λ (p : ℕ). itemRow p (e .item)) q;
-      content = ap (λ (p : ℕ). contentAt m (itemRow (e .place) (e .item) .kind) p) q ∙ content-is m (e .place) (e .item) (h .0);
-    }) (entries-claim m bytes es (h .1))
+      content = ap (λ (p : ℕ). contentAt m (itemRow (e .place) (e .item) .kind) p) q ∙ content-is m (e .place) (e .item) (h .1);
+    }) (entries-claim m bytes es (h .2))
 
 -- a message's own rows claim the record that it reads as
 module _ (ℓ : Ceilings) (d : ℕ) (m : List ℕ) (bytes : Bytes m) (n : ℕ) (es : List (Entry Item)) (c : Known) (e : message ℓ d start 0 m ≡ Done n tt es c) where

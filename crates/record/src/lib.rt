@@ -1,1 +1,16 @@
-// Theory only: what a record is, how a message reads, its shortest message, and the theorems stand in specs/.
+// What a record is, how a message reads, its shortest message, and the theorems stand in specs/: theory, and types that code shares.
+
+// How the values of a list, map or object are counted: so many elements; the fields of an object, with its class and how many;
+// elements up to 5a; keys and values up to 5a.
+pub enum Group {
+    Counted(u64),
+    Fields(u64, u64),
+    Open,
+    Pairs,
+}
+
+// What a list, map or object holds, as the writer counts it: so many elements or fields; so many keys, each with its value.
+pub enum Contents {
+    Elements(u64),
+    Couples(u64),
+}

@@ -1,0 +1,49 @@
+-- The count and the place that the reader answers lie within the message, and within `longest`.
+use mathlib.Core.Path.{_≡_, refl}
+use mathlib.Core.List.{List, [], _∷_}
+use Prim.Native.Nat.{ℕ, _≤_}
+use native.Mathlib.Omega.{arith}
+use lib.Dec.{ltb}
+use lib.ListN.{length, length-map}
+use borrow.Author.Tests.{ltb-false}
+use Rattle.flow.specs.Tests.{pick-either, Bytes}
+use Rattle.flow.specs.Flow.{Entry, Outcome, Done, Fault, One, items}
+use Rattle.flow.specs.Refusals.{Told}
+use Rattle.record.specs.Items.{Item, Known, start, Ceilings}
+use Rattle.record.specs.Reading.{message}
+use Rattle.record.specs.Extent.{rows-few}
+use Rattle.record.specs.Answers.{ReadAnswer, judged, answered, read}
+use Rattle.record.specs.Tables.{reportRead}
+use Rattle.record.specs.Whole.{rows-length}
+use Rattle.record.specs.Refusals.{Numbered, message-within}
+use Rattle.record.specs.Demands.{read-numbered}
+
+-- the count and the place of an answer are at most k
+abbrev Most : ℕ → ReadAnswer → Type 0
+Most k a = (reportRead a .count ≤ k) × (reportRead a .place ≤ k)
+
+module _ (ℓ : Ceilings) (d longest lent : ℕ) where
+  message-most : (k : ℕ) (m : List ℕ) → Bytes m → length m ≤ k → Most k (answered lent (message ℓ d start 0 m))
+  message-most k m b l = go (message ℓ d start 0 m) refl (message-within ℓ d m)
+    where
+      go : (o : Outcome Known Item One) → message ℓ d start 0 m ≡ o → Told Numbered (length m) m o → Most k (answered lent o)
+      go (Fault x o) e t = (omega arith, omega (arith, t .1))
+      go (Done n u es c) e t =
+          let i : length es ≤ k = omega (arith, rows-few ℓ d m (items es) (record { bytes = b; accepted = rw e refl }), length-map es (λ (e : Entry Item). e .item)) in
+          pick-either (Most k) (ltb lent (length es)) (λ q. (i, omega arith)) (λ q. (omega (arith, rows-length es), omega arith))
+
+  read-most : (k : ℕ) (m : List ℕ) → Bytes m → (length m ≤ longest → length m ≤ k) → Most k (read ℓ d longest lent m)
+  unfolding judged
+  read-most k [] b h = (omega arith, omega arith)
+  read-most k (x ∷ m) b h = pick-either (λ o. Most k (answered lent o)) (ltb longest (length (x ∷ m))) (λ q. (omega arith, omega arith)) (λ q. message-most k (x ∷ m) b (h (ltb-false longest (length (x ∷ m)) q)))
+
+  module _ (m : List ℕ) (b : Bytes m) where
+    pub read-count : reportRead (read ℓ d longest lent m) .count ≤ length m
+    read-count = read-most (length m) m b (λ l. omega arith) .0
+
+    pub read-place : reportRead (read ℓ d longest lent m) .place ≤ length m
+    read-place = read-most (length m) m b (λ l. omega arith) .1
+
+    -- so the answer fits three small numbers, whatever the message's length
+    pub answer-small : (reportRead (read ℓ d longest lent m) .count ≤ longest) × (reportRead (read ℓ d longest lent m) .place ≤ longest) × (reportRead (read ℓ d longest lent m) .number ≤ 9)
+    answer-small = let p = read-most longest m b (λ l. l) in (p .0, p .1, read-numbered ℓ d longest lent m b)

@@ -1,0 +1,164 @@
+-- The record that rows claim, computed; and that it is exactly the one claimed.
+use mathlib.Core.Path.{_≡_, refl, sym, _∙_, ap, subst}
+use mathlib.Core.Bool.{Bool, true, false, cond, _&&_}
+use mathlib.Core.Logic.{_↔_}
+use mathlib.Core.List.{List, [], _∷_}
+use mathlib.Core.Option.{Option, none, some}
+use Prim.Native.Nat.{ℕ}
+use lib.Dec.{T, eqb, eqb→eq, eqb-refl}
+use Rattle.flow.specs.Tests.{by-test, pass, pick, and-left, and-right, and-both}
+use Rattle.scalar.specs.declared.numbers.Sort.the-variants as sort
+use Rattle.scalar.specs.declared.texts.Kind.the-variants.{Utf8, Binary}
+use Rattle.scalar.specs.Scalars.{Num, Str}
+use Rattle.record.specs.Items.{Leaf, UntypedList, TypedList, UntypedMap, TypedMap, Object, Reference, Item, Val, Definition, ClassName, FieldName, TypeName, TypeNumber}
+use Rattle.record.specs.Rows.{Row, itemRow}
+use Rattle.record.specs.Claims.{contentOf, contentAt, Claims, ClaimAll, no-rows, a-row}
+
+-- the item of the row's kind, with the row's numbers or this content
+unfoldable pub ofKind : Row → List ℕ → Item
+ofKind x cs =
+    pick (eqb (x .kind) 0) (Val (Leaf (Num sort.Null (x .first))))
+    (pick (eqb (x .kind) 1) (Val (Leaf (Num sort.False (x .first))))
+    (pick (eqb (x .kind) 2) (Val (Leaf (Num sort.True (x .first))))
+    (pick (eqb (x .kind) 3) (Val (Leaf (Num sort.Int (x .first))))
+    (pick (eqb (x .kind) 4) (Val (Leaf (Num sort.Long (x .first))))
+    (pick (eqb (x .kind) 5) (Val (Leaf (Num sort.Double (x .first))))
+    (pick (eqb (x .kind) 6) (Val (Leaf (Num sort.Date (x .first))))
+    (pick (eqb (x .kind) 7) (Val (Leaf (Str Utf8 cs)))
+    (pick (eqb (x .kind) 8) (Val (Leaf (Str Binary cs)))
+    (pick (eqb (x .kind) 9) (Val (UntypedList (x .first)))
+    (pick (eqb (x .kind) 10) (Val (TypedList (x .first) (x .second)))
+    (pick (eqb (x .kind) 11) (Val (UntypedMap (x .first)))
+    (pick (eqb (x .kind) 12) (Val (TypedMap (x .first) (x .second)))
+    (pick (eqb (x .kind) 13) (Val (Object (x .first) (x .second)))
+    (pick (eqb (x .kind) 14) (Val (Reference (x .first)))
+    (pick (eqb (x .kind) 15) (Definition (x .first))
+    (pick (eqb (x .kind) 16) (ClassName cs)
+    (pick (eqb (x .kind) 17) (FieldName cs)
+    (pick (eqb (x .kind) 18) (TypeName cs)
+    (TypeNumber (x .first))))))))))))))))))))
+
+abbrev pub sameList : List ℕ → List ℕ → Bool
+sameList [] [] = true
+sameList [] (b ∷ t) = false
+sameList (a ∷ s) [] = false
+sameList (a ∷ s) (b ∷ t) = eqb a b && sameList s t
+
+abbrev pub sameRow : Row → Row → Bool
+sameRow x y = eqb (x .kind) (y .kind) && (eqb (x .place) (y .place) && (eqb (x .first) (y .first) && eqb (x .second) (y .second)))
+
+-- the item i, if the row claims it with the content cs
+abbrev pub checked : Row → List ℕ → Item → Option Item
+checked x cs i = cond (sameRow (itemRow (x .place) i) x && sameList (contentOf i) cs) (some i) none
+
+abbrev pub onSome : {A B : Type 0} → (A → Option B) → Option A → Option B
+onSome f none = none
+onSome f (some a) = f a
+
+unfoldable pub itemAt : List ℕ → Row → Option Item
+itemAt source x = onSome (λ cs. checked x cs (ofKind x cs)) (contentAt source (x .kind) (x .place))
+
+-- the record that the rows claim, or none
+abbrev pub recordOf : List ℕ → List Row → Option (List Item)
+recordOf source [] = some []
+recordOf source (x ∷ r) = onSome (λ i. onSome (λ is. some (i ∷ is)) (recordOf source r)) (itemAt source x)
+
+-- ---- it is the one claimed
+pub same-refl : (s : List ℕ) → T (sameList s s)
+same-refl [] = tt
+same-refl (a ∷ s) = and-both (eqb a a) (sameList s s) (eqb-refl a) (same-refl s)
+
+same-eq : (s t : List ℕ) → T (sameList s t) → s ≡ t
+same-eq [] [] h = refl
+same-eq [] (b ∷ t) h = absurd h
+same-eq (a ∷ s) [] h = absurd h
+same-eq (a ∷ s) (b ∷ t) h =
+    let e = eqb→eq a b (and-left (eqb a b) (sameList s t) h) in
+    let f = same-eq s t (and-right (eqb a b) (sameList s t) h) in
+    cc
+
+row-refl : (x : Row) → T (sameRow x x)
+row-refl x = and-both (eqb (x .kind) (x .kind)) _ (eqb-refl (x .kind)) (and-both (eqb (x .place) (x .place)) _ (eqb-refl (x .place))
+    (and-both (eqb (x .first) (x .first)) _ (eqb-refl (x .first)) (eqb-refl (x .second))))
+
+row-eq : (x y : Row) → T (sameRow x y) → x ≡ y
+row-eq x y h =
+    let h₁ = and-right (eqb (x .kind) (y .kind)) (eqb (x .place) (y .place) && (eqb (x .first) (y .first) && eqb (x .second) (y .second))) h in
+    let h₂ = and-right (eqb (x .place) (y .place)) (eqb (x .first) (y .first) && eqb (x .second) (y .second)) h₁ in
+    let a = eqb→eq (x .kind) (y .kind) (and-left (eqb (x .kind) (y .kind)) (eqb (x .place) (y .place) && (eqb (x .first) (y .first) && eqb (x .second) (y .second))) h) in
+    let b = eqb→eq (x .place) (y .place) (and-left (eqb (x .place) (y .place)) (eqb (x .first) (y .first) && eqb (x .second) (y .second)) h₁) in
+    let c = eqb→eq (x .first) (y .first) (and-left (eqb (x .first) (y .first)) (eqb (x .second) (y .second)) h₂) in
+    let d = eqb→eq (x .second) (y .second) (and-right (eqb (x .first) (y .first)) (eqb (x .second) (y .second)) h₂) in
+    λ i. record { kind = a i; place = b i; first = c i; second = d i }
+
+kind-back : (p : ℕ) (i : Item) → ofKind (itemRow p i) (contentOf i) ≡ i
+unfolding ofKind pick
+kind-back p (Val (Leaf (Num sort.Null v))) = refl
+kind-back p (Val (Leaf (Num sort.False v))) = refl
+kind-back p (Val (Leaf (Num sort.True v))) = refl
+kind-back p (Val (Leaf (Num sort.Int v))) = refl
+kind-back p (Val (Leaf (Num sort.Long v))) = refl
+kind-back p (Val (Leaf (Num sort.Double v))) = refl
+kind-back p (Val (Leaf (Num sort.Date v))) = refl
+kind-back p (Val (Leaf (Str Utf8 cs))) = refl
+kind-back p (Val (Leaf (Str Binary cs))) = refl
+kind-back p (Val (UntypedList n)) = refl
+kind-back p (Val (TypedList n t)) = refl
+kind-back p (Val (UntypedMap n)) = refl
+kind-back p (Val (TypedMap n t)) = refl
+kind-back p (Val (Object k n)) = refl
+kind-back p (Val (Reference k)) = refl
+kind-back p (Definition n) = refl
+kind-back p (ClassName cs) = refl
+kind-back p (FieldName cs) = refl
+kind-back p (TypeName cs) = refl
+kind-back p (TypeNumber k) = refl
+
+module _ (source : List ℕ) where
+  pub item-claimed : (x : Row) (i : Item) → Claims source x i → itemAt source x ≡ some i
+  unfolding itemAt
+  item-claimed x i h =
+      let back : ofKind x (contentOf i) ≡ i = subst (λ (y : Row). ofKind y (contentOf i) ≡ i) (h .agrees) (kind-back (x .place) i) in
+      rw (h .content, back) (pass (sameRow (itemRow (x .place) i) x && sameList (contentOf i) (contentOf i)) _ _
+      (and-both (sameRow (itemRow (x .place) i) x) _ (rw (h .agrees) (row-refl x)) (same-refl (contentOf i))) refl)
+
+  abbrev ClaimedBy : Row → Option Item → Type 0
+  ClaimedBy x none = Unit {0}
+  ClaimedBy x (some i) = Claims source x i
+
+  claims-item : (x : Row) → ClaimedBy x (itemAt source x)
+  unfolding itemAt
+  claims-item x = go (contentAt source (x .kind) (x .place)) refl
+    where
+      go : (o : Option (List ℕ)) → contentAt source (x .kind) (x .place) ≡ o → ClaimedBy x (onSome (λ cs. checked x cs (ofKind x cs)) o)
+      go none e = tt
+      go (some cs) e = let i = ofKind x cs in
+          by-test (ClaimedBy x) (sameRow (itemRow (x .place) i) x && sameList (contentOf i) cs)
+          (λ t. record {
+            agrees = row-eq (itemRow (x .place) i) x (and-left (sameRow (itemRow (x .place) i) x) (sameList (contentOf i) cs) t);
+            content = e ∙ ap {B = Option (List ℕ)} some (sym (same-eq (contentOf i) cs (and-right (sameRow (itemRow (x .place) i) x) (sameList (contentOf i) cs) t)));
+          }) (λ t. tt)
+
+  pub claims-back : (x : Row) (i : Item) → itemAt source x ≡ some i → Claims source x i
+  claims-back x i e = subst (ClaimedBy x) e (claims-item x)
+
+  pub all-claimed : {r : List Row} {is : List Item} → ClaimAll source r is → recordOf source r ≡ some is
+  all-claimed no-rows = refl
+  all-claimed (a-row {x = x} {i = i} h k) = rw (item-claimed x i h, all-claimed k) refl
+
+  abbrev AllClaimedBy : List Row → Option (List Item) → Type 0
+  AllClaimedBy r none = Unit {0}
+  AllClaimedBy r (some is) = ClaimAll source r is
+
+  claims-all : (r : List Row) → AllClaimedBy r (recordOf source r)
+  claims-all [] = no-rows
+  claims-all (x ∷ r) = go (itemAt source x) (claims-item x) (recordOf source r) (claims-all r)
+    where
+      go : (o : Option Item) → ClaimedBy x o → (q : Option (List Item)) → AllClaimedBy r q → AllClaimedBy (x ∷ r) (onSome (λ i. onSome (λ is. some (i ∷ is)) q) o)
+      go none h q k = tt
+      go (some i) h none k = tt
+      go (some i) h (some is) k = a-row h k
+
+  -- the rows claim a record exactly when it is the one computed
+  pub claims-exactly : (r : List Row) (is : List Item) → ClaimAll source r is ↔ (recordOf source r ≡ some is)
+  claims-exactly r is = (all-claimed, λ e. subst (AllClaimedBy r) e (claims-all r))

@@ -1,0 +1,244 @@
+-- What is written of a type or a class definition by the items at an index: one law for each way on, and one for each way to be no record.
+use mathlib.Core.Path.{_≡_, refl, ap, _∙_}
+use mathlib.Core.Bool.{Bool, true, false, _&&_}
+use mathlib.Core.List.{List, [], _∷_, _++_, append-nil}
+use mathlib.Core.Option.{Option, none, some}
+use Prim.Native.Nat.{ℕ, suc, _+_, _^_, _≤_, _<_}
+use native.Mathlib.Omega.{arith}
+use lib.Dec.{ltb, eqb, leb}
+use lib.ListN.{length, drop}
+use borrow.Author.Tests.{lt-ltb, le-ltb, le-leb, lt-leb, eq-eqb, ne-eqb}
+use Rattle.scalar.specs.Scalars.{shortestInt, shortestText}
+use Rattle.record.specs.Items.{Item, Val, Definition, ClassName, FieldName, TypeName, TypeNumber, Known, typed, defined, Ceilings}
+use Rattle.record.specs.Spelling.{Put, putThen, putMany, putBytes, putIf, definition?, className?, fieldName?, putName, putDefined, putType, putDefinition}
+use Rattle.record.specs.Walked.{At, End, at-within, Walked, Over, Stuck, walked, walk, behind, onOver, behind-behind, many-drops, walk-then, walk-bytes, walk-none, walk-both, walk-unless-one, walk-unless-other, walk-if-none, walk-item, walk-other, walk-over, walk-same, walk-first, walk-first-none}
+use Rattle.record.specs.Drops.{name-drops, namesOf, countOf, bodyOf, definable, definitionBy}
+use Rattle.record.specs.declared.Contents.the-variants.{Elements}
+use Rattle.record.specs.Contents.{left, walk-elements, left-stop, left-over, left-stuck}
+
+-- ---- the type whose number is t
+abbrev pub isType : Item → Bool
+isType (Val v) = false
+isType (Definition n) = false
+isType (ClassName cs) = false
+isType (FieldName cs) = false
+isType (TypeName cs) = true
+isType (TypeNumber j) = true
+
+module _ (ℓ : Ceilings) (t : ℕ) (c : Known) (is : List Item) (k : ℕ) where
+  -- what is written of the type at k
+  abbrev Type-here : Walked
+  Type-here = walk (putType ℓ t) c is k
+
+  pub type-end : End is k → Type-here ≡ Stuck
+  unfolding putType walk
+  type-end e = ap (λ (s : List Item). walked is (putType ℓ t c s)) e
+
+  pub type-other : (i : Item) → At is k i → isType i ≡ false → Type-here ≡ Stuck
+  unfolding putType walk
+  type-other i e h = ap (λ (s : List Item). walked is (putType ℓ t c s)) e ∙ go i h
+    where
+      go : (i : Item) → isType i ≡ false → walked is (putType ℓ t c (i ∷ drop (suc k) is)) ≡ Stuck
+      go (Val v) h = refl
+      go (Definition n) h = refl
+      go (ClassName cs) h = refl
+      go (FieldName cs) h = refl
+      go (TypeName cs) h = let z : _≡_ {A = ℕ} 0 1 = cc in absurd (omega arith)
+      go (TypeNumber j) h = let z : _≡_ {A = ℕ} 0 1 = cc in absurd (omega arith)
+
+  -- a name written out gets the number t
+  module _ (cs : List ℕ) (e : At is k (TypeName cs)) where
+    named : (o : Option (List ℕ)) → shortestText cs ≡ o → Type-here ≡ walk (putIf (eqb (c .types) t && ltb (c .types) (ℓ .types)) (λ c r. putBytes o (typed c) r)) c is (suc k)
+    unfolding putType walk
+    named o h =
+        ap (λ (s : List Item). walked is (putType ℓ t c s)) e
+        ∙ ap (λ (o : Option (List ℕ)). walk (putIf (eqb (c .types) t && ltb (c .types) (ℓ .types)) (λ c r. putBytes o (typed c) r)) c is (suc k)) h
+
+    pub type-name : c .types ≡ t → c .types < ℓ .types → (w : List ℕ) → shortestText cs ≡ some w → Type-here ≡ Over w (suc k) (typed c)
+    unfolding walk
+    type-name x y w h =
+        named (some w) h
+        ∙ walk-both c is (suc k) (λ c r. putBytes (some w) (typed c) r) (eqb (c .types) t) (ltb (c .types) (ℓ .types)) (eq-eqb (c .types) t x) (lt-ltb (c .types) (ℓ .types) y)
+        ∙ walk-bytes (typed c) is (suc k) w (at-within is k (TypeName cs) e)
+
+    pub type-name-other : (c .types ≡ t → ⊥) → Type-here ≡ Stuck
+    type-name-other x = named (shortestText cs) refl ∙ walk-unless-one c is (suc k) _ (eqb (c .types) t) (ltb (c .types) (ℓ .types)) (ne-eqb (c .types) t x)
+
+    pub type-name-full : ℓ .types ≤ c .types → Type-here ≡ Stuck
+    type-name-full y = named (shortestText cs) refl ∙ walk-unless-other c is (suc k) _ (eqb (c .types) t) (ltb (c .types) (ℓ .types)) (le-ltb (c .types) (ℓ .types) y)
+
+    pub type-name-none : shortestText cs ≡ none → Type-here ≡ Stuck
+    unfolding walk
+    type-name-none h = named none h ∙ go (eqb (c .types) t && ltb (c .types) (ℓ .types))
+      where
+        go : (b : Bool) → walk (putIf b (λ c r. putBytes none (typed c) r)) c is (suc k) ≡ Stuck
+        go true = refl
+        go false = refl
+
+  -- a type by number
+  module _ (j : ℕ) (e : At is k (TypeNumber j)) where
+    numbered : (o : Option (List ℕ)) → shortestInt j ≡ o → Type-here ≡ walk (putIf (eqb j t && ltb j (c .types)) (putBytes o)) c is (suc k)
+    unfolding putType walk
+    numbered o h =
+        ap (λ (s : List Item). walked is (putType ℓ t c s)) e
+        ∙ ap (λ (o : Option (List ℕ)). walk (putIf (eqb j t && ltb j (c .types)) (putBytes o)) c is (suc k)) h
+
+    pub type-number : j ≡ t → j < c .types → (w : List ℕ) → shortestInt j ≡ some w → Type-here ≡ Over w (suc k) c
+    type-number x y w h =
+        numbered (some w) h
+        ∙ walk-both c is (suc k) (putBytes (some w)) (eqb j t) (ltb j (c .types)) (eq-eqb j t x) (lt-ltb j (c .types) y)
+        ∙ walk-bytes c is (suc k) w (at-within is k (TypeNumber j) e)
+
+    pub type-number-other : (j ≡ t → ⊥) → Type-here ≡ Stuck
+    type-number-other x = numbered (shortestInt j) refl ∙ walk-unless-one c is (suc k) _ (eqb j t) (ltb j (c .types)) (ne-eqb j t x)
+
+    pub type-number-ungiven : c .types ≤ j → Type-here ≡ Stuck
+    type-number-ungiven y = numbered (shortestInt j) refl ∙ walk-unless-other c is (suc k) _ (eqb j t) (ltb j (c .types)) (le-ltb j (c .types) y)
+
+    pub type-number-none : shortestInt j ≡ none → Type-here ≡ Stuck
+    type-number-none h = numbered none h ∙ walk-if-none c is (suc k) (eqb j t && ltb j (c .types))
+
+-- ---- a name
+module _ (part : Item → Option (List ℕ)) (c : Known) (is : List Item) (k : ℕ) where
+  abbrev Name-here : Walked
+  Name-here = walk (putName part) c is k
+
+  pub name-end : End is k → Name-here ≡ Stuck
+  name-end e = walk-over c is k part (λ cs. putBytes (shortestText cs)) e
+
+  module _ (i : Item) (e : At is k i) where
+    pub name-other : part i ≡ none → Name-here ≡ Stuck
+    name-other h = walk-other c is k part (λ cs. putBytes (shortestText cs)) i e h
+
+    module _ (cs : List ℕ) (h : part i ≡ some cs) where
+      name-is : (o : Option (List ℕ)) → shortestText cs ≡ o → Name-here ≡ walk (putBytes o) c is (suc k)
+      name-is o x = walk-item c is k part (λ cs. putBytes (shortestText cs)) i cs e h ∙ ap (λ (o : Option (List ℕ)). walk (putBytes o) c is (suc k)) x
+
+      pub name-got : (w : List ℕ) → shortestText cs ≡ some w → Name-here ≡ Over w (suc k) c
+      name-got w x = name-is (some w) x ∙ walk-bytes c is (suc k) w (at-within is k i e)
+
+      pub name-none : shortestText cs ≡ none → Name-here ≡ Stuck
+      name-none x = name-is none x ∙ walk-none c is (suc k)
+
+-- ---- the field names of a class: those left after j of n
+abbrev pub namesLeft : ℕ → ℕ → Put
+namesLeft n j = left (putName fieldName?) (Elements n) j
+
+module _ (n j : ℕ) (c : Known) (is : List Item) (k : ℕ) where
+  abbrev Names-here : Walked
+  Names-here = walk (namesLeft n j) c is k
+
+  pub names-stop : j ≡ n → k ≤ length is → Names-here ≡ Over [] k c
+  names-stop e l = left-stop (putName fieldName?) (name-drops fieldName?) is (Elements n) j (eq-eqb j n e) c k l
+
+  module _ (h : j < n) where
+    names-more : eqb j n ≡ false
+    names-more = ne-eqb j n (λ e. omega arith)
+
+    names-over : (w : List ℕ) → walk (putName fieldName?) c is k ≡ Over w (suc k) c → Names-here ≡ behind w (walk (namesLeft n (j + 1)) c is (suc k))
+    names-over w x = left-over (putName fieldName?) (name-drops fieldName?) is (Elements n) j names-more (omega arith) c k w (suc k) c x
+
+    names-stuck : walk (putName fieldName?) c is k ≡ Stuck → Names-here ≡ Stuck
+    names-stuck x = left-stuck (putName fieldName?) (name-drops fieldName?) is (Elements n) j names-more (omega arith) c k x
+
+    pub names-end : End is k → Names-here ≡ Stuck
+    names-end e = names-stuck (name-end fieldName? c is k e)
+
+    pub names-other : (i : Item) → At is k i → fieldName? i ≡ none → Names-here ≡ Stuck
+    names-other i e x = names-stuck (name-other fieldName? c is k i e x)
+
+    module _ (cs : List ℕ) (e : At is k (FieldName cs)) where
+      pub names-step : (w : List ℕ) → shortestText cs ≡ some w → Names-here ≡ behind w (walk (namesLeft n (j + 1)) c is (suc k))
+      names-step w x = names-over w (name-got fieldName? c is k (FieldName cs) e cs refl w x)
+
+      pub names-none : shortestText cs ≡ none → Names-here ≡ Stuck
+      names-none x = names-stuck (name-none fieldName? c is k (FieldName cs) e cs refl x)
+
+-- ---- a class definition: its item at k, its name after it, and then its field names
+module _ (ℓ : Ceilings) (c : Known) (is : List Item) (k : ℕ) where
+  abbrev Definition-here : Walked
+  Definition-here = walk (putDefinition ℓ) c is k
+
+  pub definition-end : End is k → Definition-here ≡ Stuck
+  unfolding putDefinition
+  definition-end e = walk-over c is k definition? (definitionBy ℓ) e
+
+  pub definition-other : (i : Item) → At is k i → definition? i ≡ none → Definition-here ≡ Stuck
+  unfolding putDefinition
+  definition-other i e h = walk-other c is k definition? (definitionBy ℓ) i e h
+
+  module _ (n : ℕ) (e : At is k (Definition n)) where
+    definition-is : Definition-here ≡ walk (putIf (definable ℓ c n) (bodyOf ℓ n)) c is (suc k)
+    unfolding putDefinition walk
+    definition-is = walk-item c is k definition? (definitionBy ℓ) (Definition n) n e refl
+
+    pub definition-full : ℓ .classes ≤ length (c .classes) → Definition-here ≡ Stuck
+    definition-full s =
+        definition-is ∙ walk-unless-one c is (suc k) (bodyOf ℓ n) (ltb (length (c .classes)) (ℓ .classes)) (ltb n (2 ^ 63) && leb n (ℓ .fields)) (le-ltb (length (c .classes)) (ℓ .classes) s)
+
+    pub definition-huge : 2 ^ 63 ≤ n → Definition-here ≡ Stuck
+    definition-huge s =
+        definition-is
+        ∙ walk-unless-other c is (suc k) (bodyOf ℓ n) (ltb (length (c .classes)) (ℓ .classes)) (ltb n (2 ^ 63) && leb n (ℓ .fields)) (ap (λ (b : Bool). b && leb n (ℓ .fields)) (le-ltb n (2 ^ 63) s))
+
+    pub definition-wide : ℓ .fields < n → Definition-here ≡ Stuck
+    definition-wide s =
+        definition-is
+        ∙ walk-unless-other c is (suc k) (bodyOf ℓ n) (ltb (length (c .classes)) (ℓ .classes)) (ltb n (2 ^ 63) && leb n (ℓ .fields)) (go (ltb n (2 ^ 63)) (lt-leb n (ℓ .fields) s))
+      where
+        go : (a : Bool) {b : Bool} → b ≡ false → a && b ≡ false
+        go true y = y
+        go false y = refl
+
+    -- within the ceilings
+    module _ (s : length (c .classes) < ℓ .classes) (small : n < 2 ^ 63) (fits : n ≤ ℓ .fields) where
+      definition-by : (o : Walked) → walk (putName className?) c is (suc k) ≡ o → Definition-here ≡ behind (0x43 ∷ []) (onOver o (λ p c′. walk (countOf ℓ n) c′ is p))
+      definition-by o h =
+          definition-is
+          ∙ walk-both c is (suc k) (bodyOf ℓ n) (ltb (length (c .classes)) (ℓ .classes)) (ltb n (2 ^ 63) && leb n (ℓ .fields)) (lt-ltb (length (c .classes)) (ℓ .classes) s)
+          (ap (λ (b : Bool). b && leb n (ℓ .fields)) (lt-ltb n (2 ^ 63) small) ∙ le-leb n (ℓ .fields) fits)
+          ∙ walk-first c is (suc k) (0x43 ∷ []) (putThen (putName className?) (countOf ℓ n)) (at-within is k (Definition n) e)
+          ∙ ap (behind (0x43 ∷ [])) (walk-then c is (suc k) (putName className?) (countOf ℓ n) (name-drops className?))
+          ∙ ap (λ (o : Walked). behind (0x43 ∷ []) (onOver o (λ p c′. walk (countOf ℓ n) c′ is p))) h
+
+      pub definition-nameless : End is (suc k) → Definition-here ≡ Stuck
+      definition-nameless h = definition-by Stuck (name-end className? c is (suc k) h)
+
+      pub definition-misnamed : (i : Item) → At is (suc k) i → className? i ≡ none → Definition-here ≡ Stuck
+      definition-misnamed i h x = definition-by Stuck (name-other className? c is (suc k) i h x)
+
+      module _ (cs : List ℕ) (h : At is (suc k) (ClassName cs)) where
+        pub definition-unnamed : shortestText cs ≡ none → Definition-here ≡ Stuck
+        definition-unnamed x = definition-by Stuck (name-none className? c is (suc k) (ClassName cs) h cs refl x)
+
+        -- the name takes the bytes w
+        module _ (w : List ℕ) (x : shortestText cs ≡ some w) where
+          counted : (o : Option (List ℕ)) → shortestInt n ≡ o → Definition-here ≡ behind (0x43 ∷ w) (walk (putThen (putBytes o) (namesOf ℓ n)) c is (suc (suc k)))
+          counted o y =
+              definition-by (Over w (suc (suc k)) c) (name-got className? c is (suc k) (ClassName cs) h cs refl w x)
+              ∙ behind-behind (0x43 ∷ []) w (walk (countOf ℓ n) c is (suc (suc k)))
+              ∙ ap (λ (o : Option (List ℕ)). behind (0x43 ∷ w) (walk (putThen (putBytes o) (namesOf ℓ n)) c is (suc (suc k)))) y
+
+          pub definition-uncounted : shortestInt n ≡ none → Definition-here ≡ Stuck
+          definition-uncounted y = counted none y ∙ ap (behind (0x43 ∷ w)) (walk-first-none c is (suc (suc k)) (namesOf ℓ n))
+
+          -- and the count v
+          module _ (v : List ℕ) (y : shortestInt n ≡ some v) where
+            given : (p : ℕ) (c′ : Known) → p ≤ length is → walk (putDefined n) c′ is p ≡ Over [] p (defined n c′)
+            unfolding walk
+            given p c′ l = walk-bytes (defined n c′) is p [] l
+
+            names-in : (o : Walked) → walk (namesLeft n 0) c is (suc (suc k)) ≡ o → Definition-here ≡ behind (0x43 ∷ w) (behind v (onOver o (λ p c′. Over [] p (defined n c′))))
+            names-in o z =
+                counted (some v) y
+                ∙ ap (behind (0x43 ∷ w)) (walk-first c is (suc (suc k)) v (namesOf ℓ n) (at-within is (suc k) (ClassName cs) h))
+                ∙ ap (λ (o : Walked). behind (0x43 ∷ w) (behind v o)) (walk-then c is (suc (suc k)) (putMany (putName fieldName?) n) (putDefined n) (many-drops (putName fieldName?) (name-drops fieldName?) n)
+                ∙ walk-same c is (suc (suc k)) (putMany (putName fieldName?) n) _ _ given
+                ∙ ap (λ (o : Walked). onOver o (λ p c′. Over [] p (defined n c′))) (walk-elements (putName fieldName?) n c is (suc (suc k)) ∙ z))
+
+            pub definition-names-stuck : walk (namesLeft n 0) c is (suc (suc k)) ≡ Stuck → Definition-here ≡ Stuck
+            definition-names-stuck z = names-in Stuck z
+
+            -- the field names take the bytes u, up to p
+            pub definition-got : (u : List ℕ) (p : ℕ) → walk (namesLeft n 0) c is (suc (suc k)) ≡ Over u p c → Definition-here ≡ Over (0x43 ∷ (w ++ (v ++ u))) p (defined n c)
+            definition-got u p z = names-in (Over u p c) z ∙ ap (λ (l : List ℕ). Over (0x43 ∷ (w ++ (v ++ l))) p (defined n c)) (append-nil u)
