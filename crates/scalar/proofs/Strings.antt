@@ -66,6 +66,29 @@ module _ {whole rest : Answer ℕ} {m : List ℕ} {at here : ℕ} (R : Along who
       let d : here + j - at ≡ here - at + j = omega (arith, R .onward) in
       record { says = rw d (sym (shifted-twice (here - at) j left) ∙ ap (shifted (here - at)) (sym e) ∙ R .says); onward = omega (arith, R .onward); inside = l }
 
+-- ---- a character's first byte: the table of specs/Texts.antt
+abbrev leadRows : List (Row CharLead)
+leadRows =
+    row 0x00 0x80 (λ b. Basic 0 0 0)
+    ∷ row 0xc2 0xe0 (λ b. Basic 1 0x80 0xc0)
+    ∷ row 0xe0 0xe1 (λ b. Basic 2 0xa0 0xc0)
+    ∷ row 0xe1 0xed (λ b. Basic 2 0x80 0xc0)
+    ∷ row 0xed 0xee (λ b. Basic 2 0x80 0xa0)
+    ∷ row 0xee 0xf0 (λ b. Basic 2 0x80 0xc0)
+    ∷ row 0xf0 0xf1 (λ b. Supplementary 0x90 0xc0)
+    ∷ row 0xf1 0xf4 (λ b. Supplementary 0x80 0xc0)
+    ∷ row 0xf4 0xf5 (λ b. Supplementary 0x80 0x90)
+    ∷ []
+
+pub leads-at : (i : ℕ) → T (apart NoChar leadRows i) → {b : ℕ} {x : CharLead} → nth NoChar leadRows i .from ≤ b → b < nth NoChar leadRows i .below
+    → x ≡ nth NoChar leadRows i .says b → x ≡ charLead b
+unfolding charLead
+leads-at i t h k s = s ∙ chosen-at NoChar leadRows i t h k
+
+pub leads-none : (b : ℕ) → Outside NoChar leadRows b → NoChar ≡ charLead b
+unfolding charLead
+leads-none b h = chosen-none NoChar leadRows b h
+
 -- ---- a character
 -- the bytes after the first lie in the message
 module _ (o k lo hi : ℕ) (m : List ℕ) (p : ℕ) (l : p < length m) (x : Extent) (t : toldExtent x ≡ extentAt (continued o k lo hi) m (p + 1)) (j : ℕ) (e : x ≡ extent.Takes j) where
@@ -132,12 +155,12 @@ head-rows k b = ap (pick (inside (partHead k) b) (Starts 2 0 false)) (go (lastHe
     go [] = refl
     go (w ∷ ws) = each (inside w b) (begun.Starts (w .extra) (b - w .head) (w .rule)) (formAt ws b) ∙ ap (pick (inside w b) (Starts (w .extra) (b - w .head) true)) (go ws)
 
-pub head-at : (k : Kind) (i : ℕ) → T (apart NoHead (headRows k) i) → {kind : Kind} {b : ℕ} {x : HeadForm} → kind ≡ k → nth NoHead (headRows k) i .from ≤ b → b < nth NoHead (headRows k) i .below
-    → x ≡ nth NoHead (headRows k) i .says b → x ≡ headForm kind b
-head-at k i t {b = b} e h l s = s ∙ chosen-at NoHead (headRows k) i t h l ∙ rw e (sym (head-rows k b))
+pub head-at : (k : Kind) (i : ℕ) → T (apart NoHead (headRows k) i) → {b : ℕ} {x : HeadForm} → nth NoHead (headRows k) i .from ≤ b → b < nth NoHead (headRows k) i .below
+    → x ≡ nth NoHead (headRows k) i .says b → x ≡ headForm k b
+head-at k i t {b} h l s = s ∙ chosen-at NoHead (headRows k) i t h l ∙ sym (head-rows k b)
 
-pub head-none : (k : Kind) {kind : Kind} (b : ℕ) → kind ≡ k → Outside NoHead (headRows k) b → NoHead ≡ headForm kind b
-head-none k b e h = chosen-none NoHead (headRows k) b h ∙ rw e (sym (head-rows k b))
+pub head-none : (k : Kind) (b : ℕ) → Outside NoHead (headRows k) b → NoHead ≡ headForm k b
+head-none k b h = chosen-none NoHead (headRows k) b h ∙ sym (head-rows k b)
 
 pub starts : {j u v : ℕ} {l : Bool} → u ≡ v → Starts j u l ≡ Starts j v l
 starts {j} {l = l} e = ap (λ (n : ℕ). Starts j n l) e

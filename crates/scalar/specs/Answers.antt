@@ -3,13 +3,13 @@ use mathlib.Core.Bool.{Bool, true, false}
 use mathlib.Core.List.{List, [], _∷_}
 use mathlib.Core.Option.{Option, none}
 use mathlib.Core.Option as option
-use Prim.Native.Nat.{ℕ, _+_, _^_, _≤_, _<_}
+use Prim.Native.Nat.{ℕ, _+_, _-_, _^_, _≤_, _<_}
 use lib.Dec.{leb}
-use lib.ListN.{length}
+use lib.ListN.{length, take, drop}
 use Rattle.flow.specs.Tests.{pick}
 use Rattle.flow.specs.Flow.{Answer, Done, Fault}
 use Rattle.flow.specs.Overlay.{stored}
-use Rattle.wire.specs.BigEndian.{be, wider}
+use Rattle.wire.specs.BigEndian.{joined, be, wider}
 use Rattle.scalar.specs.declared.numbers.Rule.{Rule}
 use Rattle.scalar.specs.declared.numbers.Rule.the-variants.{Exactly, Plain, Offset, Signed, Minutes, WholeByte, WholePair, Float}
 use Rattle.scalar.specs.declared.numbers.NumberRead.{NumberRead}
@@ -18,7 +18,7 @@ use Rattle.scalar.specs.declared.numbers.Spelling.{Spelling}
 use Rattle.scalar.specs.declared.numbers.Spelling.the-variants as spelling
 use Rattle.scalar.specs.declared.Written.{Written}
 use Rattle.scalar.specs.declared.Written.the-variants.{Stored, NoRoom, NotSuch}
-use Rattle.scalar.specs.Numbers.{Form, form}
+use Rattle.scalar.specs.Numbers.{value, Form, form}
 
 -- a value read, and the bytes it takes; or a refusal's number and place
 abbrev pub told : NumberRead → Answer ℕ
@@ -53,6 +53,10 @@ lengthOf none = 0
 lengthOf (option.some w) = length w
 
 -- ---- inside the code
+-- reading the form with k bytes after the first, which is at p and holds u
+abbrev pub formRead : List ℕ → ℕ → ℕ → ℕ → Rule → Answer ℕ
+formRead m p k u r = pick (leb (length m - p) k) (Fault 2 (length m)) (Done (k + 1) (value r (joined u (take k (drop (p + 1) m)))) [] tt)
+
 -- the bytes that a spelling is
 abbrev pub spelled : Spelling → Option (List ℕ)
 spelled (spelling.Form c k u) = option.some (c ∷ be k u)

@@ -24,4 +24,5 @@ pub mod TextHeads
 pub mod TextCursor
 pub mod TextLaying
 pub mod ScalarLaws
+pub mod Bits
 pub mod Refusals

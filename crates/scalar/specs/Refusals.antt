@@ -1,8 +1,9 @@
--- The refusals of single values, texts and byte strings: 2, 3 and 4.
+-- The refusals of single values, texts and byte strings: 2, 3 and 4. Their places are at most `end`, where the message ends.
 use mathlib.Core.Bool.{cond}
 use mathlib.Core.List.{List, [], _∷_, _++_}
 use mathlib.Core.Option.{Option, none, some}
-use Prim.Native.Nat.{ℕ, zero, suc, _+_, _*_}
+use Prim.Native.Nat.{ℕ, zero, suc, _+_, _*_, _≤_}
+use native.Mathlib.Omega.{arith}
 use lib.ListN.{length}
 use Rattle.flow.specs.Tests.{within}
 use Rattle.flow.specs.Flow.{Read, From, mapped, fail, bind}
@@ -21,92 +22,94 @@ use Rattle.scalar.specs.Texts.{partHead, lastHeads, charLead, continued,
 use Rattle.scalar.specs.Chart.{leadOf}
 use Rattle.scalar.specs.Scalars.{Num, Str, scalarBy, scalarFrom, intFrom, textFrom}
 
-module _ (C I : Type 0) (P : ℕ → Type 0) (two : P 2) (three : P 3) (four : P 4) where
+module _ (C I : Type 0) (P : ℕ → Type 0) (end : ℕ) (two : P 2) (three : P 3) (four : P 4) where
   -- ---- numbers
-  bytes-tell : (k u : ℕ) → Tells {C = C} {I = I} P (bytesOf k u)
-  bytes-tell zero u c at s = tt
-  bytes-tell (suc k) u c at s = byte-tells P two (λ p b. bytesOf k (256 * u + b)) (λ p b. bytes-tell k (256 * u + b)) c at s
+  bytes-tell : (k u : ℕ) → Tells {C = C} {I = I} P end (bytesOf k u)
+  bytes-tell zero u c at s l = omega arith
+  bytes-tell (suc k) u c at s l = byte-tells P end two (λ p b. bytesOf k (256 * u + b)) (λ p b h. bytes-tell k (256 * u + b)) c at s l
 
-  by-tells : (x : Begun) (p : ℕ) → Tells {C = C} {I = I} P (numberBy x p)
-  by-tells NoForm p = λ c at s. three
-  by-tells (Starts k u r) p = mapped-tells P (value r) (bytesOf k u) (bytes-tell k u)
+  by-tells : (x : Begun) (p : ℕ) → p ≤ end → Tells {C = C} {I = I} P end (numberBy x p)
+  by-tells NoForm p h = λ c at s l. (three, h)
+  by-tells (Starts k u r) p h = mapped-tells P end (value r) (bytesOf k u) (bytes-tell k u)
 
-  number-tells : (ws : List Form) → TellsFrom {C = C} {I = I} P (numberFrom ws)
-  number-tells ws p b = by-tells (formAt ws b) p
+  number-tells : (ws : List Form) → TellsFrom {C = C} {I = I} P end (numberFrom ws)
+  number-tells ws p b h = by-tells (formAt ws b) p h
 
   -- ---- texts and byte strings
-  continued-tells : (o n lo hi : ℕ) → Tells {C = C} {I = I} P (continued o n lo hi)
-  continued-tells o zero lo hi c at s = tt
-  continued-tells o (suc n) lo hi c at s =
-      byte-tells P two (λ p b. cond (within lo hi b) (mapped (λ cs. b ∷ cs) (continued o n 0x80 0xc0)) (fail 4 o))
-      (λ p b. cond-tells P (within lo hi b) (mapped (λ cs. b ∷ cs) (continued o n 0x80 0xc0)) (fail 4 o) (mapped-tells P (λ cs. b ∷ cs) (continued o n 0x80 0xc0) (continued-tells o n 0x80 0xc0)) (λ c at s. four)) c at s
+  continued-tells : (o n lo hi : ℕ) → o ≤ end → Tells {C = C} {I = I} P end (continued o n lo hi)
+  continued-tells o zero lo hi h c at s l = omega arith
+  continued-tells o (suc n) lo hi h c at s l =
+      byte-tells P end two (λ p b. cond (within lo hi b) (mapped (λ cs. b ∷ cs) (continued o n 0x80 0xc0)) (fail 4 o))
+      (λ p b k. cond-tells P end (within lo hi b) (mapped (λ cs. b ∷ cs) (continued o n 0x80 0xc0)) (fail 4 o)
+      (mapped-tells P end (λ cs. b ∷ cs) (continued o n 0x80 0xc0) (continued-tells o n 0x80 0xc0 h)) (λ c at s l. (four, h))) c at s l
 
   abbrev TellsSome : Option (Read C I (List ℕ)) → Type 0
   TellsSome none = Unit {0}
-  TellsSome (some g) = Tells P g
+  TellsSome (some g) = Tells P end g
 
-  joined-tells : (o n lo hi b : ℕ) (f : Read C I (List ℕ)) → Tells P f → Tells P (bind (continued o n lo hi) (λ cs. mapped (λ ds. b ∷ (cs ++ ds)) f))
-  joined-tells o n lo hi b f h = bind-tells P (continued o n lo hi) (λ cs. mapped (λ ds. b ∷ (cs ++ ds)) f) (continued-tells o n lo hi) (λ cs. mapped-tells P (λ ds. b ∷ (cs ++ ds)) f h)
+  joined-tells : (o n lo hi b : ℕ) (f : Read C I (List ℕ)) → o ≤ end → Tells P end f → Tells P end (bind (continued o n lo hi) (λ cs. mapped (λ ds. b ∷ (cs ++ ds)) f))
+  joined-tells o n lo hi b f m h = bind-tells P end (continued o n lo hi) (λ cs. mapped (λ ds. b ∷ (cs ++ ds)) f) (continued-tells o n lo hi m) (λ cs. mapped-tells P end (λ ds. b ∷ (cs ++ ds)) f h)
 
-  character-tells : (x : CharLead) (f : Read C I (List ℕ)) (g : Option (Read C I (List ℕ))) → Tells P f → TellsSome g → TellsFrom P (character x f g)
-  character-tells (Basic k lo hi) f g h i p b c at s = joined-tells p k lo hi b f h c at s
-  character-tells (Supplementary lo hi) f none h i p b c at s = four
-  character-tells (Supplementary lo hi) f (some g) h i p b c at s = joined-tells p 3 lo hi b g i c at s
-  character-tells NoChar f g h i p b c at s = four
+  character-tells : (x : CharLead) (f : Read C I (List ℕ)) (g : Option (Read C I (List ℕ))) → Tells P end f → TellsSome g → TellsFrom P end (character x f g)
+  character-tells (Basic k lo hi) f g h i p b m c at s l = joined-tells p k lo hi b f m h c at s l
+  character-tells (Supplementary lo hi) f none h i p b m c at s l = (four, m)
+  character-tells (Supplementary lo hi) f (some g) h i p b m c at s l = joined-tells p 3 lo hi b g m i c at s l
+  character-tells NoChar f g h i p b m c at s l = (four, m)
 
-  characters-tell : (n : ℕ) → Tells {C = C} {I = I} P (characters n)
-  characters-tell zero c at s = tt
-  characters-tell (suc zero) c at s = byte-tells P two (λ p b. character (charLead b) (characters zero) none p b) (λ p b. character-tells (charLead b) (characters zero) none (λ c at s. tt) tt p b) c at s
-  characters-tell (suc (suc n)) c at s =
-      byte-tells P two (λ p b. character (charLead b) (characters (suc n)) (some (characters n)) p b)
-      (λ p b. character-tells (charLead b) (characters (suc n)) (some (characters n)) (characters-tell (suc n)) (characters-tell n) p b) c at s
+  characters-tell : (n : ℕ) → Tells {C = C} {I = I} P end (characters n)
+  characters-tell zero c at s l = omega arith
+  characters-tell (suc zero) c at s l =
+      byte-tells P end two (λ p b. character (charLead b) (characters zero) none p b) (λ p b. character-tells (charLead b) (characters zero) none (characters-tell zero) tt p b) c at s l
+  characters-tell (suc (suc n)) c at s l =
+      byte-tells P end two (λ p b. character (charLead b) (characters (suc n)) (some (characters n)) p b)
+      (λ p b. character-tells (charLead b) (characters (suc n)) (some (characters n)) (characters-tell (suc n)) (characters-tell n) p b) c at s l
 
-  octets-tell : (n : ℕ) → Tells {C = C} {I = I} P (octets n)
-  octets-tell zero c at s = tt
-  octets-tell (suc n) c at s = byte-tells P two (λ p b. mapped (λ cs. b ∷ cs) (octets n)) (λ p b. mapped-tells P (λ cs. b ∷ cs) (octets n) (octets-tell n)) c at s
+  octets-tell : (n : ℕ) → Tells {C = C} {I = I} P end (octets n)
+  octets-tell zero c at s l = omega arith
+  octets-tell (suc n) c at s l = byte-tells P end two (λ p b. mapped (λ cs. b ∷ cs) (octets n)) (λ p b h. mapped-tells P end (λ cs. b ∷ cs) (octets n) (octets-tell n)) c at s l
 
-  body-tells : (k : Kind) (n : ℕ) → Tells {C = C} {I = I} P (body k n)
+  body-tells : (k : Kind) (n : ℕ) → Tells {C = C} {I = I} P end (body k n)
   body-tells Binary n = octets-tell n
   body-tells Utf8 n = characters-tell n
 
-  chunk-tells : (k : Kind) (next : Read C I (List ℕ)) → Tells P next → TellsFrom P (chunk k next)
-  chunk-tells k next h p b =
-      cond-tells P (inside (partHead k) b) (bind (numberFrom (partHead k ∷ []) p b) (λ n. bind (body k n) (λ cs. mapped (λ ds. cs ++ ds) next))) (bind (numberFrom (lastHeads k) p b) (body k))
-      (bind-tells P (numberFrom (partHead k ∷ []) p b) (λ n. bind (body k n) (λ cs. mapped (λ ds. cs ++ ds) next)) (number-tells (partHead k ∷ []) p b)
-      (λ n. bind-tells P (body k n) (λ cs. mapped (λ ds. cs ++ ds) next) (body-tells k n) (λ cs. mapped-tells P (λ ds. cs ++ ds) next h)))
-      (bind-tells P (numberFrom (lastHeads k) p b) (body k) (number-tells (lastHeads k) p b) (body-tells k))
+  chunk-tells : (k : Kind) (next : Read C I (List ℕ)) → Tells P end next → TellsFrom P end (chunk k next)
+  chunk-tells k next h p b m =
+      cond-tells P end (inside (partHead k) b) (bind (numberFrom (partHead k ∷ []) p b) (λ n. bind (body k n) (λ cs. mapped (λ ds. cs ++ ds) next))) (bind (numberFrom (lastHeads k) p b) (body k))
+      (bind-tells P end (numberFrom (partHead k ∷ []) p b) (λ n. bind (body k n) (λ cs. mapped (λ ds. cs ++ ds) next)) (number-tells (partHead k ∷ []) p b m)
+      (λ n. bind-tells P end (body k n) (λ cs. mapped (λ ds. cs ++ ds) next) (body-tells k n) (λ cs. mapped-tells P end (λ ds. cs ++ ds) next h)))
+      (bind-tells P end (numberFrom (lastHeads k) p b) (body k) (number-tells (lastHeads k) p b m) (body-tells k))
 
-  chunks-tell : (k : Kind) (j : ℕ) → Tells {C = C} {I = I} P (chunks k j)
-  chunks-tell k zero c at s = two
-  chunks-tell k (suc j) c at s = byte-tells P two (chunk k (chunks k j)) (chunk-tells k (chunks k j) (chunks-tell k j)) c at s
+  chunks-tell : (k : Kind) (j : ℕ) → Tells {C = C} {I = I} P end (chunks k j)
+  chunks-tell k zero c at s l = (two, omega arith)
+  chunks-tell k (suc j) c at s l = byte-tells P end two (chunk k (chunks k j)) (chunk-tells k (chunks k j) (chunks-tell k j)) c at s l
 
-  string-tells : (k : Kind) → TellsFrom {C = C} {I = I} P (stringFrom k)
+  string-tells : (k : Kind) → TellsFrom {C = C} {I = I} P end (stringFrom k)
   unfolding stringFrom
-  string-tells k p b c at s = chunk-tells k (chunks k (length s)) (chunks-tell k (length s)) p b c at s
+  string-tells k p b m c at s l = chunk-tells k (chunks k (length s)) (chunks-tell k (length s)) p b m c at s l
 
   -- ---- what the layer above reads
-  by-lead : (x : Lead) → TellsFrom {C = C} {I = I} P (scalarBy x)
-  by-lead (lead.Number s) p b = mapped-tells P (Num s) (numberFrom (formsOf s) p b) (number-tells (formsOf s) p b)
-  by-lead lead.Text p b = mapped-tells P (Str Utf8) (stringFrom Utf8 p b) (string-tells Utf8 p b)
-  by-lead lead.Bytes p b = mapped-tells P (Str Binary) (stringFrom Binary p b) (string-tells Binary p b)
-  by-lead lead.List p b = λ c at s. three
-  by-lead lead.TypedList p b = λ c at s. three
-  by-lead lead.Map p b = λ c at s. three
-  by-lead lead.TypedMap p b = λ c at s. three
-  by-lead lead.Object p b = λ c at s. three
-  by-lead lead.Reference p b = λ c at s. three
-  by-lead lead.Definition p b = λ c at s. three
-  by-lead lead.Close p b = λ c at s. three
-  by-lead lead.Reserved p b = λ c at s. three
+  by-lead : (x : Lead) → TellsFrom {C = C} {I = I} P end (scalarBy x)
+  by-lead (lead.Number s) p b m = mapped-tells P end (Num s) (numberFrom (formsOf s) p b) (number-tells (formsOf s) p b m)
+  by-lead lead.Text p b m = mapped-tells P end (Str Utf8) (stringFrom Utf8 p b) (string-tells Utf8 p b m)
+  by-lead lead.Bytes p b m = mapped-tells P end (Str Binary) (stringFrom Binary p b) (string-tells Binary p b m)
+  by-lead lead.List p b m = λ c at s l. (three, m)
+  by-lead lead.TypedList p b m = λ c at s l. (three, m)
+  by-lead lead.Map p b m = λ c at s l. (three, m)
+  by-lead lead.TypedMap p b m = λ c at s l. (three, m)
+  by-lead lead.Object p b m = λ c at s l. (three, m)
+  by-lead lead.Reference p b m = λ c at s l. (three, m)
+  by-lead lead.Definition p b m = λ c at s l. (three, m)
+  by-lead lead.Close p b m = λ c at s l. (three, m)
+  by-lead lead.Reserved p b m = λ c at s l. (three, m)
 
-  pub scalar-tells : TellsFrom {C = C} {I = I} P scalarFrom
+  pub scalar-tells : TellsFrom {C = C} {I = I} P end scalarFrom
   unfolding scalarFrom
   scalar-tells p b = by-lead (leadOf b) p b
 
-  pub int-tells : TellsFrom {C = C} {I = I} P intFrom
+  pub int-tells : TellsFrom {C = C} {I = I} P end intFrom
   unfolding intFrom
   int-tells p b = number-tells (formsOf sort.Int) p b
 
-  pub text-tells : TellsFrom {C = C} {I = I} P textFrom
+  pub text-tells : TellsFrom {C = C} {I = I} P end textFrom
   unfolding textFrom
   text-tells p b = string-tells Utf8 p b

@@ -1,5 +1,6 @@
 // The forms of single values, texts and byte strings: what Hessian 2.0 writes each as, and how each is read.
 pub mod chart;
+pub mod direct;
 pub mod doubles;
 pub mod numbers;
 pub mod signed;

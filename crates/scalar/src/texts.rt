@@ -1,9 +1,11 @@
 // Texts and byte strings: reading one at a place. The definitions are in specs/Texts.antt.
 ghost use mathlib.Core.Path.{_≡_};
-ghost use Prim.Native.Nat.{_≤_, _<_};
-ghost use lib.ListN.{length};
+ghost use mathlib.Core.Bool.{true};
+ghost use Prim.Native.Nat.{ℕ, _+_, _-_, _*_, _^_, _≤_, _<_};
+ghost use lib.ListN.{length, getD};
 ghost use Rattle.scalar.specs.Texts.{charLead, continued as continuedBy, characters as charactersOf, body as bodyOf};
 ghost use Rattle.scalar.specs.TextAnswers.{extentAt, toldExtent, CharMet, headForm, HeadMet, ChunkMet, measuredAt, toldString};
+ghost use Rattle.scalar.specs.TextAt.{Opens, Ascii};
 
 // What a string holds: characters in UTF-8, or bytes.
 pub enum Kind {
@@ -77,6 +79,51 @@ pub enum StringRead {
     },
 }
 
+// What the byte says as the first of three.
+fn three_lead(b: u8) -> CharLead
+    requires { ⌜ (0xe0 ≤ b) × (b < 0xf0) ⌝ }
+    ensures { λ r. ⌜ r ≡ charLead b ⌝ }
+{
+    match b {
+        0xe0 => CharLead::Basic {
+            more: 2,
+            from: 0xa0,
+            below: 0xc0,
+        },
+        0xed => CharLead::Basic {
+            more: 2,
+            from: 0x80,
+            below: 0xa0,
+        },
+        _ => CharLead::Basic {
+            more: 2,
+            from: 0x80,
+            below: 0xc0,
+        },
+    }
+}
+
+// What the byte says as the first of four.
+fn four_lead(b: u8) -> CharLead
+    requires { ⌜ (0xf0 ≤ b) × (b < 0xf5) ⌝ }
+    ensures { λ r. ⌜ r ≡ charLead b ⌝ }
+{
+    match b {
+        0xf0 => CharLead::Supplementary {
+            from: 0x90,
+            below: 0xc0,
+        },
+        0xf4 => CharLead::Supplementary {
+            from: 0x80,
+            below: 0x90,
+        },
+        _ => CharLead::Supplementary {
+            from: 0x80,
+            below: 0xc0,
+        },
+    }
+}
+
 // What the byte says as a character's first.
 fn char_lead(b: u8) -> CharLead
     ensures { λ r. ⌜ r ≡ charLead b ⌝ }
@@ -92,38 +139,8 @@ fn char_lead(b: u8) -> CharLead
             from: 0x80,
             below: 0xc0,
         },
-        0xe0 => CharLead::Basic {
-            more: 2,
-            from: 0xa0,
-            below: 0xc0,
-        },
-        0xe1..=0xec => CharLead::Basic {
-            more: 2,
-            from: 0x80,
-            below: 0xc0,
-        },
-        0xed => CharLead::Basic {
-            more: 2,
-            from: 0x80,
-            below: 0xa0,
-        },
-        0xee..=0xef => CharLead::Basic {
-            more: 2,
-            from: 0x80,
-            below: 0xc0,
-        },
-        0xf0 => CharLead::Supplementary {
-            from: 0x90,
-            below: 0xc0,
-        },
-        0xf1..=0xf3 => CharLead::Supplementary {
-            from: 0x80,
-            below: 0xc0,
-        },
-        0xf4 => CharLead::Supplementary {
-            from: 0x80,
-            below: 0x90,
-        },
+        0xe0..=0xef => three_lead(b),
+        0xf0..=0xf4 => four_lead(b),
         _ => CharLead::NoChar,
     }
 }
@@ -157,6 +174,20 @@ fn continued(message: &[u8], place: usize, at: usize, more: usize, from: u8, bel
     Extent::Takes { size: here - at }
 }
 
+// The character at `at`, of so many units, with `more` bytes after its first.
+fn opened(message: &[u8], at: usize, more: usize, from: u8, below: u8, units: usize) -> CharRead
+    requires { ⌜ (at < length (now message)) × Opens (getD (now message) at 0) more from below units ⌝ }
+    ensures { λ r. ⌜ ((left : ℕ) → units ≤ left → CharMet left (now (message .entry)) at r) ⌝ }
+{
+    match continued(message, at, at + 1, more, from, below) {
+        Extent::Refused { number, place } => CharRead::Refused { number, place },
+        Extent::Takes { size } => CharRead::Char {
+            size: size + 1,
+            units,
+        },
+    }
+}
+
 // The character at `at`, where so many units are left.
 fn character(message: &[u8], at: usize, left: usize) -> CharRead
     requires { ⌜ (at ≤ length (now message)) × (0 < left) ⌝ }
@@ -174,15 +205,7 @@ fn character(message: &[u8], at: usize, left: usize) -> CharRead
             number: 4,
             place: at,
         },
-        CharLead::Basic { more, from, below } => {
-            match continued(message, at, at + 1, more, from, below) {
-                Extent::Refused { number, place } => CharRead::Refused { number, place },
-                Extent::Takes { size } => CharRead::Char {
-                    size: size + 1,
-                    units: 1,
-                },
-            }
-        }
+        CharLead::Basic { more, from, below } => opened(message, at, more, from, below, 1),
         CharLead::Supplementary { from, below } => {
             if left == 1 {
                 return CharRead::Refused {
@@ -190,15 +213,84 @@ fn character(message: &[u8], at: usize, left: usize) -> CharRead
                     place: at,
                 };
             }
-            match continued(message, at, at + 1, 3, from, below) {
-                Extent::Refused { number, place } => CharRead::Refused { number, place },
-                Extent::Takes { size } => CharRead::Char {
-                    size: size + 1,
-                    units: 2,
-                },
-            }
+            opened(message, at, 3, from, below, 2)
         }
     }
+}
+
+// Four bytes as one number, the lowest first.
+fn four(a: u8, b: u8, c: u8, d: u8) -> u64
+    ensures { λ r. ⌜ (r < 2 ^ 32) × (r ≡ ((d * 256 + c) * 256 + b) * 256 + a) ⌝ }
+{
+    ((wire::wide(d) * 256 + wire::wide(c)) * 256 + wire::wide(b)) * 256 + wire::wide(a)
+}
+
+// Whether the eight bytes from `at` on are ASCII.
+fn eight_ascii(message: &[u8], at: usize) -> bool
+    requires { ⌜ at + 8 ≤ length (now message) ⌝ }
+    ensures { λ r. ⌜ (r ≡ true → Ascii (now (message .entry)) at 8) ⌝ }
+{
+    let low = four(
+        message[at],
+        message[at + 1],
+        message[at + 2],
+        message[at + 3],
+    );
+    let high = four(
+        message[at + 4],
+        message[at + 5],
+        message[at + 6],
+        message[at + 7],
+    );
+    let word = high * 0x1_0000_0000 + low;
+    word & 0x8080_8080_8080_8080 == 0
+}
+
+// How many bytes from `at` on are ASCII, eight by eight, up to `most`.
+fn ascii_eights(message: &[u8], at: usize, most: usize) -> usize
+    requires { ⌜ at + most ≤ length (now message) ⌝ }
+    ensures { λ r. ⌜ (r ≤ most) × Ascii (now (message .entry)) at r ⌝ }
+{
+    let mut n: usize = 0;
+    while 8 <= most - n {
+        if !eight_ascii(message, at + n) {
+            break;
+        }
+        n += 8;
+    }
+    n
+}
+
+// How many bytes from `at` on are ASCII, up to `most`.
+fn ascii_bytes(message: &[u8], at: usize, most: usize) -> usize
+    requires { ⌜ at + most ≤ length (now message) ⌝ }
+    ensures { λ r. ⌜ (r ≤ most) × Ascii (now (message .entry)) at r ⌝ }
+{
+    let mut n = ascii_eights(message, at, most);
+    while n < most {
+        if 0x80 <= message[at + n] {
+            break;
+        }
+        n += 1;
+    }
+    n
+}
+
+// How many characters from `at` on are ASCII, up to so many units: of one byte and one unit each.
+fn ascii(message: &[u8], at: usize, units: usize) -> usize
+    requires { ⌜ at ≤ length (now message) ⌝ }
+    ensures { λ r. ⌜ (r ≤ units) × (at + r ≤ length (now (message .entry))) × Ascii (now (message .entry)) at r ⌝ }
+{
+    let len = message.len();
+    if len <= at {
+        return 0;
+    }
+    if 0x80 <= message[at] {
+        return 0;
+    }
+    let room = len - at;
+    let most = if room < units { room } else { units };
+    ascii_bytes(message, at, most)
 }
 
 // Characters of so many units from `at` on.
@@ -209,13 +301,19 @@ fn characters(message: &[u8], at: usize, units: usize) -> Extent
     let mut here = at;
     let mut left = units;
     while 0 < left {
-        match character(message, here, left) {
-            CharRead::Refused { number, place } => {
-                return Extent::Refused { number, place };
-            }
-            CharRead::Char { size, units: u } => {
-                here += size;
-                left -= u;
+        let n = ascii(message, here, left);
+        if 0 < n {
+            here += n;
+            left -= n;
+        } else {
+            match character(message, here, left) {
+                CharRead::Refused { number, place } => {
+                    return Extent::Refused { number, place };
+                }
+                CharRead::Char { size, units: u } => {
+                    here += size;
+                    left -= u;
+                }
             }
         }
     }
@@ -243,58 +341,73 @@ fn body(kind: Kind, message: &[u8], at: usize, units: usize) -> Extent
     }
 }
 
+// What the byte begins as the head of a text's chunk.
+fn text_head(b: u8) -> HeadForm
+    ensures { λ r. ⌜ r ≡ headForm Kind.Utf8 b ⌝ }
+{
+    let w = wire::wide(b);
+    match b {
+        0x00..=0x1f => HeadForm::Starts {
+            more: 0,
+            held: w,
+            last: true,
+        },
+        0x30..=0x33 => HeadForm::Starts {
+            more: 1,
+            held: w - 0x30,
+            last: true,
+        },
+        0x53 => HeadForm::Starts {
+            more: 2,
+            held: 0,
+            last: true,
+        },
+        0x52 => HeadForm::Starts {
+            more: 2,
+            held: 0,
+            last: false,
+        },
+        _ => HeadForm::NoHead,
+    }
+}
+
+// What the byte begins as the head of a byte string's chunk.
+fn bytes_head(b: u8) -> HeadForm
+    ensures { λ r. ⌜ r ≡ headForm Kind.Binary b ⌝ }
+{
+    let w = wire::wide(b);
+    match b {
+        0x20..=0x2f => HeadForm::Starts {
+            more: 0,
+            held: w - 0x20,
+            last: true,
+        },
+        0x34..=0x37 => HeadForm::Starts {
+            more: 1,
+            held: w - 0x34,
+            last: true,
+        },
+        0x42 => HeadForm::Starts {
+            more: 2,
+            held: 0,
+            last: true,
+        },
+        0x41 => HeadForm::Starts {
+            more: 2,
+            held: 0,
+            last: false,
+        },
+        _ => HeadForm::NoHead,
+    }
+}
+
 // What the byte begins as the head of a chunk of this kind.
 fn head_form(kind: Kind, b: u8) -> HeadForm
     ensures { λ r. ⌜ r ≡ headForm kind b ⌝ }
 {
-    let w = wire::wide(b);
     match kind {
-        Kind::Utf8 => match b {
-            0x00..=0x1f => HeadForm::Starts {
-                more: 0,
-                held: w,
-                last: true,
-            },
-            0x30..=0x33 => HeadForm::Starts {
-                more: 1,
-                held: w - 0x30,
-                last: true,
-            },
-            0x53 => HeadForm::Starts {
-                more: 2,
-                held: 0,
-                last: true,
-            },
-            0x52 => HeadForm::Starts {
-                more: 2,
-                held: 0,
-                last: false,
-            },
-            _ => HeadForm::NoHead,
-        },
-        Kind::Binary => match b {
-            0x20..=0x2f => HeadForm::Starts {
-                more: 0,
-                held: w - 0x20,
-                last: true,
-            },
-            0x34..=0x37 => HeadForm::Starts {
-                more: 1,
-                held: w - 0x34,
-                last: true,
-            },
-            0x42 => HeadForm::Starts {
-                more: 2,
-                held: 0,
-                last: true,
-            },
-            0x41 => HeadForm::Starts {
-                more: 2,
-                held: 0,
-                last: false,
-            },
-            _ => HeadForm::NoHead,
-        },
+        Kind::Utf8 => text_head(b),
+        Kind::Binary => bytes_head(b),
     }
 }
 
@@ -331,8 +444,29 @@ fn head(kind: Kind, message: &[u8], at: usize) -> HeadRead
     }
 }
 
-// The chunk at `at`.
-pub(crate) fn chunk(kind: Kind, message: &[u8], at: usize) -> ChunkRead
+// The bytes of the short text at `at` where all its characters are ASCII: of the byte that counts them, and theirs. Else 0.
+fn short_text(message: &[u8], at: usize) -> usize
+    ensures { λ r. ⌜ (0 < r → (r ≡ getD (now (message .entry)) at 0 + 1) × (r ≤ 0x20) × (at + r ≤ length (now (message .entry))) × Ascii (now (message .entry)) (at + 1) (r - 1)) ⌝ }
+{
+    let len = message.len();
+    if len <= at {
+        return 0;
+    }
+    let n = wire::wide(message[at]) as usize;
+    if 0x20 <= n {
+        return 0;
+    }
+    if len - at <= n {
+        return 0;
+    }
+    if ascii_bytes(message, at + 1, n) < n {
+        return 0;
+    }
+    n + 1
+}
+
+// The chunk at `at`, by its head and then its content.
+fn long_chunk(kind: Kind, message: &[u8], at: usize) -> ChunkRead
     requires { ⌜ at ≤ length (now message) ⌝ }
     ensures { λ r. ⌜ ChunkMet kind (now (message .entry)) at r ⌝ }
 {
@@ -354,6 +488,25 @@ pub(crate) fn chunk(kind: Kind, message: &[u8], at: usize) -> ChunkRead
             }
         }
     }
+}
+
+// The chunk at `at`. A short text of ASCII is tried first.
+pub(crate) fn chunk(kind: Kind, message: &[u8], at: usize) -> ChunkRead
+    requires { ⌜ at ≤ length (now message) ⌝ }
+    ensures { λ r. ⌜ ChunkMet kind (now (message .entry)) at r ⌝ }
+{
+    if let Kind::Utf8 = kind {
+        let s = short_text(message, at);
+        if 0 < s {
+            return ChunkRead::Chunk {
+                head: 1,
+                size: s - 1,
+                units: s - 1,
+                last: true,
+            };
+        }
+    }
+    long_chunk(kind, message, at)
 }
 
 // The text or byte string at the place `at` of the message.

@@ -5,6 +5,7 @@ use Rattle.scalar.specs.Texts.{characters}
 use Rattle.scalar.specs.TextAnswers.{extentAt}
 use Rattle.scalar.specs.TextAt.{characters-none}
 use Rattle.scalar.proofs.Strings.{Along, along-start, along-end, along-fault, along-more, char-says}
+use Rattle.scalar.proofs.Ascii.{along-ascii}
 use Rattle.scalar.proofs.texts.characters.Statement.{statement}
 use Rattle.scalar.proofs.texts.characters.Tie as tie
 
@@ -17,20 +18,23 @@ abbrev μ-loop : tie.MeasureT-loop
 loop-holds : tie.Need-loop-holds Inv-loop μ-loop
 loop-holds c = along-start _ _ _ (c .before .pre)
 
-returns : tie.Need-returns Inv-loop μ-loop
-returns c = along-fault (c .before .before .before .before .before .loop .inv) _ _ (char-says (c .before .before .before .character .ensures) (c .before .number .given .1))
-
-add-here : tie.Need-add-here Inv-loop μ-loop
-add-here c = omega (arith, char-says (c .before .before .before .character .ensures) (c .before .size .given .1) .2)
-
-sub-left : tie.Need-sub-left Inv-loop μ-loop
-sub-left c = char-says (c .before .before .before .character .ensures) (c .before .size .given .1) .4
-
-loop-less : tie.Need-loop-less Inv-loop μ-loop
-loop-less c = let s = char-says (c .before .before .before .character .ensures) (c .before .size .given .1) in omega (arith, s .3, s .4)
-
 loop-again : tie.Need-loop-again Inv-loop μ-loop
-loop-again c = let s = char-says (c .before .before .before .character .ensures) (c .before .size .given .1) in along-more (c .before .before .before .before .before .loop .inv) _ _ (s .0) (s .2)
+loop-again c = search (along-ascii, needs)
+
+returns : tie.Need-returns Inv-loop μ-loop
+returns c = along-fault (c .before .before .before .before .before .before .before .loop .inv) _ _ (char-says (c .before .before .before .character .ensures) (c .before .number .given .1))
+
+add-here-2 : tie.Need-add-here-2 Inv-loop μ-loop
+add-here-2 c = omega (arith, char-says (c .before .before .before .character .ensures) (c .before .size .given .1) .2)
+
+sub-left-2 : tie.Need-sub-left-2 Inv-loop μ-loop
+sub-left-2 c = char-says (c .before .before .before .character .ensures) (c .before .size .given .1) .4
+
+loop-less-2 : tie.Need-loop-less-2 Inv-loop μ-loop
+loop-less-2 c = let s = char-says (c .before .before .before .character .ensures) (c .before .size .given .1) in omega (arith, s .3, s .4)
+
+loop-again-2 : tie.Need-loop-again-2 Inv-loop μ-loop
+loop-again-2 c = let s = char-says (c .before .before .before .character .ensures) (c .before .size .given .1) in along-more (c .before .before .before .before .before .before .before .loop .inv) _ _ (s .0) (s .2)
 
 returns-2 : tie.Need-returns-2 Inv-loop μ-loop
 returns-2 c = search (along-end, characters-none, needs)
@@ -44,11 +48,16 @@ characters-spec =
     loop-holds
     (λ c κs. search needs)
     (λ c. search needs)
+    (λ c. search needs)
+    (λ c. search needs)
+    loop-again
+    (λ c κs. search needs)
+    (λ c. search needs)
     returns
     (λ c. search needs)
-    add-here
-    sub-left
-    loop-less
-    loop-again
+    add-here-2
+    sub-left-2
+    loop-less-2
+    loop-again-2
     (λ c. search needs)
     returns-2)

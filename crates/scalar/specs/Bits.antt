@@ -1,0 +1,48 @@
+-- A value has 64 bits; a content is no longer than its bytes, and has at most two units a byte.
+use mathlib.Core.List.{List, [], _∷_, _++_}
+use Prim.Native.Nat.{ℕ, _*_, _^_, _≤_, _<_}
+use native.Mathlib.Omega.{arith}
+use lib.ListN.{length, length-append}
+use lib.IntN.{pos, _-ℤ_, _*ℤ_}
+use mir.Syntax.{w8, w16, w32, w64}
+use mir.Val.{toZ}
+use mir.ValLaws.{ofZ-fits, toZ-fits}
+use Rattle.scalar.specs.declared.numbers.Sort.{Sort}
+use Rattle.scalar.specs.declared.numbers.Sort.the-variants.{Null, False, True, Int, Long, Double, Date}
+use Rattle.scalar.specs.declared.numbers.Rule.the-variants.{Offset, Signed}
+use Rattle.scalar.specs.declared.texts.Kind.{Kind}
+use Rattle.scalar.specs.Signed.{minus-fits, fits-32, widen-fits, mul-fits}
+use Rattle.scalar.specs.DoubleLaws.{whole-lt, widened-lt}
+use Rattle.scalar.specs.Numbers.{value, formsOf, Number}
+use Rattle.scalar.specs.NumberLaws.{EachForm, number-fact}
+use Rattle.scalar.specs.Texts.{units, String, last-chunk, chunk-before}
+use Rattle.scalar.specs.TextUnits.{weight-few}
+
+offset-bits : (k u : ℕ) → u < 2 ^ 63 → k < 2 ^ 63 → value (Offset k) u < 2 ^ 64
+unfolding value
+offset-bits k u l h = ofZ-fits w64 (pos u -ℤ pos k) (minus-fits u k l (omega arith)) .fits
+
+signed-bits : (u : ℕ) → u < 2 ^ 32 → value Signed u < 2 ^ 64
+unfolding value
+signed-bits u l = ofZ-fits w64 (toZ w32 u) (widen-fits (toZ w32 u) (fits-32 u l)) .fits
+
+each-bits : (s : Sort) → EachForm (λ n v. v < 2 ^ 64) (formsOf s)
+unfolding formsOf value
+each-bits Null = (λ u l. omega arith, tt)
+each-bits False = (λ u l. omega arith, tt)
+each-bits True = (λ u l. omega arith, tt)
+each-bits Int = (λ u l. offset-bits 16 u (omega arith) (omega arith), (λ u l. offset-bits 2048 u (omega arith) (omega arith), (λ u l. offset-bits 262144 u (omega arith) (omega arith), (λ u l. signed-bits u (omega arith), tt))))
+each-bits Long = (λ u l. offset-bits 8 u (omega arith) (omega arith), (λ u l. offset-bits 2048 u (omega arith) (omega arith), (λ u l. offset-bits 262144 u (omega arith) (omega arith), (λ u l. signed-bits u (omega arith), (λ u l. omega arith, tt)))))
+each-bits Double = (λ u l. omega arith, (λ u l. omega arith, (λ u l. whole-lt (toZ w8 u) (omega (arith, toZ-fits w8 u (record { fits = omega arith }) .sfits)), (λ u l. whole-lt (toZ w16 u) (omega (arith, toZ-fits w16 u (record { fits = omega arith }) .sfits)), (λ u l. widened-lt u (omega arith), (λ u l. omega arith, tt))))))
+each-bits Date = (λ u l. ofZ-fits w64 (toZ w32 u *ℤ pos 60_000) (mul-fits (toZ w32 u) (fits-32 u (omega arith))) .fits, (λ u l. omega arith, tt))
+
+pub number-bits : (s : Sort) {w : List ℕ} {v : ℕ} → Number (formsOf s) w v → v < 2 ^ 64
+number-bits s n = number-fact (λ k v. v < 2 ^ 64) n (each-bits s)
+
+pub content-length : {k : Kind} {w cs : List ℕ} → String k w cs → length cs ≤ length w
+content-length (last-chunk {h = h} {cs = cs} n b) = omega (arith, length-append h cs)
+content-length (chunk-before {h = h} {cs = cs} {v = v} {ds = ds} n b r) = omega (arith, length-append h (cs ++ v), length-append cs v, length-append cs ds, content-length r)
+
+pub units-few : (k : Kind) (cs : List ℕ) → units k cs ≤ 2 * length cs
+units-few k [] = omega arith
+units-few k (b ∷ cs) = omega (arith, weight-few k b, units-few k cs)
