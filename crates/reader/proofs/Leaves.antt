@@ -1,0 +1,188 @@
+-- Counts, and the heads of values with none inside: what the contracts ask at each way out, one law for each.
+use mathlib.Core.Path.{_≡_, refl, sym, ap, _∙_}
+use mathlib.Core.Bool.{Bool, true, false}
+use mathlib.Core.List.{List, [], _∷_}
+use mathlib.Core.Logic.{inl, inr}
+use Prim.Native.Nat.{ℕ, zero, suc, _+_, _-_, _^_, _≤_, _<_}
+use native.Mathlib.Omega.{arith}
+use lib.ListN.{length, getD}
+use mir.Syntax.{w64}
+use mir.Val.{Fits}
+use Rattle.flow.specs.Tests.{Bytes}
+use Rattle.flow.specs.Flow.{Done, Fault, byteAt}
+use Rattle.scalar.specs.declared.numbers.Sort.{Sort}
+use Rattle.scalar.specs.declared.numbers.Sort.the-variants.{Int}
+use Rattle.scalar.specs.declared.numbers.NumberRead.{NumberRead}
+use Rattle.scalar.specs.declared.numbers.NumberRead.the-variants as number
+use Rattle.scalar.specs.declared.texts.Kind.{Kind}
+use Rattle.scalar.specs.declared.texts.Kind.the-variants.{Utf8, Binary}
+use Rattle.scalar.specs.declared.texts.StringRead.{StringRead}
+use Rattle.scalar.specs.declared.texts.StringRead.the-variants as string
+use Rattle.scalar.specs.declared.chart.Lead.{Lead}
+use Rattle.scalar.specs.declared.chart.Lead.the-variants as lead
+use Rattle.scalar.specs.declared.numbers.Rule.the-variants.{Exactly}
+use Rattle.scalar.specs.declared.numbers.Begun.the-variants.{Starts, NoForm}
+use Rattle.scalar.specs.Chart.{followOf}
+use Rattle.scalar.specs.ChartLaws.{number-lead}
+use Rattle.scalar.specs.Numbers.{Form, form, inside, value, formsOf, formAt, numberAt}
+use Rattle.scalar.specs.NumberLaws.{form-here, form-skip}
+use Rattle.scalar.specs.NumberAt.{number-there}
+use Rattle.scalar.specs.NumberTheorems.{within-message}
+use Rattle.scalar.specs.Answers.{told}
+use Rattle.scalar.specs.TextAnswers.{sized, measuredAt, toldString}
+use Rattle.record.specs.Items.{Known}
+use Rattle.record.specs.Reading.{formOf, plainFrom}
+use Rattle.record.specs.Rows.{row, sortKind}
+use Rattle.record.specs.Answers.{base}
+use Rattle.record.specs.Placed.{Got, Lost, run, run-byte}
+use Rattle.record.specs.Leads.{formBy, form-lead}
+use Rattle.record.specs.Values.{leaf-number, leaf-number-lost, leaf-text, leaf-bytes, leaf-string-lost, reference-got, reference-ungiven, reference-lost}
+use Rattle.record.specs.Definitions.{below, plain}
+use Rattle.reader.specs.declared.heads.Head.{Head}
+use Rattle.reader.specs.declared.heads.Head.the-variants as head
+use Rattle.reader.specs.declared.heads.Count.the-variants as count
+use Rattle.reader.proofs.Sizes.{string-within}
+use Rattle.reader.specs.Inside.{At, Led, CountMet, Heads, LeafMet, PlainMet}
+
+pub byte-small : (m : List ℕ) (p : ℕ) → Bytes m → getD m p 0 < 256
+byte-small [] p b = omega arith
+byte-small (x ∷ m) zero b = b .0
+byte-small (x ∷ m) (suc p) b = byte-small m p (b .1)
+
+-- ---- a number, by what was told of it
+module _ (s : Sort) (m : List ℕ) (p : ℕ) (r : NumberRead) (t : told r ≡ numberAt s m p) where
+  pub number-bad : (x o : ℕ) → r ≡ number.Refused x o → numberAt s m p ≡ Fault x o
+  number-bad x o e = sym t ∙ ap told e
+
+  module _ (v n : ℕ) (e : r ≡ number.Value v n) where
+    pub number-is : numberAt s m p ≡ Done n v [] tt
+    number-is = sym t ∙ ap told e
+
+    pub number-room : Bytes m → (0 < n) × (p + n ≤ length m)
+    number-room b = within-message s m b p n v [] number-is
+
+    pub number-fits : Bytes m → Fits w64 (length m) → Fits w64 (p + n)
+    number-fits b f = let r = number-room b in omega (arith, r .1)
+
+-- ---- a text or byte string
+module _ (k : Kind) (m : List ℕ) (p : ℕ) (r : StringRead) (t : toldString r ≡ measuredAt k m p) where
+  pub string-bad : (x o : ℕ) → r ≡ string.Refused x o → measuredAt k m p ≡ Fault x o
+  string-bad x o e = sym t ∙ ap toldString e
+
+  module _ (u b n : ℕ) (e : r ≡ string.Content u b n) where
+    pub string-is : measuredAt k m p ≡ Done n (sized u b) [] tt
+    string-is = sym t ∙ ap toldString e
+
+    pub string-room : Bytes m → (0 < n) × (p + n ≤ length m)
+    string-room z = string-within k m z p t u b n e
+
+    pub string-fits : Bytes m → Fits w64 (length m) → Fits w64 (p + n)
+    string-fits z f = let r = string-room z in omega (arith, r .1)
+
+-- ---- counts
+module _ (m : List ℕ) (p : ℕ) (a : At m p) (r : NumberRead) (t : told r ≡ numberAt Int m p) where
+  pub count-bad : (x o : ℕ) → r ≡ number.Refused x o → CountMet m p (count.Wrong x o)
+  count-bad x o e = record { says = inl (number-bad Int m p r t x o e) }
+
+  module _ (v n : ℕ) (e : r ≡ number.Value v n) where
+    pub count-is : v < 2 ^ 63 → CountMet m p (count.Is v n)
+    count-is l = let w = number-room Int m p r t v n e (a .bytes) in record { says = (number-is Int m p r t v n e, l, w .0, w .1) }
+
+    pub count-below : 2 ^ 63 ≤ v → CountMet m p (count.Wrong 5 p)
+    count-below l = record { says = inr (record { size = n; value = v; is = number-is Int m p r t v n e; below = l; number = refl; place = refl }) }
+
+-- ---- a value, by what its first byte opens
+module _ (m : List ℕ) (p : ℕ) (x : Lead) (h : Led m p x) where
+  pub led-form : formOf (getD m p 0) ≡ formBy x (getD m p 0)
+  led-form = form-lead (getD m p 0) (byte-small m p (h .bytes)) x (h .lead)
+
+  pub led-run : (d : ℕ) (c : Known) → run (byteAt (plain base d)) c m p ≡ run (plainFrom base (below base d) p (getD m p 0)) c m (p + 1)
+  led-run d c = run-byte (plain base d) c m p (h .inside)
+
+  -- refused; a row
+  pub led-lost : (d : ℕ) (c : Known) (y o : ℕ) → run (plainFrom base (below base d) p (getD m p 0)) c m (p + 1) ≡ Lost y o → Heads d m c p (head.Wrong y o)
+  led-lost d c y o e = record { says = led-run d c ∙ e; goes = tt }
+
+  pub led-got : (d : ℕ) (c : Known) (k v w n : ℕ) → (0 < n) × (p + n ≤ length m)
+      → run (plainFrom base (below base d) p (getD m p 0)) c m (p + 1) ≡ Got (p + n) tt (row k p v w ∷ []) c → Heads d m c p (head.Leaf k v w (p + n))
+  led-got d c k v w n i e = record { says = led-run d c ∙ e; goes = (omega (arith, i .0), i .1) }
+
+-- ---- a number, a text, a byte string
+module _ (s : Sort) (m : List ℕ) (p : ℕ) (h : Led m p (lead.Number s)) (r : NumberRead) (t : told r ≡ numberAt s m p) where
+  pub number-head-bad : (x o : ℕ) → r ≡ number.Refused x o → LeafMet m p (head.Wrong x o)
+  number-head-bad x o e =
+      record { heads = λ d c. led-lost m p _ h d c x o (leaf-number-lost base (below base d) c m p (h .inside) (led-form m p _ h) s (h .lead) x o (number-bad s m p r t x o e)) }
+
+  pub number-head-is : (v n k : ℕ) → r ≡ number.Value v n → k ≡ sortKind s → LeafMet m p (head.Leaf k v 0 (p + n))
+  number-head-is v n k e q = rw q (record {
+    heads = λ d c. led-got m p _ h d c (sortKind s) v 0 n (number-room s m p r t v n e (h .bytes))
+        (leaf-number base (below base d) c m p (h .inside) (led-form m p _ h) s (h .lead) n v (number-is s m p r t v n e));
+  })
+
+pub led-sort : (s : Sort) (m : List ℕ) (p : ℕ) → Led m p (lead.Number s) → (x : Sort) → s ≡ x → Led m p (lead.Number x)
+led-sort s m p h x e = rw (← e) h
+
+-- one with a single form, of the value 0
+single-number : (s : Sort) (c : ℕ) (m : List ℕ) (p : ℕ) → Led m p (lead.Number s) → formsOf s ≡ form c 1 0 (Exactly 0) ∷ [] → numberAt s m p ≡ Done 1 0 [] tt
+unfolding value formAt
+single-number s c m p h f = go (inside (form c 1 0 (Exactly 0)) (getD m p 0)) refl
+  where
+    go : (t : Bool) → inside (form c 1 0 (Exactly 0)) (getD m p 0) ≡ t → numberAt s m p ≡ Done 1 0 [] tt
+    go true y = number-there s m p (h .inside) 0 (getD m p 0 - c) (Exactly 0) (ap (λ (ws : List Form). formAt ws (getD m p 0)) f ∙ form-here (form c 1 0 (Exactly 0)) [] (getD m p 0) y) (omega (arith, h .inside))
+    go false y =
+        let b = number-lead s (getD m p 0) (byte-small m p (h .bytes)) (h .lead) in
+        let z : NoForm ≡ Starts (followOf (getD m p 0)) (b .held) (b .rule) = sym (ap (λ (ws : List Form). formAt ws (getD m p 0)) f ∙ form-skip (form c 1 0 (Exactly 0)) [] (getD m p 0) y) ∙ b .starts in
+        cc
+
+module _ (s : Sort) (m : List ℕ) (p : ℕ) (h : Led m p (lead.Number s)) (x : Sort) (e : s ≡ x) where
+  pub single-fits : Fits w64 (length m) → p + 1 < 2 ^ 64
+  single-fits f = omega (arith, h .inside)
+
+  pub single-head : (c : ℕ) → formsOf x ≡ form c 1 0 (Exactly 0) ∷ [] → (r : Head) → r ≡ head.Leaf (sortKind x) 0 0 (p + 1) → LeafMet m p r
+  single-head c f r q =
+      let l = led-sort s m p h x e in
+      rw q (record { heads = λ d k. led-got m p _ l d k (sortKind x) 0 0 1 (omega arith, omega (arith, h .inside)) (leaf-number base (below base d) k m p (l .inside) (led-form m p _ l) x (l .lead) 1 0 (single-number x c m p l f)) })
+
+module _ (m : List ℕ) (p : ℕ) (r : StringRead) where
+  module _ (h : Led m p lead.Text) (t : toldString r ≡ measuredAt Utf8 m p) where
+    pub text-head-bad : (x o : ℕ) → r ≡ string.Refused x o → LeafMet m p (head.Wrong x o)
+    text-head-bad x o e =
+        record { heads = λ d c. led-lost m p _ h d c x o (leaf-string-lost base (below base d) c m p (h .inside) (led-form m p _ h) Utf8 (h .lead) x o (string-bad Utf8 m p r t x o e)) }
+
+    pub text-head-is : (u b n : ℕ) → r ≡ string.Content u b n → LeafMet m p (head.Leaf 7 u b (p + n))
+    text-head-is u b n e = record {
+      heads = λ d c. led-got m p _ h d c 7 u b n (string-room Utf8 m p r t u b n e (h .bytes))
+          (leaf-text base (below base d) c m p (h .inside) (led-form m p _ h) (h .lead) n u b (string-is Utf8 m p r t u b n e));
+    }
+
+  module _ (h : Led m p lead.Bytes) (t : toldString r ≡ measuredAt Binary m p) where
+    pub bytes-head-bad : (x o : ℕ) → r ≡ string.Refused x o → LeafMet m p (head.Wrong x o)
+    bytes-head-bad x o e =
+        record { heads = λ d c. led-lost m p _ h d c x o (leaf-string-lost base (below base d) c m p (h .inside) (led-form m p _ h) Binary (h .lead) x o (string-bad Binary m p r t x o e)) }
+
+    pub bytes-head-is : (u b n : ℕ) → r ≡ string.Content u b n → LeafMet m p (head.Leaf 8 b 0 (p + n))
+    bytes-head-is u b n e = record {
+      heads = λ d c. led-got m p _ h d c 8 b 0 n (string-room Binary m p r t u b n e (h .bytes))
+          (leaf-bytes base (below base d) c m p (h .inside) (led-form m p _ h) (h .lead) n u b (string-is Binary m p r t u b n e));
+    }
+
+-- ---- a reference
+module _ (m : List ℕ) (c : Known) (p : ℕ) (h : Led m p lead.Reference) (r : NumberRead) (t : told r ≡ numberAt Int m (p + 1)) where
+  pub reference-bad : (x o : ℕ) → r ≡ number.Refused x o → PlainMet m c p (head.Wrong x o)
+  reference-bad x o e =
+      record { heads = λ d. led-lost m p _ h d c x o (reference-lost base (below base d) c m p (h .inside) (led-form m p _ h) x o (number-bad Int m (p + 1) r t x o e)) }
+
+  module _ (v n : ℕ) (e : r ≡ number.Value v n) where
+    pub reference-is : v < c .references → PlainMet m c p (head.Leaf 14 v 0 (p + 1 + n))
+    reference-is l =
+        let w = number-room Int m (p + 1) r t v n e (h .bytes) in
+        record {
+          heads = λ d. record {
+            says = led-run m p _ h d c ∙ reference-got base (below base d) c m p (h .inside) (led-form m p _ h) n v (number-is Int m (p + 1) r t v n e) l;
+            goes = (omega arith, w .1);
+          };
+        }
+
+    pub reference-none : c .references ≤ v → PlainMet m c p (head.Wrong 6 p)
+    reference-none l =
+        record { heads = λ d. led-lost m p _ h d c 6 p (reference-ungiven base (below base d) c m p (h .inside) (led-form m p _ h) n v (number-is Int m (p + 1) r t v n e) l) }

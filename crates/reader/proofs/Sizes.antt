@@ -1,0 +1,26 @@
+-- What is read of a text or byte string takes at least one byte, and lies within the message.
+use mathlib.Core.Path.{_≡_, refl, sym, ap, _∙_}
+use mathlib.Core.List.{List, []}
+use Prim.Native.Nat.{ℕ, _+_, _≤_, _<_}
+use native.Mathlib.Omega.{arith}
+use lib.ListN.{length}
+use Rattle.flow.specs.Tests.{Bytes}
+use Rattle.flow.specs.Flow.{Answer, Done, Fault, renamed}
+use Rattle.scalar.specs.declared.texts.Kind.{Kind}
+use Rattle.scalar.specs.declared.texts.StringRead.{StringRead}
+use Rattle.scalar.specs.declared.texts.StringRead.the-variants.{Content}
+use Rattle.scalar.specs.Texts.{stringAt}
+use Rattle.scalar.specs.TextAnswers.{sized, sizes, measuredAt, toldString}
+use Rattle.scalar.specs.TextTheorems.{text-within}
+
+pub measured-within : (k : Kind) (m : List ℕ) → Bytes m → (p n u b : ℕ) → measuredAt k m p ≡ Done n (sized u b) [] tt → (0 < n) × (p + n ≤ length m)
+unfolding measuredAt
+measured-within k m w p n u b e = go (stringAt k m p) refl e
+  where
+    go : (o : Answer (List ℕ)) → stringAt k m p ≡ o → renamed (sizes k) o ≡ Done n (sized u b) [] tt → (0 < n) × (p + n ≤ length m)
+    go (Done j cs es c) d f = let h : j ≡ n = cc in let i = text-within k m w p j cs es d in (omega arith, omega arith)
+    go (Fault x o) d f = let z : _≡_ {A = ℕ} 0 1 = cc in absurd (omega arith)
+
+-- the same of what the code read
+pub string-within : (k : Kind) (m : List ℕ) → Bytes m → (p : ℕ) {x : StringRead} → toldString x ≡ measuredAt k m p → (u b n : ℕ) → x ≡ Content u b n → (0 < n) × (p + n ≤ length m)
+string-within k m w p t u b n e = measured-within k m w p n u b (sym t ∙ ap toldString e)

@@ -1,0 +1,97 @@
+-- The type of a list or map: what the contracts ask at each way out, one law for each.
+use mathlib.Core.Path.{_≡_, refl, sym, ap, _∙_}
+use mathlib.Core.Bool.{true}
+use mathlib.Core.List.{List, [], _∷_}
+use Prim.Native.Nat.{ℕ, _+_, _/_, _≤_, _<_}
+use native.Mathlib.Omega.{arith}
+use lib.Dec.{eqb}
+use lib.ListN.{length, getD}
+use borrow.Author.Tests.{ne-eqb}
+use Rattle.scalar.specs.declared.numbers.Sort.the-variants.{Int}
+use Rattle.scalar.specs.declared.numbers.NumberRead.{NumberRead}
+use Rattle.scalar.specs.declared.numbers.NumberRead.the-variants as number
+use Rattle.scalar.specs.declared.texts.Kind.the-variants.{Utf8}
+use Rattle.scalar.specs.declared.texts.StringRead.{StringRead}
+use Rattle.scalar.specs.declared.texts.StringRead.the-variants as string
+use Rattle.scalar.specs.declared.chart.Lead.{Lead}
+use Rattle.scalar.specs.declared.chart.Lead.the-variants as lead
+use Rattle.scalar.specs.Chart.{leadOf, kindOf, entry}
+use Rattle.scalar.specs.ChartLaws.{kind-is, entry-parts}
+use Rattle.scalar.specs.Scalars.{isText}
+use Rattle.scalar.specs.Numbers.{numberAt}
+use Rattle.scalar.specs.Answers.{told}
+use Rattle.scalar.specs.TextAnswers.{measuredAt, toldString}
+use Rattle.record.specs.Items.{typed}
+use Rattle.record.specs.Rows.{row}
+use Rattle.record.specs.Answers.{base}
+use Rattle.record.specs.Placed.{Got}
+use Rattle.record.specs.Parts.{type-end, type-full, type-name, type-name-lost, type-number, type-ungiven, type-number-lost}
+use Rattle.reader.specs.declared.heads.TypeItem.the-variants.{Named, Numbered}
+use Rattle.reader.specs.declared.heads.TypeRead.the-variants as type-read
+use Rattle.reader.specs.Inside.{At, Led, NoName, TypeMet}
+use Rattle.reader.proofs.Leaves.{byte-small, number-bad, number-is, number-room, string-bad, string-is, string-room}
+
+-- ---- a name, where so many types are given
+module _ (m : List ℕ) (given p : ℕ) (h : Led m p lead.Text) where
+  is-text : isText (getD m p 0) ≡ true
+  unfolding kindOf
+  is-text = ap (λ (x : Lead). eqb (kindOf x) 7) (h .lead)
+
+  pub named-full : 256 ≤ given → TypeMet m given p (type-read.Wrong 7 p)
+  named-full l = record { says = λ c e. type-full base c m p (h .inside) is-text (omega arith) }
+
+  module _ (l : given < 256) (r : StringRead) (t : toldString r ≡ measuredAt Utf8 m p) where
+    pub named-bad : (x o : ℕ) → r ≡ string.Refused x o → TypeMet m given p (type-read.Wrong x o)
+    named-bad x o q = record { says = λ c e. type-name-lost base c m p (h .inside) is-text (omega arith) x o (string-bad Utf8 m p r t x o q) }
+
+    pub named-is : (u b n : ℕ) → r ≡ string.Content u b n → TypeMet m given p (type-read.Is (Named u b) (p + n))
+    named-is u b n q =
+        let w = string-room Utf8 m p r t u b n q (h .bytes) in
+        record {
+          says = record {
+            number = given;
+            numbered = refl;
+            says = λ c e. type-name base c m p (h .inside) is-text (omega arith) n u b (string-is Utf8 m p r t u b n q) ∙ ap (λ (k : ℕ). Got (p + n) k (row 18 p u b ∷ []) (typed c)) e;
+            room = l;
+            longer = omega (arith, w .0);
+            within = w .1;
+          };
+        }
+
+-- ---- a number
+module _ (m : List ℕ) (given p : ℕ) (h : NoName m p) (r : NumberRead) (t : told r ≡ numberAt Int m p) where
+  pub numbered-bad : (x o : ℕ) → r ≡ number.Refused x o → TypeMet m given p (type-read.Wrong x o)
+  numbered-bad x o q = record { says = λ c e. type-number-lost base c m p (h .inside) (h .lead) x o (number-bad Int m p r t x o q) }
+
+  module _ (v n : ℕ) (q : r ≡ number.Value v n) where
+    pub numbered-is : v < given → TypeMet m given p (type-read.Is (Numbered v) (p + n))
+    numbered-is l =
+        let w = number-room Int m p r t v n q (h .bytes) in
+        record {
+          says = record {
+            number = v;
+            numbered = refl;
+            says = λ c e. type-number base c m p (h .inside) (h .lead) n v (number-is Int m p r t v n q) (omega arith);
+            room = tt;
+            longer = omega (arith, w .0);
+            within = w .1;
+          };
+        }
+
+    pub numbered-none : given ≤ v → TypeMet m given p (type-read.Wrong 6 p)
+    numbered-none l = record { says = λ c e. type-ungiven base c m p (h .inside) (h .lead) n v (number-is Int m p r t v n q) (omega arith) }
+
+-- ---- which of them
+pub type-off : (m : List ℕ) (given p : ℕ) → length m ≤ p → TypeMet m given p (type-read.Wrong 2 p)
+type-off m given p l = record { says = λ c e. type-end base c m p l }
+
+module _ (m : List ℕ) (p : ℕ) (a : At m p) (l : p < length m) (n : ℕ) (e : n ≡ entry (getD m p 0)) where
+  kind-there : n / 10 ≡ kindOf (leadOf (getD m p 0))
+  kind-there = ap (λ (n : ℕ). n / 10) e ∙ entry-parts (getD m p 0) (byte-small m p (a .bytes)) .0
+
+  pub text-led : n / 10 ≡ 7 → Led m p lead.Text
+  unfolding kindOf
+  text-led q = record { bytes = a .bytes; inside = l; lead = kind-is (leadOf (getD m p 0)) lead.Text (sym kind-there ∙ q) }
+
+  pub no-name : (n / 10 ≡ 7 → ⊥) → NoName m p
+  no-name q = record { bytes = a .bytes; inside = l; lead = ne-eqb (kindOf (leadOf (getD m p 0))) 7 (λ z. q (kind-there ∙ z)) }

@@ -1,0 +1,257 @@
+-- What the contracts of `begin` and `read_values` ask at each of their ways out.
+use mathlib.Core.Path.{_≡_, refl, sym, ap, ap₂, subst, _∙_}
+use mathlib.Core.Bool.{Bool, true, false}
+use mathlib.Core.List.{List, [], _∷_, _++_, append-nil}
+use Prim.Native.Nat.{ℕ, _+_, _-_, _^_, _≤_, _<_}
+use native.Mathlib.Omega.{arith}
+use lib.ListN.{length, getD, length-append}
+use mir.Syntax.{w64}
+use mir.Val.{Fits}
+use Rattle.flow.specs.Flow.{One, byteAt}
+use Rattle.record.specs.declared.Group.{Group}
+use Rattle.record.specs.Items.{Known}
+use Rattle.record.specs.Reading.{valueFrom}
+use Rattle.record.specs.Rows.{Row, row, itemRow}
+use Rattle.record.specs.Answers.{base}
+use Rattle.record.specs.Placed.{Placed, Got, Lost, run, front, on, topped, front-none, front-front}
+use Rattle.record.specs.Runs.{rest, stops, past, parts, Room, room-first, room-next, past-within, rest-stop, rest-step}
+use Rattle.record.specs.Values.{heading}
+use Rattle.reader.specs.declared.heads.TypeItem.{TypeItem}
+use Rattle.reader.specs.declared.heads.Head.{Head}
+use Rattle.reader.specs.declared.heads.Head.the-variants as head
+use Rattle.reader.specs.declared.definitions.Out.{Out}
+use Rattle.reader.specs.declared.definitions.Out.the-variants as out
+use Rattle.reader.specs.declared.values.Begun.{Begun}
+use Rattle.reader.specs.declared.values.Begun.the-variants as begun
+use Rattle.reader.specs.declared.values.Values.{Values}
+use Rattle.reader.specs.declared.values.Values.the-variants as values
+use Rattle.reader.specs.Inside.{knownIn, At, Kept, Ready, Laid, Moved, typeOf, typeRows, TypeRoom, Entered, meant, HeadGoes, Heads, Went, DefinitionsSay, DefinitionsMet, Passed, Inner, BeginSays, BeginMet, ValuesAre, ValuesSay, ValuesMet}
+use Rattle.reader.proofs.Moves.{laid-on, laid-top, laid-numbers, laid-bytes, moved-none, moved-on}
+
+-- ---- begin
+module _ (d : ℕ) (m : List ℕ) (p n : ℕ) (ks t b : List ℕ) (r : Out) (ks₁ t₁ b₁ : List ℕ) (a : DefinitionsMet m p n ks t b r ks₁ t₁ b₁) where
+  pub begin-undefined : (x y : ℕ) → r ≡ out.Fault x y → BeginMet d m p n ks t b (begun.Fault x y) ks₁ t₁ b₁
+  begin-undefined x y e = record { says = subst (λ (z : Out). DefinitionsSay m p n ks t b z ks₁ t₁ b₁) e (a .says) d }
+
+  module _ (q k : ℕ) (e : r ≡ out.Done q k) where
+    passed-defs : Passed m p n ks t b q k ks₁ t₁ b₁
+    passed-defs = subst (λ (z : Out). DefinitionsSay m p n ks t b z ks₁ t₁ b₁) e (a .says)
+
+    pub defs-ready : Ready m ks₁ q k
+    defs-ready = passed-defs .moved .ready
+
+    pub defs-kept : At m q × Kept ks₁
+    defs-kept = (defs-ready .at, defs-ready .kept)
+
+    module _ (h : Head) (z : Heads d m (knownIn ks₁) q h) where
+      begun-as : (h′ : Head) → h ≡ h′ → run (byteAt (valueFrom base d)) (knownIn ks) m p ≡ front (passed-defs .rows) (meant d m (knownIn ks₁) q h′)
+      begun-as h′ i = passed-defs .says d ∙ ap (λ (o : Placed One). front (passed-defs .rows) o) (z .says ∙ ap (λ (y : Head). meant d m (knownIn ks₁) q y) i)
+
+      pub begin-wrong : (x y : ℕ) → h ≡ head.Wrong x y → BeginMet d m p n ks t b (begun.Fault x y) ks₁ t₁ b₁
+      begin-wrong x y i = record { says = begun-as (head.Wrong x y) i }
+
+      pub leaf-goes : (s x y q′ : ℕ) → h ≡ head.Leaf s x y q′ → (k < q′) × (q < q′) × (q′ ≤ length m)
+      leaf-goes s x y q′ i = let g : (q < q′) × (q′ ≤ length m) = subst (λ (y : Head). HeadGoes d m (knownIn ks₁) q y) i (z .goes) in (omega (arith, g .0, defs-ready .rows-few), g .0, g .1)
+
+      pub begin-leaf : (s x y q′ : ℕ) → h ≡ head.Leaf s x y q′ → (t₂ b₂ : List ℕ) → Laid t₁ b₁ k (row s q x y ∷ []) t₂ b₂ → BeginMet d m p n ks t b (begun.Past q′ (k + 1)) ks₁ t₂ b₂
+      begin-leaf s x y q′ i t₂ b₂ l =
+          let g = leaf-goes s x y q′ i in
+          let w = defs-ready in
+          let one : Moved m q k t₁ b₁ q′ (k + 1) ks₁ t₂ b₂ (row s q x y ∷ []) = record {
+            counted = omega arith;
+            laid = l;
+            onward = omega (arith, g .1);
+            ready = record { at = record { bytes = w .at .bytes; within = g .2 }; kept = w .kept; rows-few = omega (arith, g .0); references-few = omega (arith, w .references-few, g .1) };
+          } in
+          record {
+            says = record {
+              rows = passed-defs .rows ++ (row s q x y ∷ []);
+              says = begun-as (head.Leaf s x y q′) i;
+              moved = moved-on (passed-defs .moved) one;
+              forward = omega (arith, passed-defs .moved .onward, g .1);
+            };
+          }
+
+      module _ (g : Group) (of : TypeItem) (q′ : ℕ) (i : h ≡ head.Holder g q′ of) where
+        holder-goes : (0 < d) × TypeRoom of (getD ks₁ 257 0) × (q + 1 + length (typeRows (q + 1) of) ≤ q′) × (q′ ≤ length m)
+        holder-goes = subst (λ (y : Head). HeadGoes d m (knownIn ks₁) q y) i (z .goes)
+
+        pub holder-room : (k + 1 ≤ q′) × (q + 1 ≤ q′) × (q′ ≤ length m)
+        holder-room = let g = holder-goes in (omega (arith, g .2, defs-ready .rows-few), omega (arith, g .2), g .3)
+
+        pub rows-fit : length m < 2 ^ 64 → Fits w64 (k + 1)
+        rows-fit f = let g = holder-room in omega (arith, g .0, g .2)
+
+        pub place-fits : length m < 2 ^ 64 → Fits w64 (q + 1)
+        place-fits f = let g = holder-room in omega (arith, g .1, g .2)
+
+        pub holder-enters : length m < 2 ^ 64 → Kept ks₁ × (getD ks₁ 258 0 + 1 < 2 ^ 64) × TypeRoom of (getD ks₁ 257 0)
+        holder-enters f = let g = holder-goes in (defs-ready .kept, omega (arith, defs-ready .references-few, g .2, g .3), g .1)
+
+        module _ (ks₂ : List ℕ) (more : ℕ) (w : Entered ks₁ of ks₂ more) where
+          pub holder-rows : (k + 1 + more ≤ q′) × (q′ ≤ length m)
+          holder-rows = let g = holder-goes in (omega (arith, g .2, defs-ready .rows-few, w .rows (q + 1)), g .3)
+
+          pub begin-holder : (given : ℕ) → given ≡ getD ks₁ 257 0 → (t₂ b₂ : List ℕ) → Laid t₁ b₁ (k + 1) (typeRows (q + 1) of) t₂ b₂
+              → BeginMet d m p n ks t b (begun.Within q k g of given q′ (k + 1 + more)) ks₂ t₂ b₂
+          begin-holder given s t₂ b₂ l =
+              let y = holder-goes in
+              record {
+                says = record {
+                  before = passed-defs .rows;
+                  says =
+                      begun-as (head.Holder g q′ of) i
+                      ∙ ap₂ (λ (c : Known) (v : ℕ). front (passed-defs .rows) (topped q (heading g (typeOf v of)) (front (typeRows (q + 1) of) (run (rest (valueFrom base (d - 1)) g 0) c m q′))))
+                      (sym (w .known)) (sym s);
+                  first = passed-defs .moved .counted;
+                  counted = ap (λ (v : ℕ). k + 1 + v) (w .rows (q + 1));
+                  between-t = t₁;
+                  between-b = b₁;
+                  laid-before = passed-defs .moved .laid;
+                  laid = l;
+                  onward = passed-defs .moved .onward;
+                  deeper = omega (arith, y .2);
+                  open-one = y .0;
+                  ready = record {
+                    at = record { bytes = defs-ready .at .bytes; within = y .3 };
+                    kept = w .kept;
+                    rows-few = omega (arith, y .2, defs-ready .rows-few, w .rows (q + 1));
+                    references-few = omega (arith, w .references, defs-ready .references-few, y .2);
+                  };
+                };
+              }
+
+-- ---- a value, when the values inside it are read
+module _ (o : Placed One) (d : ℕ) (m : List ℕ) (p n : ℕ) (t b : List ℕ) (y j : ℕ) (g : Group) (of : TypeItem) (given q k : ℕ) (ks₁ t₁ b₁ : List ℕ)
+    (x : Inner o d m p n t b y j g of given q k ks₁ t₁ b₁) where
+  front-lost : (u v : ℕ) → run (rest (valueFrom base (d - 1)) g 0) (knownIn ks₁) m q ≡ Lost u v → o ≡ Lost u v
+  front-lost u v e = x .says ∙ ap (λ (z : Placed ℕ). front (x .before) (topped y (heading g (typeOf given of)) (front (typeRows (y + 1) of) z))) e
+
+  inner-went : (e l i : ℕ) (ks₂ t₂ b₂ : List ℕ) → ValuesAre (run (rest (valueFrom base (d - 1)) g 0) (knownIn ks₁) m q) m q k t₁ b₁ g e l i ks₂ t₂ b₂
+      → (t₃ b₃ : List ℕ) → Laid t₂ b₂ j (itemRow y (heading g (typeOf given of) (parts g i)) ∷ []) t₃ b₃ → Went o m p n t b e l ks₂ t₃ b₃
+  inner-went e l i ks₂ t₂ b₂ v t₃ b₃ top =
+      let ts = typeRows (y + 1) of in
+      let it = itemRow y (heading g (typeOf given of) (parts g i)) in
+      let within = laid-on (x .laid) (x .counted) (v .moved .laid) in
+      record {
+        rows = x .before ++ (it ∷ (ts ++ v .rows));
+        says = x .says ∙ ap (λ (z : Placed ℕ). front (x .before) (topped y (heading g (typeOf given of)) (front ts z))) (v .says);
+        moved = record {
+          counted = omega (arith, v .moved .counted, x .counted, x .first, length-append (x .before) (it ∷ (ts ++ v .rows)), length-append ts (v .rows));
+          laid = laid-on (x .laid-before) (x .first) (laid-top within top);
+          onward = omega (arith, x .onward, x .deeper, v .moved .onward);
+          ready = v .moved .ready;
+        };
+        forward = omega (arith, x .onward, x .deeper, v .moved .onward);
+      }
+
+-- ---- the loop over the values of a group: `rows` are those so far, and with them in front what is left reads as the whole does
+pub record Running (d : ℕ) (m : List ℕ) (g : Group) (p₀ n₀ : ℕ) (ks₀ t₀ b₀ ks t b : List ℕ) (p n i : ℕ) : Type 0 where
+  pub steps : i ≤ p
+  pub room : Room g i
+  pub same-numbers : length t ≡ length t₀
+  pub same-bytes : length b ≡ length b₀
+  pub rows : List Row
+  pub moved : Moved m p₀ n₀ t₀ b₀ p n ks t b rows
+  pub left : front rows (run (rest (valueFrom base d) g i) (knownIn ks) m p) ≡ run (rest (valueFrom base d) g 0) (knownIn ks₀) m p₀
+
+pub running-start : (d : ℕ) (m : List ℕ) (g : Group) (p n : ℕ) (ks t b : List ℕ) → Ready m ks p n → Running d m g p n ks t b ks t b p n 0
+running-start d m g p n ks t b w = record {
+  steps = omega arith;
+  room = room-first g;
+  same-numbers = refl;
+  same-bytes = refl;
+  rows = [];
+  moved = moved-none m ks t b p n w;
+  left = front-none (run (rest (valueFrom base d) g 0) (knownIn ks) m p);
+}
+
+module _ (d : ℕ) (m : List ℕ) (g : Group) (p₀ n₀ : ℕ) (ks₀ t₀ b₀ ks t b : List ℕ) (p n i : ℕ) (R : Running d m g p₀ n₀ ks₀ t₀ b₀ ks t b p n i)
+    (z : Bool) (is : z ≡ stops m g i p) where
+  abbrev Whole : Placed ℕ
+  Whole = run (rest (valueFrom base d) g 0) (knownIn ks₀) m p₀
+
+  -- none is left
+  pub values-stop : z ≡ true → (q : ℕ) → q ≡ past g p → ValuesMet d m p₀ n₀ ks₀ t₀ b₀ g (values.Done q n i) ks t b
+  values-stop y q e =
+      let w = past-within m g i p (sym is ∙ y) (R .moved .ready .at .within) in
+      let v = R .moved .ready in
+      record {
+        says = record {
+          rows = R .rows;
+          says =
+              sym (R .left)
+              ∙ ap (λ (x : Placed ℕ). front (R .rows) x) (rest-stop (valueFrom base d) m (knownIn ks) g i p (sym is ∙ y))
+              ∙ ap₂ (λ (x : ℕ) (rs : List Row). Got x (parts g i) rs (knownIn ks)) (sym e) (append-nil (R .rows));
+          moved = record {
+            counted = R .moved .counted;
+            laid = R .moved .laid;
+            onward = omega (arith, R .moved .onward, w .0);
+            ready = record { at = record { bytes = v .at .bytes; within = omega (arith, w .1) }; kept = v .kept; rows-few = omega (arith, w .0, v .rows-few); references-few = omega (arith, w .0, v .references-few) };
+          };
+        };
+      }
+
+  module _ (no : z ≡ false) where
+    -- one more value, as it was read
+    step : (o : Placed One) → run (byteAt (valueFrom base d)) (knownIn ks) m p ≡ o → front (R .rows) (on o (λ e u c. run (rest (valueFrom base d) g (i + 1)) c m e)) ≡ Whole
+    step o q =
+        ap (λ (x : Placed One). front (R .rows) (on x (λ e u c. run (rest (valueFrom base d) g (i + 1)) c m e))) (sym q)
+        ∙ ap (λ (x : Placed ℕ). front (R .rows) x) (sym (rest-step (valueFrom base d) m (knownIn ks) g i p (sym is ∙ no) (R .room)))
+        ∙ R .left
+
+    running-lost : (x y : ℕ) → run (byteAt (valueFrom base d)) (knownIn ks) m p ≡ Lost x y → (ks′ t′ b′ : List ℕ) → ValuesMet d m p₀ n₀ ks₀ t₀ b₀ g (values.Fault x y) ks′ t′ b′
+    running-lost x y e ks′ t′ b′ = record { says = sym (step (Lost x y) e) }
+
+    running-went : (q k : ℕ) (ks′ t′ b′ : List ℕ) → Went (run (byteAt (valueFrom base d)) (knownIn ks) m p) m p n t b q k ks′ t′ b′ → Running d m g p₀ n₀ ks₀ t₀ b₀ ks′ t′ b′ q k (i + 1)
+    running-went q k ks′ t′ b′ w =
+        let both = moved-on (R .moved) (w .moved) in
+        record {
+          steps = omega (arith, w .forward, R .steps);
+          room = room-next m g i p (sym is ∙ no) (R .room);
+          same-numbers = laid-numbers (both .laid);
+          same-bytes = laid-bytes (both .laid);
+          rows = R .rows ++ w .rows;
+          moved = both;
+          left = sym (front-front (R .rows) (w .rows) (run (rest (valueFrom base d) g (i + 1)) (knownIn ks′) m q)) ∙ step (Got q tt (w .rows) (knownIn ks′)) (w .says);
+        }
+
+    module _ (r : Begun) (ks₁ t₁ b₁ : List ℕ) (a : BeginMet d m p n ks t b r ks₁ t₁ b₁) where
+      begun-says : (r′ : Begun) → r ≡ r′ → BeginSays (run (byteAt (valueFrom base d)) (knownIn ks) m p) d m p n t b r′ ks₁ t₁ b₁
+      begun-says r′ e = subst (λ (z : Begun). BeginSays (run (byteAt (valueFrom base d)) (knownIn ks) m p) d m p n t b z ks₁ t₁ b₁) e (a .says)
+
+      pub values-fault : (x y : ℕ) → r ≡ begun.Fault x y → ValuesMet d m p₀ n₀ ks₀ t₀ b₀ g (values.Fault x y) ks₁ t₁ b₁
+      values-fault x y e = running-lost x y (begun-says (begun.Fault x y) e) ks₁ t₁ b₁
+
+      pub past-forward : (q k : ℕ) → r ≡ begun.Past q k → (p < q) × (q ≤ length m)
+      past-forward q k e = let w = begun-says (begun.Past q k) e in (w .forward, w .moved .ready .at .within)
+
+      pub running-past : (q k : ℕ) → r ≡ begun.Past q k → Running d m g p₀ n₀ ks₀ t₀ b₀ ks₁ t₁ b₁ q k (i + 1)
+      running-past q k e = running-went q k ks₁ t₁ b₁ (begun-says (begun.Past q k) e)
+
+      module _ (y j : ℕ) (g′ : Group) (of : TypeItem) (given q k : ℕ) (e : r ≡ begun.Within y j g′ of given q k) where
+        inner-of : Inner (run (byteAt (valueFrom base d)) (knownIn ks) m p) d m p n t b y j g′ of given q k ks₁ t₁ b₁
+        inner-of = begun-says (begun.Within y j g′ of given q k) e
+
+        pub inner-open : 0 < d
+        inner-open = inner-of .open-one
+
+        pub inner-ready : Ready m ks₁ q k
+        inner-ready = inner-of .ready
+
+        module _ (v : Values) (ks₂ t₂ b₂ : List ℕ) (w : ValuesMet (d - 1) m q k ks₁ t₁ b₁ g′ v ks₂ t₂ b₂) where
+          values-says : (v′ : Values) → v ≡ v′ → ValuesSay (run (rest (valueFrom base (d - 1)) g′ 0) (knownIn ks₁) m q) m q k t₁ b₁ g′ v′ ks₂ t₂ b₂
+          values-says v′ i = subst (λ (z : Values). ValuesSay (run (rest (valueFrom base (d - 1)) g′ 0) (knownIn ks₁) m q) m q k t₁ b₁ g′ z ks₂ t₂ b₂) i (w .says)
+
+          pub values-inner-fault : (x u : ℕ) → v ≡ values.Fault x u → ValuesMet d m p₀ n₀ ks₀ t₀ b₀ g (values.Fault x u) ks₂ t₂ b₂
+          values-inner-fault x u i =
+              running-lost x u (front-lost (run (byteAt (valueFrom base d)) (knownIn ks) m p) d m p n t b y j g′ of given q k ks₁ t₁ b₁ inner-of x u (values-says (values.Fault x u) i)) ks₂ t₂ b₂
+
+          module _ (f l h : ℕ) (s : v ≡ values.Done f l h) where
+            pub within-forward : (p < f) × (f ≤ length m)
+            within-forward = let u = values-says (values.Done f l h) s in (omega (arith, inner-of .onward, inner-of .deeper, u .moved .onward), u .moved .ready .at .within)
+
+            pub running-within : (t₃ b₃ : List ℕ) → Laid t₂ b₂ j (itemRow y (heading g′ (typeOf given of) (parts g′ h)) ∷ []) t₃ b₃ → Running d m g p₀ n₀ ks₀ t₀ b₀ ks₂ t₃ b₃ f l (i + 1)
+            running-within t₃ b₃ top =
+                running-went f l ks₂ t₃ b₃
+                (inner-went (run (byteAt (valueFrom base d)) (knownIn ks) m p) d m p n t b y j g′ of given q k ks₁ t₁ b₁ inner-of f l h ks₂ t₂ b₂ (values-says (values.Done f l h) s) t₃ b₃ top)

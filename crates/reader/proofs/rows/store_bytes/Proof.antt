@@ -1,0 +1,31 @@
+-- Each way out has its law in proofs/Stores.antt.
+use native.Mathlib.Omega.{arith}
+use borrow.Author.Needs.{needs}
+use Rattle.reader.proofs.Stores.{bytes-out, bytes-in}
+use Rattle.reader.proofs.rows.store_bytes.Statement.{statement}
+use Rattle.reader.proofs.rows.store_bytes.Tie as tie
+
+returns : tie.Need-returns
+returns c =
+    let d = c .before .before .before .before .before .before in
+    let e = d .before .before .before .before in
+    bytes-in _ _ _ _ _ _ (omega arith) (e .before .before .before .before .store-number .ensures .1) (e .store-number2 .ensures .1) (d .store-number3 .ensures .1) (c .before .before .store-number4 .ensures .1)
+
+returns-2 : tie.Need-returns-2
+returns-2 c = search (bytes-out, needs)
+
+pub store-bytes-spec : {M : Type 1} → statement M
+store-bytes-spec =
+    tie.close
+    (tie.spec
+    (λ c. search needs)
+    (λ c κs. search needs)
+    (λ c. search needs)
+    (λ c κs. search needs)
+    (λ c. search needs)
+    (λ c κs. search needs)
+    (λ c. search needs)
+    (λ c κs. search needs)
+    (λ c. search needs)
+    returns
+    returns-2)

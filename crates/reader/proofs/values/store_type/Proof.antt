@@ -1,0 +1,31 @@
+-- Each way out has its law in proofs/Groups.antt.
+use borrow.Author.Needs.{needs}
+use Rattle.reader.proofs.Groups.{laid-untyped, laid-named, laid-numbered}
+use Rattle.reader.proofs.values.store_type.Statement.{statement}
+use Rattle.reader.proofs.values.store_type.Tie as tie
+
+returns : tie.Need-returns
+returns c = search (laid-untyped, needs)
+
+returns-2 : tie.Need-returns-2
+returns-2 c = search (laid-named, needs)
+
+returns-3 : tie.Need-returns-3
+returns-3 c = search (laid-numbered, needs)
+
+pub store-type-spec : {M : Type 1} → statement M
+store-type-spec =
+    tie.close
+    (tie.spec
+    (λ c. search needs)
+    (λ c. search needs)
+    (λ c κs. search needs)
+    (λ c. search needs)
+    (λ c κs. search needs)
+    returns
+    (λ c. search needs)
+    (λ c. search needs)
+    returns-2
+    (λ c. search needs)
+    (λ c. search needs)
+    returns-3)

@@ -1,0 +1,10 @@
+-- What the reader's answer says, in 01's terms: number, count and place.
+use Rattle.scalar.specs.Answers.{Report}
+use Rattle.reader.specs.declared.ReadAnswer.{ReadAnswer}
+use Rattle.reader.specs.declared.ReadAnswer.the-variants.{Accepted, Refused, TooFew}
+
+-- accepted are 0, the rows, the message's length; refusal 9 counts the rows needed, other refusals 0
+abbrev pub report : ReadAnswer → Report
+report (Accepted rows length) = record { number = 0; count = rows; place = length }
+report (Refused number place) = record { number = number; count = 0; place = place }
+report (TooFew needed) = record { number = 9; count = needed; place = 0 }

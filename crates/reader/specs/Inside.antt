@@ -1,0 +1,398 @@
+-- What the contracts inside the reader say, over record's laws of a reader at a place of the whole message. None of it has to be believed.
+use mathlib.Core.Path.{_≡_}
+use mathlib.Core.Bool.{Bool, false}
+use mathlib.Core.Logic.{_⊎_}
+use mathlib.Core.List.{List, [], _∷_}
+use mathlib.Core.Option.{Option, none, some}
+use Prim.Native.Nat.{ℕ, _+_, _-_, _^_, _≤_, _<_}
+use lib.Dec.{ltb, leb, eqb}
+use lib.ListN.{length, take, getD}
+use Rattle.flow.specs.Tests.{pick, Bytes}
+use Rattle.flow.specs.Flow.{Done, Fault, One, byteAt}
+use Rattle.flow.specs.Overlay.{overlay}
+use Rattle.scalar.specs.declared.chart.Lead.{Lead}
+use Rattle.scalar.specs.declared.chart.Lead.the-variants as lead
+use Rattle.scalar.specs.declared.numbers.Sort.the-variants.{Int}
+use Rattle.scalar.specs.Chart.{leadOf}
+use Rattle.scalar.specs.Numbers.{numberAt}
+use Rattle.scalar.specs.Scalars.{isText}
+use Rattle.record.specs.declared.Group.{Group}
+use Rattle.record.specs.declared.Group.the-variants.{Counted, Fields, Open}
+use Rattle.record.specs.Items.{Definition, Known, start, opened, typed, defined}
+use Rattle.record.specs.Reading.{typeFrom, definition, valueFrom}
+use Rattle.record.specs.Rows.{Row, row, itemRow}
+use Rattle.record.specs.Answers.{Refuse, read, base}
+use Rattle.record.specs.Tables.{asNumbers, asBytes, reportRead, filled}
+use Rattle.record.specs.Placed.{Placed, Got, Lost, run, front, on, topped}
+use Rattle.record.specs.Runs.{rest, parts}
+use Rattle.record.specs.Values.{heading}
+use Rattle.record.specs.Definitions.{namesLeft, plain}
+use Rattle.reader.specs.declared.heads.TypeItem.{TypeItem}
+use Rattle.reader.specs.declared.heads.TypeItem.the-variants.{Untyped, Named, Numbered}
+use Rattle.reader.specs.declared.heads.Head.{Head}
+use Rattle.reader.specs.declared.heads.Head.the-variants as head
+use Rattle.reader.specs.declared.heads.Count.{Count}
+use Rattle.reader.specs.declared.heads.Count.the-variants as count
+use Rattle.reader.specs.declared.heads.TypeRead.{TypeRead}
+use Rattle.reader.specs.declared.heads.TypeRead.the-variants as type-read
+use Rattle.reader.specs.declared.definitions.ClassRead.{ClassRead}
+use Rattle.reader.specs.declared.definitions.ClassRead.the-variants as class-read
+use Rattle.reader.specs.declared.definitions.Names.{Names}
+use Rattle.reader.specs.declared.definitions.Names.the-variants as names
+use Rattle.reader.specs.declared.definitions.Out.{Out}
+use Rattle.reader.specs.declared.definitions.Out.the-variants as out
+use Rattle.reader.specs.declared.values.Numbers.{Numbers}
+use Rattle.reader.specs.declared.values.Begun.{Begun}
+use Rattle.reader.specs.declared.values.Begun.the-variants as begun
+use Rattle.reader.specs.declared.values.Values.{Values}
+use Rattle.reader.specs.declared.values.Values.the-variants as values
+use Rattle.reader.specs.declared.Judged.{Judged}
+use Rattle.reader.specs.declared.Judged.the-variants as judged
+use Rattle.reader.specs.declared.ReadAnswer.{ReadAnswer}
+use Rattle.reader.specs.Answers.{report}
+
+-- ---- what is known, as the array keeps it: each class's number of fields, then how many classes, types and references are given
+abbrev pub knownIn : List ℕ → Known
+knownIn ks = record { references = getD ks 258 0; types = getD ks 257 0; classes = take (getD ks 256 0) ks }
+
+-- a place of a message of bytes
+pub record At (m : List ℕ) (p : ℕ) : Type 0 where
+  pub bytes : Bytes m
+  pub within : p ≤ length m
+
+-- the array is within the ceilings
+pub record Kept (ks : List ℕ) : Type 0 where
+  pub sized : length ks ≡ 259
+  pub classes-few : getD ks 256 0 ≤ 256
+  pub types-few : getD ks 257 0 ≤ 256
+
+-- where reading can be: at p, with n rows so far
+pub record Ready (m ks : List ℕ) (p n : ℕ) : Type 0 where
+  pub at : At m p
+  pub kept : Kept ks
+  pub rows-few : n ≤ p
+  pub references-few : getD ks 258 0 ≤ p
+
+-- a byte stands at p, and opens this
+pub record Led (m : List ℕ) (p : ℕ) (x : Lead) : Type 0 where
+  pub bytes : Bytes m
+  pub inside : p < length m
+  pub lead : leadOf (getD m p 0) ≡ x
+
+-- the byte at p is b, and begins an int or long of the upper half
+pub record High (m : List ℕ) (p b : ℕ) : Type 0 where
+  pub bytes : Bytes m
+  pub inside : p < length m
+  pub is : b ≡ getD m p 0
+  pub upper : 0x80 ≤ b
+
+-- it opens no text
+pub record NoName (m : List ℕ) (p : ℕ) : Type 0 where
+  pub bytes : Bytes m
+  pub inside : p < length m
+  pub lead : isText (getD m p 0) ≡ false
+
+-- it opens a list, map or object
+abbrev pub Holding : Lead → Type 0
+Holding (lead.Number s) = ⊥
+Holding lead.Text = ⊥
+Holding lead.Bytes = ⊥
+Holding lead.List = Unit {0}
+Holding lead.TypedList = Unit {0}
+Holding lead.Map = Unit {0}
+Holding lead.TypedMap = Unit {0}
+Holding lead.Object = Unit {0}
+Holding lead.Reference = ⊥
+Holding lead.Definition = ⊥
+Holding lead.Close = ⊥
+Holding lead.Reserved = ⊥
+
+-- ---- rows in the two tables, from the row k on
+pub record Laid (t b : List ℕ) (k : ℕ) (rs : List Row) (t′ b′ : List ℕ) : Type 0 where
+  pub numbers : t′ ≡ overlay 4 (asNumbers .encode) t k rs
+  pub bytes : b′ ≡ overlay 32 (asBytes .encode) b k rs
+
+-- rows were read, from the place p and the row n to the place q and the row k, and are in the tables
+pub record Moved (m : List ℕ) (p n : ℕ) (t b : List ℕ) (q k : ℕ) (ks′ t′ b′ : List ℕ) (rs : List Row) : Type 0 where
+  pub counted : k ≡ n + length rs
+  pub laid : Laid t b n rs t′ b′
+  pub onward : p ≤ q
+  pub ready : Ready m ks′ q k
+
+-- ---- counts
+-- a negative one; more than 256
+pub record Negative (m : List ℕ) (p x o : ℕ) : Type 0 where
+  pub size : ℕ
+  pub value : ℕ
+  pub is : numberAt Int m p ≡ Done size value [] tt
+  pub below : 2 ^ 63 ≤ value
+  pub number : x ≡ 5
+  pub place : o ≡ p
+
+pub record Wide (m : List ℕ) (p x o : ℕ) : Type 0 where
+  pub size : ℕ
+  pub value : ℕ
+  pub is : numberAt Int m p ≡ Done size value [] tt
+  pub above : 256 < value
+  pub plain : value < 2 ^ 63
+  pub number : x ≡ 7
+  pub place : o ≡ p
+
+abbrev pub CountSays : List ℕ → ℕ → Count → Type 0
+CountSays m p (count.Is v n) = (numberAt Int m p ≡ Done n v [] tt) × (v < 2 ^ 63) × (0 < n) × (p + n ≤ length m)
+CountSays m p (count.Wrong x o) = (numberAt Int m p ≡ Fault x o) ⊎ Negative m p x o
+
+pub record CountMet (m : List ℕ) (p : ℕ) (r : Count) : Type 0 where
+  pub says : CountSays m p r
+
+-- ---- types
+-- the type number, where so many are given; the rows of the type at p; what is known after it
+abbrev pub typeOf : ℕ → TypeItem → Option ℕ
+typeOf given Untyped = none
+typeOf given (Named u b) = some given
+typeOf given (Numbered k) = some k
+
+abbrev pub typeRows : ℕ → TypeItem → List Row
+typeRows p Untyped = []
+typeRows p (Named u b) = row 18 p u b ∷ []
+typeRows p (Numbered k) = row 19 p k 0 ∷ []
+
+abbrev pub typedBy : TypeItem → Known → Known
+typedBy Untyped c = c
+typedBy (Named u b) c = typed c
+typedBy (Numbered k) c = c
+
+-- one more type number may be given
+abbrev pub TypeRoom : TypeItem → ℕ → Type 0
+TypeRoom Untyped given = Unit {0}
+TypeRoom (Named u b) given = given < 256
+TypeRoom (Numbered k) given = Unit {0}
+
+-- the kind of a typed row is one more; its second number
+abbrev pub typeTag : TypeItem → ℕ
+typeTag Untyped = 0
+typeTag (Named u b) = 1
+typeTag (Numbered k) = 1
+
+abbrev pub typeSecond : ℕ → TypeItem → ℕ
+typeSecond given Untyped = 0
+typeSecond given (Named u b) = given
+typeSecond given (Numbered k) = k
+
+-- the type at p is read, up to q, where so many types are given
+pub record TypeIs (m : List ℕ) (given p : ℕ) (of : TypeItem) (q : ℕ) : Type 0 where
+  pub number : ℕ
+  pub numbered : typeOf given of ≡ some number
+  pub says : (c : Known) → c .types ≡ given → run (byteAt (typeFrom base)) c m p ≡ Got q number (typeRows p of) (typedBy of c)
+  pub room : TypeRoom of given
+  pub longer : p + length (typeRows p of) ≤ q
+  pub within : q ≤ length m
+
+abbrev pub TypeSays : List ℕ → ℕ → ℕ → TypeRead → Type 0
+TypeSays m given p (type-read.Is of q) = TypeIs m given p of q
+TypeSays m given p (type-read.Wrong x o) = (c : Known) → c .types ≡ given → run (byteAt (typeFrom base)) c m p ≡ Lost x o
+
+pub record TypeMet (m : List ℕ) (given p : ℕ) (r : TypeRead) : Type 0 where
+  pub says : TypeSays m given p r
+
+-- a list, map or object of this type opens
+pub record Entered (ks : List ℕ) (of : TypeItem) (ks′ : List ℕ) (n : ℕ) : Type 0 where
+  pub known : knownIn ks′ ≡ typedBy of (opened (knownIn ks))
+  pub rows : (p : ℕ) → n ≡ length (typeRows p of)
+  pub kept : Kept ks′
+  pub references : getD ks′ 258 0 ≡ getD ks 258 0 + 1
+
+-- ---- heads
+-- the value at p, with no definitions before it, by its head, where c is known; d: how many containers may open
+abbrev pub meant : ℕ → List ℕ → Known → ℕ → Head → Placed One
+meant d m c p (head.Leaf k x y q) = Got q tt (row k p x y ∷ []) c
+meant d m c p (head.Holder g q of) = topped p (heading g (typeOf (c .types) of)) (front (typeRows (p + 1) of) (run (rest (valueFrom base (d - 1)) g 0) (typedBy of (opened c)) m q))
+meant d m c p (head.Wrong x o) = Lost x o
+
+abbrev pub HeadGoes : ℕ → List ℕ → Known → ℕ → Head → Type 0
+HeadGoes d m c p (head.Leaf k x y q) = (p < q) × (q ≤ length m)
+HeadGoes d m c p (head.Holder g q of) = (0 < d) × TypeRoom of (c .types) × (p + 1 + length (typeRows (p + 1) of) ≤ q) × (q ≤ length m)
+HeadGoes d m c p (head.Wrong x o) = Unit {0}
+
+pub record Heads (d : ℕ) (m : List ℕ) (c : Known) (p : ℕ) (r : Head) : Type 0 where
+  pub says : run (byteAt (plain base d)) c m p ≡ meant d m c p r
+  pub goes : HeadGoes d m c p r
+
+-- whatever is known, and however many may open; where c is known; where c is known, and one more may open
+pub record LeafMet (m : List ℕ) (p : ℕ) (r : Head) : Type 0 where
+  pub heads : (d : ℕ) (c : Known) → Heads d m c p r
+
+pub record PlainMet (m : List ℕ) (c : Known) (p : ℕ) (r : Head) : Type 0 where
+  pub heads : (d : ℕ) → Heads d m c p r
+
+pub record HolderMet (m : List ℕ) (c : Known) (p : ℕ) (r : Head) : Type 0 where
+  pub heads : (d : ℕ) → 0 < d → Heads d m c p r
+
+-- a list of this type with the count that was read at p
+abbrev pub holderOf : TypeItem → ℕ → Count → Head
+holderOf of p (count.Is v n) = head.Holder (Counted v) (p + n) of
+holderOf of p (count.Wrong x o) = head.Wrong x o
+
+abbrev pub CountFits : ℕ → Count → Type 0
+CountFits p (count.Is v n) = p + n < 2 ^ 64
+CountFits p (count.Wrong x o) = Unit {0}
+
+-- lists, by their first byte b: the open form, the counted form after it, the one-byte forms
+pub record ListAt (m : List ℕ) (b open-code few p : ℕ) : Type 0 where
+  pub at : At m p
+  pub code : open-code + 1 < 256
+  pub among : (b ≡ open-code → ⊥) → (b ≡ open-code + 1 → ⊥) → few ≤ b
+
+pub record ListMet (m : List ℕ) (b open-code few : ℕ) (of : TypeItem) (p : ℕ) (r : Head) : Type 0 where
+  pub opens : b ≡ open-code → r ≡ head.Holder Open p of
+  pub counts : b ≡ open-code + 1 → (n : Count) × CountMet m p n × (r ≡ holderOf of p n)
+  pub fews : (b ≡ open-code → ⊥) → (b ≡ open-code + 1 → ⊥) → r ≡ head.Holder (Counted (b - few)) p of
+
+-- an object of the class k, whose code stands at p and whose fields begin at q
+abbrev pub instanceOf : List ℕ → ℕ → ℕ → ℕ → Head
+instanceOf ks p k q = pick (ltb k (getD ks 256 0)) (head.Holder (Fields k (getD ks k 0)) q Untyped) (head.Wrong 6 p)
+
+-- the row of a list, map or object after i values
+pub record HolderRow (g : Group) (of : TypeItem) (given i : ℕ) (r : Numbers) : Type 0 where
+  pub is : (p : ℕ) → row (r .kind) p (r .first) (r .second) ≡ itemRow p (heading g (typeOf given of) (parts g i))
+
+-- ---- what reading something from the place p and the row n on gives
+-- it is read, up to the place q and the row k
+pub record Went (o : Placed One) (m : List ℕ) (p n : ℕ) (t b : List ℕ) (q k : ℕ) (ks′ t′ b′ : List ℕ) : Type 0 where
+  pub rows : List Row
+  pub says : o ≡ Got q tt rows (knownIn ks′)
+  pub moved : Moved m p n t b q k ks′ t′ b′ rows
+  pub forward : p < q
+
+abbrev pub Outcomes : Placed One → List ℕ → ℕ → ℕ → List ℕ → List ℕ → Out → List ℕ → List ℕ → List ℕ → Type 0
+Outcomes o m p n t b (out.Done q k) ks′ t′ b′ = Went o m p n t b q k ks′ t′ b′
+Outcomes o m p n t b (out.Fault x y) ks′ t′ b′ = o ≡ Lost x y
+
+-- ---- class definitions
+-- 43 stands at p
+abbrev pub defines : List ℕ → ℕ → Bool
+defines m p = pick (leb (length m) p) false (eqb (getD m p 0) 0x43)
+
+-- the field count at p, after a name of u units and b bytes
+abbrev pub FieldsSay : List ℕ → ℕ → ℕ → ℕ → ClassRead → Type 0
+FieldsSay m p u b (class-read.Is u′ b′ n q) = (u′ ≡ u) × (b′ ≡ b) × (n ≤ 256) × ((k : ℕ) × (numberAt Int m p ≡ Done k n [] tt) × (0 < k) × (q ≡ p + k)) × (q ≤ length m)
+FieldsSay m p u b (class-read.Wrong x o) = (numberAt Int m p ≡ Fault x o) ⊎ (Negative m p x o ⊎ Wide m p x o)
+
+pub record FieldsMet (m : List ℕ) (p u b : ℕ) (r : ClassRead) : Type 0 where
+  pub says : FieldsSay m p u b r
+
+-- a class's name and field count, after the 43 at p: what is left are the n field names from q on
+pub record ClassIs (m : List ℕ) (c : Known) (p u b n q : ℕ) : Type 0 where
+  pub says :
+      run (definition base p) c m (p + 1)
+      ≡ topped p Definition (front (row 16 (p + 1) u b ∷ []) (on (run (namesLeft n 0) c m q) (λ e k c′. Got e n [] (defined n c′))))
+  pub few : n ≤ 256
+  pub free : length (c .classes) < 256
+  pub onward : p + 2 < q
+  pub within : q ≤ length m
+
+abbrev pub ClassSays : List ℕ → Known → ℕ → ClassRead → Type 0
+ClassSays m c p (class-read.Is u b n q) = ClassIs m c p u b n q
+ClassSays m c p (class-read.Wrong x o) = run (definition base p) c m (p + 1) ≡ Lost x o
+
+pub record ClassMet (m : List ℕ) (c : Known) (p : ℕ) (r : ClassRead) : Type 0 where
+  pub says : ClassSays m c p r
+
+-- the n field names from p on are read, up to q: rows from k on
+pub record NamesAre (m : List ℕ) (p n k : ℕ) (t b : List ℕ) (q : ℕ) (t′ b′ : List ℕ) : Type 0 where
+  pub rows : List Row
+  pub says : (c : Known) → run (namesLeft n 0) c m p ≡ Got q n rows c
+  pub counted : length rows ≡ n
+  pub laid : Laid t b k rows t′ b′
+  pub onward : p + n ≤ q
+  pub within : q ≤ length m
+
+abbrev pub NamesSay : List ℕ → ℕ → ℕ → ℕ → List ℕ → List ℕ → Names → List ℕ → List ℕ → Type 0
+NamesSay m p n k t b (names.Past q) t′ b′ = NamesAre m p n k t b q t′ b′
+NamesSay m p n k t b (names.Wrong x o) t′ b′ = (c : Known) → run (namesLeft n 0) c m p ≡ Lost x o
+
+pub record NamesMet (m : List ℕ) (p n k : ℕ) (t b : List ℕ) (r : Names) (t′ b′ : List ℕ) : Type 0 where
+  pub says : NamesSay m p n k t b r t′ b′
+
+-- a class of n fields gets the next number
+pub record Defined (ks : List ℕ) (n : ℕ) (ks′ : List ℕ) : Type 0 where
+  pub known : knownIn ks′ ≡ defined n (knownIn ks)
+  pub kept : Kept ks′
+  pub references : getD ks′ 258 0 ≡ getD ks 258 0
+
+-- the definition whose 43 is at p
+pub record DefinitionMet (m : List ℕ) (p n : ℕ) (ks t b : List ℕ) (r : Out) (ks′ t′ b′ : List ℕ) : Type 0 where
+  pub says : Outcomes (run (definition base p) (knownIn ks) m (p + 1)) m p n t b r ks′ t′ b′
+
+-- the definitions at p are read, up to q: what is left there is a value with none before it
+pub record Passed (m : List ℕ) (p n : ℕ) (ks t b : List ℕ) (q k : ℕ) (ks′ t′ b′ : List ℕ) : Type 0 where
+  pub rows : List Row
+  pub says : (d : ℕ) → run (byteAt (valueFrom base d)) (knownIn ks) m p ≡ front rows (run (byteAt (plain base d)) (knownIn ks′) m q)
+  pub moved : Moved m p n t b q k ks′ t′ b′ rows
+
+abbrev pub DefinitionsSay : List ℕ → ℕ → ℕ → List ℕ → List ℕ → List ℕ → Out → List ℕ → List ℕ → List ℕ → Type 0
+DefinitionsSay m p n ks t b (out.Done q k) ks′ t′ b′ = Passed m p n ks t b q k ks′ t′ b′
+DefinitionsSay m p n ks t b (out.Fault x y) ks′ t′ b′ = (d : ℕ) → run (byteAt (valueFrom base d)) (knownIn ks) m p ≡ Lost x y
+
+pub record DefinitionsMet (m : List ℕ) (p n : ℕ) (ks t b : List ℕ) (r : Out) (ks′ t′ b′ : List ℕ) : Type 0 where
+  pub says : DefinitionsSay m p n ks t b r ks′ t′ b′
+
+-- ---- values
+-- the value at p is read up to the values inside it: a list, map or object at y, with the row j; its values begin at q, their rows at k
+pub record Inner (o : Placed One) (d : ℕ) (m : List ℕ) (p n : ℕ) (t b : List ℕ) (y j : ℕ) (g : Group) (of : TypeItem) (given q k : ℕ) (ks′ t′ b′ : List ℕ) : Type 0 where
+  -- the rows before its own, and those of its type
+  pub before : List Row
+  pub says : o ≡ front before (topped y (heading g (typeOf given of)) (front (typeRows (y + 1) of) (run (rest (valueFrom base (d - 1)) g 0) (knownIn ks′) m q)))
+  pub first : j ≡ n + length before
+  pub counted : k ≡ j + 1 + length (typeRows (y + 1) of)
+  pub between-t : List ℕ
+  pub between-b : List ℕ
+  pub laid-before : Laid t b n before between-t between-b
+  pub laid : Laid between-t between-b (j + 1) (typeRows (y + 1) of) t′ b′
+  pub onward : p ≤ y
+  pub deeper : y < q
+  pub open-one : 0 < d
+  pub ready : Ready m ks′ q k
+
+abbrev pub BeginSays : Placed One → ℕ → List ℕ → ℕ → ℕ → List ℕ → List ℕ → Begun → List ℕ → List ℕ → List ℕ → Type 0
+BeginSays o d m p n t b (begun.Past q k) ks′ t′ b′ = Went o m p n t b q k ks′ t′ b′
+BeginSays o d m p n t b (begun.Within y j g of given q k) ks′ t′ b′ = Inner o d m p n t b y j g of given q k ks′ t′ b′
+BeginSays o d m p n t b (begun.Fault x y) ks′ t′ b′ = o ≡ Lost x y
+
+pub record BeginMet (d : ℕ) (m : List ℕ) (p n : ℕ) (ks t b : List ℕ) (r : Begun) (ks′ t′ b′ : List ℕ) : Type 0 where
+  pub says : BeginSays (run (byteAt (valueFrom base d)) (knownIn ks) m p) d m p n t b r ks′ t′ b′
+
+-- the values of a group from p on are read, up to q: there are i of them
+pub record ValuesAre (o : Placed ℕ) (m : List ℕ) (p n : ℕ) (t b : List ℕ) (g : Group) (q k i : ℕ) (ks′ t′ b′ : List ℕ) : Type 0 where
+  pub rows : List Row
+  pub says : o ≡ Got q (parts g i) rows (knownIn ks′)
+  pub moved : Moved m p n t b q k ks′ t′ b′ rows
+
+abbrev pub ValuesSay : Placed ℕ → List ℕ → ℕ → ℕ → List ℕ → List ℕ → Group → Values → List ℕ → List ℕ → List ℕ → Type 0
+ValuesSay o m p n t b g (values.Done q k i) ks′ t′ b′ = ValuesAre o m p n t b g q k i ks′ t′ b′
+ValuesSay o m p n t b g (values.Fault x y) ks′ t′ b′ = o ≡ Lost x y
+
+pub record ValuesMet (d : ℕ) (m : List ℕ) (p n : ℕ) (ks t b : List ℕ) (g : Group) (r : Values) (ks′ t′ b′ : List ℕ) : Type 0 where
+  pub says : ValuesSay (run (rest (valueFrom base d) g 0) (knownIn ks) m p) m p n t b g r ks′ t′ b′
+
+-- ---- messages
+pub record Record (m : List ℕ) (n : ℕ) : Type 0 where
+  pub rows : List Row
+  pub after : Known
+  pub says : run (byteAt (valueFrom base 32)) start m 0 ≡ Got (length m) tt rows after
+  pub counted : length rows ≡ n
+  pub some : 0 < length m
+  pub short : length m ≤ 262_144
+
+abbrev pub JudgeSays : List ℕ → Judged → Type 0
+JudgeSays m (judged.Record n) = Record m n
+JudgeSays m (judged.Refused x o) = (lent : ℕ) → read base 32 262_144 lent m ≡ Refuse x 0 o
+
+pub record Judges (m : List ℕ) (r : Judged) : Type 0 where
+  pub says : JudgeSays m r
+
+-- the answer with `lent` rows, and both tables at the end
+pub record ReadsInto (m : List ℕ) (lent : ℕ) (t b : List ℕ) (r : ReadAnswer) (t′ b′ : List ℕ) : Type 0 where
+  pub says : report r ≡ reportRead (read base 32 262_144 lent m)
+  pub numbers : t′ ≡ filled asNumbers t (read base 32 262_144 lent m)
+  pub bytes : b′ ≡ filled asBytes b (read base 32 262_144 lent m)

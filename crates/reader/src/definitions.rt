@@ -1,0 +1,210 @@
+// Class definitions. The laws of their meaning are in record's specs/Definitions.antt.
+use crate::heads::Count;
+use scalar::texts::Kind;
+use scalar::texts::StringRead;
+ghost use mathlib.Core.Path.{_≡_};
+ghost use Prim.Native.Nat.{_+_, _^_, _≤_, _<_};
+ghost use lib.ListN.{getD};
+ghost use Rattle.scalar.specs.declared.chart.Lead.the-variants as lead;
+ghost use Rattle.reader.specs.Inside.{At, Kept, Ready, Led, knownIn, defines, FieldsMet, ClassMet, NamesMet, Defined, DefinitionMet, DefinitionsMet};
+
+// A class's name, by its units and bytes, its number of fields, and where their names begin; or a refusal's number and place.
+pub enum ClassRead {
+    Is {
+        units: u64,
+        bytes: u64,
+        fields: usize,
+        next: usize,
+    },
+    Wrong {
+        number: u8,
+        place: usize,
+    },
+}
+
+// The place past field names; or a refusal's number and place.
+pub enum Names {
+    Past { next: usize },
+    Wrong { number: u8, place: usize },
+}
+
+// What reading something comes to: the place past it, and the rows so far; or a refusal's number and place.
+pub enum Out {
+    Done { next: usize, rows: usize },
+    Fault { number: u8, place: usize },
+}
+
+// The field count at `at`, after a class name of so many units and bytes.
+fn field_count(message: &[u8], at: usize, units: u64, bytes: u64) -> ClassRead
+    requires { ⌜ At (now message) at ⌝ }
+    ensures { λ r. ⌜ FieldsMet (now (message .entry)) at units bytes r ⌝ }
+{
+    match crate::heads::count_at(message, at) {
+        Count::Wrong { number, place } => ClassRead::Wrong { number, place },
+        Count::Is { value, size } => {
+            if 256 < value {
+                return ClassRead::Wrong {
+                    number: 7,
+                    place: at,
+                };
+            }
+            ClassRead::Is {
+                units,
+                bytes,
+                fields: value as usize,
+                next: at + size,
+            }
+        }
+    }
+}
+
+// The class name and the field count of the definition at `at`.
+fn class_head(message: &[u8], known: &[u64; 259], at: usize) -> ClassRead
+    requires { ⌜ Led (now message) at lead.Definition × Kept (now known) ⌝ }
+    ensures { λ r. ⌜ ClassMet (now (message .entry)) (knownIn (now (known .entry))) at r ⌝ }
+{
+    if 256 <= known[256] {
+        return ClassRead::Wrong {
+            number: 7,
+            place: at,
+        };
+    }
+    match scalar::texts::read_string(Kind::Utf8, message, at + 1) {
+        StringRead::Refused { number, place } => ClassRead::Wrong { number, place },
+        StringRead::Content { units, bytes, size } => field_count(
+            message,
+            at + 1 + size,
+            units as u64,
+            bytes as u64,
+        ),
+    }
+}
+
+// So many field names from `at` on: rows from `row` on.
+fn field_names(
+    message: &[u8],
+    numbers: &mut [u64],
+    bytes: &mut [u8],
+    at: usize,
+    count: usize,
+    row: usize,
+) -> Names
+    requires { ⌜ At (now message) at × (row + count < 2 ^ 64) ⌝ }
+    ensures { λ r. ⌜ NamesMet (now (message .entry)) at count row (now (numbers .entry)) (now (bytes .entry)) r (now (numbers .exit)) (now (bytes .exit)) ⌝ }
+{
+    let mut here = at;
+    let mut i: usize = 0;
+    while i < count {
+        match scalar::texts::read_string(Kind::Utf8, message, here) {
+            StringRead::Refused { number, place } => {
+                return Names::Wrong { number, place };
+            }
+            StringRead::Content {
+                units,
+                bytes: held,
+                size,
+            } => {
+                crate::rows::store_row(
+                    numbers,
+                    bytes,
+                    row + i,
+                    17,
+                    here,
+                    units as u64,
+                    held as u64,
+                );
+                here += size;
+                i += 1;
+            }
+        }
+    }
+    Names::Past { next: here }
+}
+
+// The class of so many fields gets the next number.
+fn define(known: &mut [u64; 259], fields: usize)
+    requires { ⌜ Kept (now known) × (getD (now known) 256 0 < 256) × (fields ≤ 256) ⌝ }
+    ensures { λ _. ⌜ Defined (now (known .entry)) fields (now (known .exit)) ⌝ }
+{
+    let given = known[256];
+    let k = given as usize;
+    known[k] = fields as u64;
+    known[256] = given + 1;
+}
+
+// The definition at `at`: its class gets the next number when its field names are read.
+fn definition(
+    message: &[u8],
+    numbers: &mut [u64],
+    bytes: &mut [u8],
+    known: &mut [u64; 259],
+    at: usize,
+    rows: usize,
+) -> Out
+    requires { ⌜ Led (now message) at lead.Definition × Ready (now message) (now known) at rows ⌝ }
+    ensures { λ r. ⌜ DefinitionMet (now (message .entry)) at rows (now (known .entry)) (now (numbers .entry)) (now (bytes .entry)) r (now (known .exit)) (now (numbers .exit)) (now (bytes .exit)) ⌝ }
+{
+    match class_head(message, known, at) {
+        ClassRead::Wrong { number, place } => Out::Fault { number, place },
+        ClassRead::Is {
+            units,
+            bytes: held,
+            fields,
+            next,
+        } => match field_names(message, numbers, bytes, next, fields, rows + 2) {
+            Names::Wrong { number, place } => Out::Fault { number, place },
+            Names::Past { next: end } => {
+                crate::rows::store_row(numbers, bytes, rows + 1, 16, at + 1, units, held);
+                crate::rows::store_row(numbers, bytes, rows, 15, at, fields as u64, 0);
+                define(known, fields);
+                Out::Done {
+                    next: end,
+                    rows: rows + 2 + fields,
+                }
+            }
+        },
+    }
+}
+
+// Whether a class definition stands at `at`.
+fn defined_at(message: &[u8], at: usize) -> bool
+    ensures { λ r. ⌜ r ≡ defines (now (message .entry)) at ⌝ }
+{
+    if message.len() <= at {
+        return false;
+    }
+    message[at] == 0x43
+}
+
+// The definitions at `at`, if any: where what follows them stands.
+pub(crate) fn definitions(
+    message: &[u8],
+    numbers: &mut [u64],
+    bytes: &mut [u8],
+    known: &mut [u64; 259],
+    at: usize,
+    rows: usize,
+) -> Out
+    requires { ⌜ Ready (now message) (now known) at rows ⌝ }
+    ensures { λ r. ⌜ DefinitionsMet (now (message .entry)) at rows (now (known .entry)) (now (numbers .entry)) (now (bytes .entry)) r (now (known .exit)) (now (numbers .exit)) (now (bytes .exit)) ⌝ }
+{
+    let mut here = at;
+    let mut row = rows;
+    loop {
+        if !defined_at(message, here) {
+            return Out::Done {
+                next: here,
+                rows: row,
+            };
+        }
+        match definition(message, numbers, bytes, known, here, row) {
+            Out::Fault { number, place } => {
+                return Out::Fault { number, place };
+            }
+            Out::Done { next, rows: r } => {
+                here = next;
+                row = r;
+            }
+        }
+    }
+}

@@ -1,0 +1,446 @@
+// What a value begins with, when no class definition stands before it. The laws of its meaning are in record's specs/Values.antt.
+//
+// What is known is kept in an array: each class's number of fields; then how many classes, types and references are given.
+use record::Group;
+use scalar::chart::Lead;
+use scalar::numbers::NumberRead;
+use scalar::numbers::Sort;
+use scalar::texts::Kind;
+use scalar::texts::StringRead;
+ghost use mathlib.Core.Path.{_≡_};
+ghost use Prim.Native.Nat.{_+_, _^_, _<_};
+ghost use lib.ListN.{length, getD};
+ghost use Rattle.scalar.specs.declared.chart.Lead.the-variants as lead;
+ghost use Rattle.scalar.specs.Numbers.{numberAt};
+ghost use Rattle.scalar.specs.Answers.{told};
+ghost use Rattle.record.specs.Rows.{sortKind};
+ghost use Rattle.reader.specs.declared.heads.Head.the-variants as head;
+ghost use Rattle.reader.specs.Inside.{At, Kept, Led, High, NoName, Holding, knownIn, CountMet, CountFits, TypeMet, ListAt, ListMet, holderOf, instanceOf, LeafMet, PlainMet, HolderMet, Heads};
+
+// The type of a list or map: none; a name, by its units and bytes; a number.
+pub enum TypeItem {
+    Untyped,
+    Named { units: u64, bytes: u64 },
+    Numbered { number: u64 },
+}
+
+// A value's head.
+pub enum Head {
+    // A value with no values inside: its row, and the place past it.
+    Leaf {
+        kind: u64,
+        first: u64,
+        second: u64,
+        next: usize,
+    },
+    // A list, map or object: how its values are counted, where they begin, and its type. In this order none of its bytes overlaps a
+    // part of a leaf's `next`, which costs time where heads of both are made.
+    Holder {
+        group: Group,
+        next: usize,
+        of: TypeItem,
+    },
+    Wrong {
+        number: u8,
+        place: usize,
+    },
+}
+
+// A count, and the bytes that it takes; or a refusal's number and place.
+pub enum Count {
+    Is { value: u64, size: usize },
+    Wrong { number: u8, place: usize },
+}
+
+// A type, and the place past it; or a refusal's number and place.
+pub enum TypeRead {
+    Is { of: TypeItem, next: usize },
+    Wrong { number: u8, place: usize },
+}
+
+// The count at `at`. A negative one is refused.
+pub(crate) fn count_at(message: &[u8], at: usize) -> Count
+    requires { ⌜ At (now message) at ⌝ }
+    ensures { λ r. ⌜ CountMet (now (message .entry)) at r ⌝ }
+{
+    match scalar::numbers::read_number(Sort::Int, message, at) {
+        NumberRead::Refused { number, place } => Count::Wrong { number, place },
+        NumberRead::Value { value, size } => {
+            if value < 0x8000_0000_0000_0000 {
+                Count::Is { value, size }
+            } else {
+                Count::Wrong {
+                    number: 5,
+                    place: at,
+                }
+            }
+        }
+    }
+}
+
+// The type name at `at`, which gets the next type number.
+fn named_type(message: &[u8], known: &[u64; 259], at: usize) -> TypeRead
+    requires { ⌜ Led (now message) at lead.Text ⌝ }
+    ensures { λ r. ⌜ TypeMet (now (message .entry)) (getD (now (known .entry)) 257 0) at r ⌝ }
+{
+    if 256 <= known[257] {
+        return TypeRead::Wrong {
+            number: 7,
+            place: at,
+        };
+    }
+    match scalar::texts::read_string(Kind::Utf8, message, at) {
+        StringRead::Refused { number, place } => TypeRead::Wrong { number, place },
+        StringRead::Content { units, bytes, size } => TypeRead::Is {
+            of: TypeItem::Named {
+                units: units as u64,
+                bytes: bytes as u64,
+            },
+            next: at + size,
+        },
+    }
+}
+
+// The type number at `at`, where no type name stands.
+fn numbered_type(message: &[u8], known: &[u64; 259], at: usize) -> TypeRead
+    requires { ⌜ NoName (now message) at ⌝ }
+    ensures { λ r. ⌜ TypeMet (now (message .entry)) (getD (now (known .entry)) 257 0) at r ⌝ }
+{
+    match scalar::numbers::read_number(Sort::Int, message, at) {
+        NumberRead::Refused { number, place } => TypeRead::Wrong { number, place },
+        NumberRead::Value { value, size } => {
+            if value < known[257] {
+                return TypeRead::Is {
+                    of: TypeItem::Numbered { number: value },
+                    next: at + size,
+                };
+            }
+            TypeRead::Wrong {
+                number: 6,
+                place: at,
+            }
+        }
+    }
+}
+
+// The type at `at`.
+fn type_at(message: &[u8], known: &[u64; 259], at: usize) -> TypeRead
+    requires { ⌜ At (now message) at ⌝ }
+    ensures { λ r. ⌜ TypeMet (now (message .entry)) (getD (now (known .entry)) 257 0) at r ⌝ }
+{
+    if message.len() <= at {
+        return TypeRead::Wrong {
+            number: 2,
+            place: at,
+        };
+    }
+    if scalar::chart::entry(message[at]) / 10 == 7 {
+        return named_type(message, known, at);
+    }
+    numbered_type(message, known, at)
+}
+
+// The kind of the row of a number.
+fn kind_of(sort: Sort) -> u64
+    ensures { λ r. ⌜ r ≡ sortKind sort ⌝ }
+{
+    match sort {
+        Sort::Null => 0,
+        Sort::False => 1,
+        Sort::True => 2,
+        Sort::Int => 3,
+        Sort::Long => 4,
+        Sort::Double => 5,
+        Sort::Date => 6,
+    }
+}
+
+// The head of a number of this kind, as it was read.
+fn number_leaf(sort: Sort, message: &[u8], at: usize, n: NumberRead) -> Head
+    requires { ⌜ Led (now message) at (lead.Number sort) × (told n ≡ numberAt sort (now message) at) ⌝ }
+    ensures { λ r. ⌜ LeafMet (now (message .entry)) at r ⌝ }
+{
+    match n {
+        NumberRead::Refused { number, place } => Head::Wrong { number, place },
+        NumberRead::Value { value, size } => Head::Leaf {
+            kind: kind_of(sort),
+            first: value,
+            second: 0,
+            next: at + size,
+        },
+    }
+}
+
+// A number with one form, of one byte, and the value 0: the kind of its row is given.
+fn single_leaf(kind: u64, at: usize) -> Head
+    requires { ⌜ at + 1 < 2 ^ 64 ⌝ }
+    ensures { λ r. ⌜ r ≡ head.Leaf kind 0 0 (at + 1) ⌝ }
+{
+    Head::Leaf {
+        kind,
+        first: 0,
+        second: 0,
+        next: at + 1,
+    }
+}
+
+// The head of a number of this kind.
+fn number_head(sort: Sort, message: &[u8], at: usize) -> Head
+    requires { ⌜ Led (now message) at (lead.Number sort) ⌝ }
+    ensures { λ r. ⌜ LeafMet (now (message .entry)) at r ⌝ }
+{
+    match sort {
+        Sort::Null => single_leaf(0, at),
+        Sort::False => single_leaf(1, at),
+        Sort::True => single_leaf(2, at),
+        Sort::Int => {
+            let n = scalar::direct::read_wide_int(message, at);
+            number_leaf(Sort::Int, message, at, n)
+        }
+        Sort::Long => {
+            let n = scalar::direct::read_wide_long(message, at);
+            number_leaf(Sort::Long, message, at, n)
+        }
+        Sort::Double => {
+            let n = scalar::direct::read_double(message, at);
+            number_leaf(Sort::Double, message, at, n)
+        }
+        Sort::Date => {
+            let n = scalar::direct::read_date(message, at);
+            number_leaf(Sort::Date, message, at, n)
+        }
+    }
+}
+
+// The head of an int or long, by its first byte b, which is 0x80 or above.
+fn high_head(message: &[u8], at: usize, b: u8) -> Head
+    requires { ⌜ High (now message) at b ⌝ }
+    ensures { λ r. ⌜ LeafMet (now (message .entry)) at r ⌝ }
+{
+    if b < 0xd8 {
+        let n = scalar::direct::read_int(message, at);
+        return number_leaf(Sort::Int, message, at, n);
+    }
+    let n = scalar::direct::read_long(message, at);
+    number_leaf(Sort::Long, message, at, n)
+}
+
+// The head of a text.
+fn text_head(message: &[u8], at: usize) -> Head
+    requires { ⌜ Led (now message) at lead.Text ⌝ }
+    ensures { λ r. ⌜ LeafMet (now (message .entry)) at r ⌝ }
+{
+    match scalar::texts::read_string(Kind::Utf8, message, at) {
+        StringRead::Refused { number, place } => Head::Wrong { number, place },
+        StringRead::Content { units, bytes, size } => Head::Leaf {
+            kind: 7,
+            first: units as u64,
+            second: bytes as u64,
+            next: at + size,
+        },
+    }
+}
+
+// The head of a byte string.
+fn bytes_head(message: &[u8], at: usize) -> Head
+    requires { ⌜ Led (now message) at lead.Bytes ⌝ }
+    ensures { λ r. ⌜ LeafMet (now (message .entry)) at r ⌝ }
+{
+    match scalar::texts::read_string(Kind::Binary, message, at) {
+        StringRead::Refused { number, place } => Head::Wrong { number, place },
+        StringRead::Content {
+            units: _,
+            bytes,
+            size,
+        } => Head::Leaf {
+            kind: 8,
+            first: bytes as u64,
+            second: 0,
+            next: at + size,
+        },
+    }
+}
+
+// The head of a reference.
+fn reference_head(message: &[u8], known: &[u64; 259], at: usize) -> Head
+    requires { ⌜ Led (now message) at lead.Reference ⌝ }
+    ensures { λ r. ⌜ PlainMet (now (message .entry)) (knownIn (now (known .entry))) at r ⌝ }
+{
+    match scalar::numbers::read_number(Sort::Int, message, at + 1) {
+        NumberRead::Refused { number, place } => Head::Wrong { number, place },
+        NumberRead::Value { value, size } => {
+            if value < known[258] {
+                return Head::Leaf {
+                    kind: 14,
+                    first: value,
+                    second: 0,
+                    next: at + 1 + size,
+                };
+            }
+            Head::Wrong {
+                number: 6,
+                place: at,
+            }
+        }
+    }
+}
+
+// A list of this type whose count was read at `at`, and its values after that.
+fn counted(of: TypeItem, at: usize, n: Count) -> Head
+    requires { ⌜ CountFits at n ⌝ }
+    ensures { λ r. ⌜ r ≡ holderOf of at n ⌝ }
+{
+    match n {
+        Count::Wrong { number, place } => Head::Wrong { number, place },
+        Count::Is { value, size } => Head::Holder {
+            group: Group::Counted(value),
+            of,
+            next: at + size,
+        },
+    }
+}
+
+// A list of this type, by its first byte b: `open_code` is the code of the open form, the next one that of the counted form, and
+// those from `few` on are the one-byte forms. Its count or its values are at `at`.
+fn list_of(message: &[u8], b: u8, open_code: u8, few: u8, of: TypeItem, at: usize) -> Head
+    requires { ⌜ ListAt (now message) b open_code few at ⌝ }
+    ensures { λ r. ⌜ ListMet (now (message .entry)) b open_code few of at r ⌝ }
+{
+    if b == open_code {
+        return Head::Holder {
+            group: Group::Open,
+            of,
+            next: at,
+        };
+    }
+    if b == open_code + 1 {
+        let n = count_at(message, at);
+        return counted(of, at, n);
+    }
+    Head::Holder {
+        group: Group::Counted(wire::wide(b - few)),
+        of,
+        next: at,
+    }
+}
+
+// The head of an untyped list.
+fn list_head(message: &[u8], known: &[u64; 259], at: usize) -> Head
+    requires { ⌜ Led (now message) at lead.List ⌝ }
+    ensures { λ r. ⌜ HolderMet (now (message .entry)) (knownIn (now (known .entry))) at r ⌝ }
+{
+    list_of(message, message[at], 0x57, 0x78, TypeItem::Untyped, at + 1)
+}
+
+// The head of a typed list.
+fn typed_list_head(message: &[u8], known: &[u64; 259], at: usize) -> Head
+    requires { ⌜ Led (now message) at lead.TypedList ⌝ }
+    ensures { λ r. ⌜ HolderMet (now (message .entry)) (knownIn (now (known .entry))) at r ⌝ }
+{
+    match type_at(message, known, at + 1) {
+        TypeRead::Wrong { number, place } => Head::Wrong { number, place },
+        TypeRead::Is { of, next } => list_of(message, message[at], 0x55, 0x70, of, next),
+    }
+}
+
+// The head of a typed map.
+fn typed_map_head(message: &[u8], known: &[u64; 259], at: usize) -> Head
+    requires { ⌜ Led (now message) at lead.TypedMap ⌝ }
+    ensures { λ r. ⌜ HolderMet (now (message .entry)) (knownIn (now (known .entry))) at r ⌝ }
+{
+    match type_at(message, known, at + 1) {
+        TypeRead::Wrong { number, place } => Head::Wrong { number, place },
+        TypeRead::Is { of, next } => Head::Holder {
+            group: Group::Pairs,
+            of,
+            next,
+        },
+    }
+}
+
+// An object of this class, whose code stands at `at` and whose fields begin at `next`.
+fn instance(known: &[u64; 259], at: usize, class: u64, next: usize) -> Head
+    requires { ⌜ Kept (now known) ⌝ }
+    ensures { λ r. ⌜ r ≡ instanceOf (now (known .entry)) at class next ⌝ }
+{
+    if class < known[256] {
+        let k = class as usize;
+        return Head::Holder {
+            group: Group::Fields(class, known[k]),
+            of: TypeItem::Untyped,
+            next,
+        };
+    }
+    Head::Wrong {
+        number: 6,
+        place: at,
+    }
+}
+
+// The head of an object.
+fn object_head(message: &[u8], known: &[u64; 259], at: usize) -> Head
+    requires { ⌜ Led (now message) at lead.Object × Kept (now known) ⌝ }
+    ensures { λ r. ⌜ HolderMet (now (message .entry)) (knownIn (now (known .entry))) at r ⌝ }
+{
+    let b = message[at];
+    if b == 0x4f {
+        return match scalar::numbers::read_number(Sort::Int, message, at + 1) {
+            NumberRead::Refused { number, place } => Head::Wrong { number, place },
+            NumberRead::Value { value, size } => instance(known, at, value, at + 1 + size),
+        };
+    }
+    instance(known, at, wire::wide(b - 0x60), at + 1)
+}
+
+// The head of a list, map or object, where as many as allowed may still open.
+fn opening(message: &[u8], known: &[u64; 259], at: usize, allowed: usize, l: Lead) -> Head
+    requires { ⌜ Led (now message) at l × Holding l × Kept (now known) ⌝ }
+    ensures { λ r. ⌜ Heads allowed (now (message .entry)) (knownIn (now (known .entry))) at r ⌝ }
+{
+    if allowed == 0 {
+        return Head::Wrong {
+            number: 7,
+            place: at,
+        };
+    }
+    match l {
+        Lead::List => list_head(message, known, at),
+        Lead::TypedList => typed_list_head(message, known, at),
+        Lead::Map => Head::Holder {
+            group: Group::Pairs,
+            of: TypeItem::Untyped,
+            next: at + 1,
+        },
+        Lead::TypedMap => typed_map_head(message, known, at),
+        _ => object_head(message, known, at),
+    }
+}
+
+// The head of the value at `at`, where as many lists, maps and objects as allowed may still open.
+pub(crate) fn head_at(message: &[u8], known: &[u64; 259], at: usize, allowed: usize) -> Head
+    requires { ⌜ At (now message) at × Kept (now known) ⌝ }
+    ensures { λ r. ⌜ Heads allowed (now (message .entry)) (knownIn (now (known .entry))) at r ⌝ }
+{
+    if message.len() <= at {
+        return Head::Wrong {
+            number: 2,
+            place: at,
+        };
+    }
+    let b = message[at];
+    if 0x80 <= b {
+        return high_head(message, at, b);
+    }
+    let l = scalar::chart::classify(b);
+    match l {
+        Lead::Number(sort) => number_head(sort, message, at),
+        Lead::Text => text_head(message, at),
+        Lead::Bytes => bytes_head(message, at),
+        Lead::Reference => reference_head(message, known, at),
+        Lead::Definition | Lead::Close | Lead::Reserved => Head::Wrong {
+            number: 3,
+            place: at,
+        },
+        _ => opening(message, known, at, allowed, l),
+    }
+}

@@ -1,0 +1,127 @@
+// Reads a message into a table of rows. What a message reads as is in record's specs/Reading.antt, what the reader answers in its
+// specs/Answers.antt and Tables.antt.
+pub mod definitions;
+pub mod heads;
+pub mod rows;
+pub mod values;
+
+use crate::values::Values;
+use record::Group;
+ghost use mathlib.Core.Path.{_≡_};
+ghost use Rattle.record.specs.Answers.{base};
+ghost use Rattle.record.specs.Tables.{asNumbers, asBytes, readReport, readTable};
+ghost use Rattle.reader.specs.Answers.{report};
+ghost use Rattle.reader.specs.Inside.{Judges, ReadsInto};
+
+// The longest message.
+const LONGEST: usize = 262_144;
+
+// How many lists, maps and objects may be open at once.
+const ALLOWANCE: usize = 32;
+
+// What reading a message comes to: the rows and the bytes read; a refusal's number and place; the rows needed, where fewer are lent.
+pub enum ReadAnswer {
+    Accepted { rows: usize, length: usize },
+    Refused { number: u8, place: usize },
+    TooFew { needed: usize },
+}
+
+// Whether a message is accepted, with how many rows; or a refusal's number and place.
+pub enum Judged {
+    Record { rows: usize },
+    Refused { number: u8, place: usize },
+}
+
+// Judges the message, and counts its rows. Nothing is stored.
+fn judge(message: &[u8]) -> Judged
+    ensures { λ r. ⌜ Judges (now (message .entry)) r ⌝ }
+{
+    let len = message.len();
+    if len == 0 {
+        return Judged::Refused {
+            number: 1,
+            place: 0,
+        };
+    }
+    if LONGEST < len {
+        return Judged::Refused {
+            number: 1,
+            place: 0,
+        };
+    }
+    let mut numbers = [0u64; 1];
+    let mut bytes = [0u8; 1];
+    let mut known = [0u64; 259];
+    match values::read_values(
+        message,
+        &mut numbers[..0],
+        &mut bytes[..0],
+        &mut known,
+        0,
+        0,
+        Group::Counted(1),
+        ALLOWANCE,
+    ) {
+        Values::Fault { number, place } => Judged::Refused { number, place },
+        Values::Done {
+            next,
+            rows,
+            count: _,
+        } => {
+            if next < len {
+                return Judged::Refused {
+                    number: 8,
+                    place: next,
+                };
+            }
+            Judged::Record { rows }
+        }
+    }
+}
+
+// Reads the message into both tables, with so many rows lent: judges and counts first, then fills, so that a refusal stores nothing.
+fn read_into(message: &[u8], numbers: &mut [u64], bytes: &mut [u8], lent: usize) -> ReadAnswer
+    ensures { λ r. ⌜ ReadsInto (now (message .entry)) lent (now (numbers .entry)) (now (bytes .entry)) r (now (numbers .exit)) (now (bytes .exit)) ⌝ }
+{
+    match judge(message) {
+        Judged::Refused { number, place } => ReadAnswer::Refused { number, place },
+        Judged::Record { rows } => {
+            if lent < rows {
+                return ReadAnswer::TooFew { needed: rows };
+            }
+            let mut known = [0u64; 259];
+            values::read_values(
+                message,
+                numbers,
+                bytes,
+                &mut known,
+                0,
+                0,
+                Group::Counted(1),
+                ALLOWANCE,
+            );
+            ReadAnswer::Accepted {
+                rows,
+                length: message.len(),
+            }
+        }
+    }
+}
+
+// Reads the message into a table of four numbers a row.
+pub fn read(message: &[u8], table: &mut [u64]) -> ReadAnswer
+    ensures { λ r. ⌜ (report r ≡ readReport base 32 262144 asNumbers (now (message .entry)) (now (table .entry))) × (now (table .exit) ≡ readTable base 32 262144 asNumbers (now (message .entry)) (now (table .entry))) ⌝ }
+{
+    let lent = table.len() / 4;
+    let mut bytes = [0u8; 1];
+    read_into(message, table, &mut bytes[..0], lent)
+}
+
+// Reads the message into a table of 32 bytes a row, each number as eight bytes, the highest first.
+pub fn read_bytes(message: &[u8], table: &mut [u8]) -> ReadAnswer
+    ensures { λ r. ⌜ (report r ≡ readReport base 32 262144 asBytes (now (message .entry)) (now (table .entry))) × (now (table .exit) ≡ readTable base 32 262144 asBytes (now (message .entry)) (now (table .entry))) ⌝ }
+{
+    let lent = table.len() / 32;
+    let mut numbers = [0u64; 1];
+    read_into(message, &mut numbers[..0], table, lent)
+}

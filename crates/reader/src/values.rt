@@ -1,0 +1,307 @@
+// Values: class definitions, a head, and the values inside. The laws of their meaning are in record's specs/Runs.antt and Values.antt.
+use crate::definitions::Out;
+use crate::heads::Head;
+use crate::heads::TypeItem;
+use record::Group;
+ghost use mathlib.Core.Path.{_≡_};
+ghost use mathlib.Core.List.{[], _∷_};
+ghost use Prim.Native.Nat.{_+_, _^_, _<_};
+ghost use lib.ListN.{getD};
+ghost use Rattle.record.specs.Rows.{itemRow};
+ghost use Rattle.record.specs.Runs.{closes, stops, past, parts};
+ghost use Rattle.record.specs.Values.{heading};
+ghost use Rattle.reader.specs.Inside.{Kept, Ready, Laid, typeOf, typeRows, typeTag, typeSecond, TypeRoom, Entered, HolderRow, BeginMet, ValuesMet};
+
+// How a value begins: it is read; a list, map or object stands at `at`, where so many types were given, its row is `row`, and its values
+// begin at `next`, with rows from `rows` on; or a refusal.
+pub enum Begun {
+    Past {
+        next: usize,
+        rows: usize,
+    },
+    Within {
+        at: usize,
+        row: usize,
+        group: Group,
+        of: TypeItem,
+        given: u64,
+        next: usize,
+        rows: usize,
+    },
+    Fault {
+        number: u8,
+        place: usize,
+    },
+}
+
+// What reading values comes to: the place past them, the rows so far, and how many they are; or a refusal's number and place.
+pub enum Values {
+    Done {
+        next: usize,
+        rows: usize,
+        count: u64,
+    },
+    Fault {
+        number: u8,
+        place: usize,
+    },
+}
+
+// Whether 5a stands at `at`.
+fn closed_at(message: &[u8], at: usize) -> bool
+    ensures { λ r. ⌜ r ≡ closes (now (message .entry)) at ⌝ }
+{
+    if message.len() <= at {
+        return false;
+    }
+    message[at] == 0x5a
+}
+
+// Whether no value is left at `at`, after i of them.
+fn stop(message: &[u8], group: Group, i: u64, at: usize) -> bool
+    ensures { λ r. ⌜ r ≡ stops (now (message .entry)) group i at ⌝ }
+{
+    match group {
+        Group::Counted(n) => i == n,
+        Group::Fields(_, n) => i == n,
+        Group::Open => closed_at(message, at),
+        Group::Pairs => {
+            if i % 2 == 0 {
+                return closed_at(message, at);
+            }
+            false
+        }
+    }
+}
+
+// The place past values that end at `at`.
+fn passed(group: Group, at: usize) -> usize
+    requires { ⌜ at + 1 < 2 ^ 64 ⌝ }
+    ensures { λ r. ⌜ r ≡ past group at ⌝ }
+{
+    match group {
+        Group::Counted(_) => at,
+        Group::Fields(_, _) => at,
+        Group::Open => at + 1,
+        Group::Pairs => at + 1,
+    }
+}
+
+// The row `index` of the type at `place`, if there is one.
+fn store_type(numbers: &mut [u64], bytes: &mut [u8], index: usize, place: usize, of: TypeItem)
+    ensures { λ _. ⌜ Laid (now (numbers .entry)) (now (bytes .entry)) index (typeRows place of) (now (numbers .exit)) (now (bytes .exit)) ⌝ }
+{
+    match of {
+        TypeItem::Untyped => {}
+        TypeItem::Named {
+            units,
+            bytes: size_of,
+        } => {
+            crate::rows::store_row(numbers, bytes, index, 18, place, units, size_of);
+        }
+        TypeItem::Numbered { number } => {
+            crate::rows::store_row(numbers, bytes, index, 19, place, number, 0);
+        }
+    }
+}
+
+// The numbers of a row but its place.
+pub struct Numbers {
+    pub kind: u64,
+    pub first: u64,
+    pub second: u64,
+}
+
+// One where there is a type.
+fn type_tag(of: TypeItem) -> u64
+    ensures { λ r. ⌜ r ≡ typeTag of ⌝ }
+{
+    match of {
+        TypeItem::Untyped => 0,
+        TypeItem::Named { units: _, bytes: _ } => 1,
+        TypeItem::Numbered { number: _ } => 1,
+    }
+}
+
+// The type's number, where so many are given; 0 where there is no type.
+fn type_second(of: TypeItem, given: u64) -> u64
+    ensures { λ r. ⌜ r ≡ typeSecond given of ⌝ }
+{
+    match of {
+        TypeItem::Untyped => 0,
+        TypeItem::Named { units: _, bytes: _ } => given,
+        TypeItem::Numbered { number } => number,
+    }
+}
+
+// The row of a list, map or object after i values; `given` types were given before it.
+fn holder_row(group: Group, of: TypeItem, given: u64, i: u64) -> Numbers
+    ensures { λ r. ⌜ HolderRow group of given i r ⌝ }
+{
+    match group {
+        Group::Fields(class, _) => Numbers {
+            kind: 13,
+            first: class,
+            second: i,
+        },
+        Group::Pairs => Numbers {
+            kind: 11 + type_tag(of),
+            first: i / 2,
+            second: type_second(of, given),
+        },
+        Group::Counted(_) => Numbers {
+            kind: 9 + type_tag(of),
+            first: i,
+            second: type_second(of, given),
+        },
+        Group::Open => Numbers {
+            kind: 9 + type_tag(of),
+            first: i,
+            second: type_second(of, given),
+        },
+    }
+}
+
+// The same, stored.
+fn store_holder(
+    numbers: &mut [u64],
+    bytes: &mut [u8],
+    index: usize,
+    place: usize,
+    group: Group,
+    of: TypeItem,
+    given: u64,
+    i: u64,
+)
+    ensures { λ _. ⌜ Laid (now (numbers .entry)) (now (bytes .entry)) index (itemRow place (heading group (typeOf given of) (parts group i)) ∷ []) (now (numbers .exit)) (now (bytes .exit)) ⌝ }
+{
+    let r = holder_row(group, of, given, i);
+    crate::rows::store_lent(numbers, bytes, index, r.kind, place, r.first, r.second);
+}
+
+// A list, map or object of this type opens: it gets the next reference number, and a type name the next type number. How many rows
+// its type has.
+fn enter(known: &mut [u64; 259], of: TypeItem) -> usize
+    requires { ⌜ Kept (now known) × (getD (now known) 258 0 + 1 < 2 ^ 64) × TypeRoom of (getD (now known) 257 0) ⌝ }
+    ensures { λ r. ⌜ Entered (now (known .entry)) of (now (known .exit)) r ⌝ }
+{
+    known[258] = known[258] + 1;
+    match of {
+        TypeItem::Untyped => 0,
+        TypeItem::Named { units: _, bytes: _ } => {
+            known[257] = known[257] + 1;
+            1
+        }
+        TypeItem::Numbered { number: _ } => 1,
+    }
+}
+
+// The definitions and the head of the value at `from`, and all of it where it holds no others.
+fn begin(
+    message: &[u8],
+    numbers: &mut [u64],
+    bytes: &mut [u8],
+    known: &mut [u64; 259],
+    from: usize,
+    row: usize,
+    allowed: usize,
+) -> Begun
+    requires { ⌜ Ready (now message) (now known) from row ⌝ }
+    ensures { λ r. ⌜ BeginMet allowed (now (message .entry)) from row (now (known .entry)) (now (numbers .entry)) (now (bytes .entry)) r (now (known .exit)) (now (numbers .exit)) (now (bytes .exit)) ⌝ }
+{
+    match crate::definitions::definitions(message, numbers, bytes, known, from, row) {
+        Out::Fault { number, place } => Begun::Fault { number, place },
+        Out::Done { next: at, rows } => match crate::heads::head_at(message, known, at, allowed) {
+            Head::Wrong { number, place } => Begun::Fault { number, place },
+            Head::Leaf {
+                kind,
+                first,
+                second,
+                next,
+            } => {
+                crate::rows::put_row(numbers, bytes, rows, kind, at, first, second);
+                Begun::Past {
+                    next,
+                    rows: rows + 1,
+                }
+            }
+            Head::Holder { group, of, next } => {
+                store_type(numbers, bytes, rows + 1, at + 1, of);
+                let given = known[257];
+                let more = enter(known, of);
+                Begun::Within {
+                    at,
+                    row: rows,
+                    group,
+                    of,
+                    given,
+                    next,
+                    rows: rows + 1 + more,
+                }
+            }
+        },
+    }
+}
+
+// Reads the values from `from` on that are left of a list, map or object, with as many more as allowed open within them.
+pub(crate) fn read_values(
+    message: &[u8],
+    numbers: &mut [u64],
+    bytes: &mut [u8],
+    known: &mut [u64; 259],
+    from: usize,
+    row: usize,
+    group: Group,
+    allowed: usize,
+) -> Values
+    requires { ⌜ Ready (now message) (now known) from row ⌝ }
+    ensures { λ r. ⌜ ValuesMet allowed (now (message .entry)) from row (now (known .entry)) (now (numbers .entry)) (now (bytes .entry)) group r (now (known .exit)) (now (numbers .exit)) (now (bytes .exit)) ⌝ }
+{
+    let mut at = from;
+    let mut rows = row;
+    let mut i: u64 = 0;
+    loop {
+        if stop(message, group, i, at) {
+            return Values::Done {
+                next: passed(group, at),
+                rows,
+                count: i,
+            };
+        }
+        match begin(message, numbers, bytes, known, at, rows, allowed) {
+            Begun::Fault { number, place } => {
+                return Values::Fault { number, place };
+            }
+            Begun::Past { next, rows: r } => {
+                at = next;
+                rows = r;
+                i += 1;
+            }
+            Begun::Within {
+                at: place,
+                row: k,
+                group: g,
+                of,
+                given,
+                next,
+                rows: r,
+            } => {
+                match read_values(message, numbers, bytes, known, next, r, g, allowed - 1) {
+                    Values::Fault { number, place: p } => {
+                        return Values::Fault { number, place: p };
+                    }
+                    Values::Done {
+                        next: end,
+                        rows: all,
+                        count,
+                    } => {
+                        store_holder(numbers, bytes, k, place, g, of, given, count);
+                        at = end;
+                        rows = all;
+                        i += 1;
+                    }
+                }
+            }
+        }
+    }
+}
