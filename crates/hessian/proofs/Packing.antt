@@ -1,0 +1,44 @@
+-- What the contract of `hessian_read` asks at each of its ways out: the parts of an answer are small.
+use mathlib.Core.Path.{_≡_, sym, ap, _∙_}
+use mathlib.Core.List.{List}
+use Prim.Native.Nat.{ℕ, _≤_}
+use native.Mathlib.Omega.{arith}
+use lib.ListN.{getD}
+use mir.Syntax.{w8}
+use mir.Val.{Fits}
+use Rattle.flow.specs.Tests.{bytes-all}
+use Rattle.scalar.specs.Answers.{Report}
+use Rattle.record.specs.Answers.{base}
+use Rattle.record.specs.Tables.{asBytes, lentRows, readReport}
+use Rattle.record.specs.Bounds.{answer-small}
+use Rattle.reader.specs.declared.ReadAnswer.{ReadAnswer}
+use Rattle.reader.specs.declared.ReadAnswer.the-variants.{Accepted, Refused, TooFew}
+use Rattle.reader.specs.Answers.{report}
+use Rattle.hessian.specs.Packed.{packed, answer}
+
+module _ (m t : List ℕ) (bytes : (i : ℕ) → Fits w8 (getD m i 0)) (r : ReadAnswer) (e : report r ≡ readReport base 32 262144 asBytes m t) where
+  small : (r′ : ReadAnswer) → r ≡ r′ → (report r′ .count ≤ 262144) × (report r′ .place ≤ 262144)
+  small r′ h =
+      let s = answer-small base 32 262144 (lentRows asBytes t) m (bytes-all m (λ i. bytes i .fits)) in
+      let f : report r′ ≡ readReport base 32 262144 asBytes m t = ap report (sym h) ∙ e in
+      let c = ap (λ (x : Report). x .count) f in
+      let p = ap (λ (x : Report). x .place) f in
+      (omega (arith, s .0), omega (arith, s .1))
+
+  pub small-accepted : (n k : ℕ) → r ≡ Accepted n k → (n ≤ 262144) × (k ≤ 262144)
+  small-accepted n k h = small (Accepted n k) h
+
+  pub small-refused : (x o : ℕ) → r ≡ Refused x o → (0 ≤ 262144) × (o ≤ 262144)
+  small-refused x o h = small (Refused x o) h
+
+  pub small-few : (n : ℕ) → r ≡ TooFew n → (n ≤ 262144) × (0 ≤ 262144)
+  small-few n h = small (TooFew n) h
+
+  pub packed-accepted : (n k v : ℕ) → r ≡ Accepted n k → v ≡ packed (answer 0 n k) → v ≡ packed (readReport base 32 262144 asBytes m t)
+  packed-accepted n k v h q = q ∙ ap packed (ap report (sym h) ∙ e)
+
+  pub packed-refused : (x o v : ℕ) → r ≡ Refused x o → v ≡ packed (answer x 0 o) → v ≡ packed (readReport base 32 262144 asBytes m t)
+  packed-refused x o v h q = q ∙ ap packed (ap report (sym h) ∙ e)
+
+  pub packed-few : (n v : ℕ) → r ≡ TooFew n → v ≡ packed (answer 9 n 0) → v ≡ packed (readReport base 32 262144 asBytes m t)
+  packed-few n v h q = q ∙ ap packed (ap report (sym h) ∙ e)

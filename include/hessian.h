@@ -1,0 +1,80 @@
+/*
+ * Hessian 2.0 records: read a message into a table of rows.
+ *
+ * Every function may be handed any bytes. It ends, touches nothing beyond what it was lent, and answers one number, which
+ * HESSIAN_NUMBER, HESSIAN_COUNT and HESSIAN_PLACE take apart. A refusal changes nothing that was lent. The functions keep no
+ * state, use no heap, and may be called from several threads at once. A pointer may not be null, even where its length is 0;
+ * what is read and what is written may not overlap.
+ */
+#ifndef HESSIAN_H
+#define HESSIAN_H
+
+#include <stddef.h>
+#include <stdint.h>
+
+#ifdef __cplusplus
+extern "C" {
+#endif
+
+/* The longest message, in bytes, and so the most rows of one. */
+#define HESSIAN_LONGEST 262144u
+
+/* The bytes of a row in a table: kind, place, first and second, eight bytes each, the highest first. */
+#define HESSIAN_ROW_SIZE 32u
+
+/* The number of an answer: accepted, or why not. The place is where, as an index into the message. */
+enum hessian_refusal {
+    HESSIAN_ACCEPTED = 0,
+    HESSIAN_LENGTH = 1,    /* the message is empty or too long; writer: the source or the shortest message is */
+    HESSIAN_CUT = 2,       /* the message ends where a byte is needed; place: its length */
+    HESSIAN_BYTE = 3,      /* a byte cannot stand here */
+    HESSIAN_UTF8 = 4,      /* a character is not well-formed UTF-8, or has no room in its chunk; place: its first byte */
+    HESSIAN_NEGATIVE = 5,  /* a list or field count is negative */
+    HESSIAN_UNGIVEN = 6,   /* no such class, type or reference number is given yet */
+    HESSIAN_CEILING = 7,   /* more than 32 containers open, or 256 classes, types, or fields of one class */
+    HESSIAN_AFTER = 8,     /* bytes after the record */
+    HESSIAN_ROOM = 9,      /* fewer rows (writer: bytes) are lent than needed; the count says how many */
+    HESSIAN_NO_RECORD = 10 /* writer: the rows are no record */
+};
+
+/* The kinds of rows, with their first and second numbers; one that is not named is 0. */
+enum hessian_kind {
+    HESSIAN_NULL = 0,
+    HESSIAN_FALSE = 1,
+    HESSIAN_TRUE = 2,
+    HESSIAN_INT = 3,        /* value, in two's complement */
+    HESSIAN_LONG = 4,       /* value, in two's complement */
+    HESSIAN_DOUBLE = 5,     /* the bits of the IEEE double */
+    HESSIAN_DATE = 6,       /* milliseconds, in two's complement */
+    HESSIAN_TEXT = 7,       /* UTF-16 units, UTF-8 bytes */
+    HESSIAN_BYTES = 8,      /* length */
+    HESSIAN_LIST = 9,       /* elements */
+    HESSIAN_TYPED_LIST = 10, /* elements, type number; then a row of its type */
+    HESSIAN_MAP = 11,       /* pairs */
+    HESSIAN_TYPED_MAP = 12, /* pairs, type number; then a row of its type */
+    HESSIAN_OBJECT = 13,    /* class number, fields */
+    HESSIAN_REFERENCE = 14, /* number of the list, map or object, from 0 */
+    HESSIAN_CLASS = 15,     /* fields; then a row of its name and one of each field's name */
+    HESSIAN_CLASS_NAME = 16, /* as a text */
+    HESSIAN_FIELD_NAME = 17, /* as a text */
+    HESSIAN_TYPE_NAME = 18, /* as a text */
+    HESSIAN_TYPE_NUMBER = 19 /* type number */
+};
+
+/*
+ * Reads a message into a table of rows. Accepted: the count is the rows stored, the place the message's length; bytes of the table
+ * past those rows stay as they were. HESSIAN_ROOM: the count is the rows needed. Bytes of the table beyond a multiple of
+ * HESSIAN_ROW_SIZE are no row.
+ */
+uint64_t hessian_read(const uint8_t *message, size_t message_len, uint8_t *table, size_t table_len);
+
+/* The parts of an answer. */
+#define HESSIAN_NUMBER(answer) ((unsigned)((uint64_t)(answer) >> 48))
+#define HESSIAN_COUNT(answer) ((size_t)((uint64_t)(answer) >> 24 & 0xffffffu))
+#define HESSIAN_PLACE(answer) ((size_t)((uint64_t)(answer) & 0xffffffu))
+
+#ifdef __cplusplus
+}
+#endif
+
+#endif
