@@ -1,0 +1,48 @@
+-- Where a row lies, and its numbers, have their laws in proofs/Rowed.antt.
+use native.Mathlib.Omega.{arith}
+use Prim.Native.Nat.{_+_, _*_, _≤_}
+use lib.ListN.{length}
+use denote.Ref.{now}
+use borrow.Author.Needs.{needs}
+use Rattle.writer.proofs.Rowed.{numbers-inside, numbers-row, bytes-inside, bytes-row}
+use Rattle.writer.proofs.rows.row_at.Statement.{statement}
+use Rattle.writer.proofs.rows.row_at.Tie as tie
+
+inside : (c : tie.Then1) → c .before .before .before .args .k * 4 + 4 ≤ length (now (c .before .before .before .args .numbers))
+inside c = search (numbers-inside, needs)
+
+inside-bytes : (c : tie.Else1) → c .before .before .before .args .k * 32 + 32 ≤ length (now (c .before .before .before .args .bytes))
+inside-bytes c = search (bytes-inside, needs)
+
+returns : tie.Need-returns
+returns c = search (numbers-row, needs)
+
+returns-2 : tie.Need-returns-2
+returns-2 c = search (bytes-row, needs)
+
+pub row-at-spec : {M : Type 1} → statement M
+row-at-spec =
+    tie.close
+    (tie.spec
+    (λ c. omega (arith, inside c))
+    (λ c. omega (arith, inside c))
+    (λ c. omega (arith, inside (c .before)))
+    (λ c. omega (arith, inside (c .before)))
+    (λ c. omega (arith, inside (c .before)))
+    (λ c. omega (arith, inside (c .before .before)))
+    (λ c. omega (arith, inside (c .before .before)))
+    (λ c. omega (arith, inside (c .before .before)))
+    (λ c. omega (arith, inside (c .before .before .before)))
+    (λ c. omega (arith, inside (c .before .before .before)))
+    (λ c. omega (arith, inside (c .before .before .before)))
+    (λ c. omega (arith, inside (c .before .before .before .before)))
+    returns
+    (λ c. omega (arith, inside-bytes c))
+    (λ c κs. search needs)
+    (λ c. omega (arith, inside-bytes (c .before)))
+    (λ c κs. search needs)
+    (λ c. omega (arith, inside-bytes (c .before .before)))
+    (λ c κs. search needs)
+    (λ c. omega (arith, inside-bytes (c .before .before .before)))
+    (λ c κs. search needs)
+    returns-2)

@@ -1,0 +1,35 @@
+// The rows of a lent table: of numbers, or of C's bytes. A caller lends one and leaves the other empty.
+ghost use mathlib.Core.Path.{_≡_};
+ghost use Prim.Native.Nat.{_<_};
+ghost use Rattle.writer.specs.Inside.{lentIn, rowIn, rowOf};
+
+// A row: kind, place, first and second number.
+pub struct RowRead {
+    pub kind: u64,
+    pub place: u64,
+    pub first: u64,
+    pub second: u64,
+}
+
+// The row k.
+pub(crate) fn row_at(numbers: &[u64], bytes: &[u8], k: usize) -> RowRead
+    requires { ⌜ k < lentIn (now numbers) (now bytes) ⌝ }
+    ensures { λ r. ⌜ rowOf r ≡ rowIn (now (numbers .entry)) (now (bytes .entry)) k ⌝ }
+{
+    if bytes.len() == 0 {
+        let i = k * 4;
+        return RowRead {
+            kind: numbers[i],
+            place: numbers[i + 1],
+            first: numbers[i + 2],
+            second: numbers[i + 3],
+        };
+    }
+    let i = k * 32;
+    RowRead {
+        kind: wire::number_at(bytes, i, 8, 0),
+        place: wire::number_at(bytes, i + 8, 8, 0),
+        first: wire::number_at(bytes, i + 16, 8, 0),
+        second: wire::number_at(bytes, i + 24, 8, 0),
+    }
+}
