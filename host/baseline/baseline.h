@@ -1,4 +1,7 @@
-/* A plain C reader of Hessian 2.0 messages, independent of the library: to measure its speed and check its answers. */
+/*
+ * A plain C reader and writer of Hessian 2.0 messages, independent of the library: to measure its speed and check its
+ * answers.
+ */
 #ifndef BASELINE_H
 #define BASELINE_H
 
@@ -14,5 +17,16 @@
  * A refusal leaves the table as it was; so do bytes past the rows stored.
  */
 uint64_t baseline_read(const uint8_t *message, size_t message_len, uint8_t *table, size_t table_len);
+
+/*
+ * Writes the shortest message of the first `rows` rows of a table, whose texts and bytes lie in the source. The answer:
+ *   accepted:            number 0, count the bytes written, place 0
+ *   refused 1:           the source, or the shortest message, is too long; count and place 0
+ *   refused 10:          the rows are no record; count and place 0
+ *   refused 9:           the output is too small; count the bytes needed, place 0
+ * A refusal leaves the output as it was; so do bytes past those written.
+ */
+uint64_t baseline_write(const uint8_t *source, size_t source_len, const uint8_t *table, size_t table_len, uint64_t rows,
+                        uint8_t *output, size_t output_len);
 
 #endif

@@ -5,55 +5,7 @@
 #define _DEFAULT_SOURCE /* endian.h */
 
 #include "baseline.h"
-
-#include <endian.h>
-#include <stdbool.h>
-#include <string.h>
-
-enum {
-    MAX_MESSAGE = 262144,
-    MAX_OPEN = 32,
-    MAX_CLASSES = 256,
-    MAX_FIELDS = 256,
-    MAX_TYPES = 256,
-    ROW_SIZE = 32
-};
-
-enum refusal {
-    ACCEPTED,
-    BAD_LENGTH,
-    CUT_SHORT,
-    MISPLACED,
-    BAD_UTF8,
-    NEGATIVE_COUNT,
-    NOT_GIVEN,
-    CEILING,
-    TRAILING,
-    TOO_FEW_ROWS
-};
-
-enum kind {
-    ROW_NULL,
-    ROW_FALSE,
-    ROW_TRUE,
-    ROW_INT,
-    ROW_LONG,
-    ROW_DOUBLE,
-    ROW_DATE,
-    ROW_TEXT,
-    ROW_BYTES,
-    ROW_LIST,
-    ROW_TYPED_LIST,
-    ROW_MAP,
-    ROW_TYPED_MAP,
-    ROW_OBJECT,
-    ROW_REFERENCE,
-    ROW_CLASS,
-    ROW_CLASS_NAME,
-    ROW_FIELD_NAME,
-    ROW_TYPE_NAME,
-    ROW_TYPE_NUMBER
-};
+#include "forms.h"
 
 /* What a first byte opens. */
 enum form {
@@ -133,12 +85,6 @@ static bool need(struct reader *r, size_t n)
 
 /* ---- rows */
 
-static void put_u64(uint8_t *p, uint64_t n)
-{
-    n = htobe64(n);
-    memcpy(p, &n, sizeof n);
-}
-
 static void store_row(struct reader *r, size_t row, enum kind kind, size_t place, uint64_t first, uint64_t second)
 {
     uint8_t *p;
@@ -158,22 +104,6 @@ static void add_row(struct reader *r, enum kind kind, size_t place, uint64_t fir
 }
 
 /* ---- numbers; each is read from its code on */
-
-static uint32_t get_u32(const uint8_t *p)
-{
-    uint32_t n;
-
-    memcpy(&n, p, sizeof n);
-    return be32toh(n);
-}
-
-static uint64_t get_u64(const uint8_t *p)
-{
-    uint64_t n;
-
-    memcpy(&n, p, sizeof n);
-    return be64toh(n);
-}
 
 static int64_t get_i32(const uint8_t *p)
 {
@@ -278,25 +208,6 @@ static bool read_date(struct reader *r, int64_t *value)
     return true;
 }
 
-static uint64_t double_bits(double value)
-{
-    uint64_t bits;
-
-    memcpy(&bits, &value, sizeof bits);
-    return bits;
-}
-
-/* The bits of the double equal to a float. A conversion would make a signalling NaN quiet, so NaNs go by their bits. */
-static uint64_t widen(uint32_t bits)
-{
-    float value;
-
-    if ((bits & 0x7f800000) == 0x7f800000)
-        return (uint64_t)(bits >> 31) << 63 | (uint64_t)0x7ff << 52 | (uint64_t)(bits & 0x7fffff) << 29;
-    memcpy(&value, &bits, sizeof value);
-    return double_bits(value);
-}
-
 static bool read_double(struct reader *r, uint64_t *bits)
 {
     const uint8_t *p = r->message + r->at;
@@ -339,18 +250,6 @@ static bool read_double(struct reader *r, uint64_t *bits)
 
 /* ---- texts and bytes */
 
-/* The codes of the heads of chunks. */
-struct heads {
-    unsigned tiny;  /* first of those with the length in the code */
-    unsigned few;   /* how many of them there are */
-    unsigned brief; /* first of four that a byte of length follows */
-    unsigned part;  /* two bytes of length follow; not the last chunk */
-    unsigned wide;  /* two bytes of length follow; the last chunk */
-};
-
-static const struct heads text_heads = {0x00, 32, 0x30, 0x52, 0x53};
-static const struct heads bytes_heads = {0x20, 16, 0x34, 0x41, 0x42};
-
 /* The head of a chunk: its size, and whether it is the last one. */
 static bool read_head(struct reader *r, const struct heads *h, size_t *size, bool *last)
 {
@@ -379,43 +278,6 @@ static bool read_head(struct reader *r, const struct heads *h, size_t *size, boo
         return refuse(r, MISPLACED, r->at);
     }
     return true;
-}
-
-/*
- * The length of the character at p, of two to four bytes, where `left` bytes and `units` UTF-16 units are left: 0 if
- * the message ends in it, -1 if it is ill-formed or does not fit the units.
- */
-static int character(const uint8_t *p, size_t left, size_t units)
-{
-    unsigned lead = p[0], low = 0x80, high = 0xbf;
-    int length, i;
-
-    if (lead >= 0xc2 && lead <= 0xdf) {
-        length = 2;
-    } else if (lead >= 0xe0 && lead <= 0xef) {
-        length = 3;
-        if (lead == 0xe0)
-            low = 0xa0;
-        if (lead == 0xed)
-            high = 0x9f;
-    } else if (lead >= 0xf0 && lead <= 0xf4 && units >= 2) {
-        length = 4;
-        if (lead == 0xf0)
-            low = 0x90;
-        if (lead == 0xf4)
-            high = 0x8f;
-    } else {
-        return -1;
-    }
-    for (i = 1; i < length; i++) {
-        if ((size_t)i == left)
-            return 0;
-        if (p[i] < low || p[i] > high)
-            return -1;
-        low = 0x80;
-        high = 0xbf;
-    }
-    return length;
 }
 
 /* The characters of a chunk. */
@@ -717,11 +579,6 @@ static bool read_record(struct reader *r, uint8_t *table)
     return true;
 }
 
-static uint64_t answer(enum refusal number, uint64_t count, uint64_t place)
-{
-    return (uint64_t)number << 48 | count << 24 | place;
-}
-
 uint64_t baseline_read(const uint8_t *message, size_t message_len, uint8_t *table, size_t table_len)
 {
     struct reader r;
@@ -733,7 +590,7 @@ uint64_t baseline_read(const uint8_t *message, size_t message_len, uint8_t *tabl
     if (!read_record(&r, NULL))
         return answer(r.number, 0, r.place);
     if (table_len / ROW_SIZE < r.rows)
-        return answer(TOO_FEW_ROWS, r.rows, 0);
+        return answer(TOO_LITTLE_ROOM, r.rows, 0);
     read_record(&r, table);
     return answer(ACCEPTED, r.rows, message_len);
 }

@@ -1,0 +1,158 @@
+/* What the plain reader and the plain writer share: ceilings, kinds of rows, numbers in bytes, chunks, characters, doubles. */
+#ifndef FORMS_H
+#define FORMS_H
+
+#include <endian.h>
+#include <stdbool.h>
+#include <stddef.h>
+#include <stdint.h>
+#include <string.h>
+
+enum {
+    MAX_MESSAGE = 262144,
+    MAX_OPEN = 32,
+    MAX_CLASSES = 256,
+    MAX_FIELDS = 256,
+    MAX_TYPES = 256,
+    ROW_SIZE = 32
+};
+
+enum refusal {
+    ACCEPTED,
+    BAD_LENGTH,
+    CUT_SHORT,
+    MISPLACED,
+    BAD_UTF8,
+    NEGATIVE_COUNT,
+    NOT_GIVEN,
+    CEILING,
+    TRAILING,
+    TOO_LITTLE_ROOM,
+    NO_RECORD
+};
+
+enum kind {
+    ROW_NULL,
+    ROW_FALSE,
+    ROW_TRUE,
+    ROW_INT,
+    ROW_LONG,
+    ROW_DOUBLE,
+    ROW_DATE,
+    ROW_TEXT,
+    ROW_BYTES,
+    ROW_LIST,
+    ROW_TYPED_LIST,
+    ROW_MAP,
+    ROW_TYPED_MAP,
+    ROW_OBJECT,
+    ROW_REFERENCE,
+    ROW_CLASS,
+    ROW_CLASS_NAME,
+    ROW_FIELD_NAME,
+    ROW_TYPE_NAME,
+    ROW_TYPE_NUMBER
+};
+
+static inline uint64_t answer(enum refusal number, uint64_t count, uint64_t place)
+{
+    return (uint64_t)number << 48 | count << 24 | place;
+}
+
+/* ---- numbers in bytes, the highest first */
+
+static inline uint32_t get_u32(const uint8_t *p)
+{
+    uint32_t n;
+
+    memcpy(&n, p, sizeof n);
+    return be32toh(n);
+}
+
+static inline uint64_t get_u64(const uint8_t *p)
+{
+    uint64_t n;
+
+    memcpy(&n, p, sizeof n);
+    return be64toh(n);
+}
+
+static inline void put_u64(uint8_t *p, uint64_t n)
+{
+    n = htobe64(n);
+    memcpy(p, &n, sizeof n);
+}
+
+/* ---- doubles */
+
+static uint64_t double_bits(double value)
+{
+    uint64_t bits;
+
+    memcpy(&bits, &value, sizeof bits);
+    return bits;
+}
+
+/* The bits of the double equal to a float. A conversion would make a signalling NaN quiet, so NaNs go by their bits. */
+static uint64_t widen(uint32_t bits)
+{
+    float value;
+
+    if ((bits & 0x7f800000) == 0x7f800000)
+        return (uint64_t)(bits >> 31) << 63 | (uint64_t)0x7ff << 52 | (uint64_t)(bits & 0x7fffff) << 29;
+    memcpy(&value, &bits, sizeof value);
+    return double_bits(value);
+}
+
+/* ---- texts and bytes */
+
+/* The codes of the heads of chunks. */
+struct heads {
+    unsigned tiny;  /* first of those with the length in the code */
+    unsigned few;   /* how many of them there are */
+    unsigned brief; /* first of four that a byte of length follows */
+    unsigned part;  /* two bytes of length follow; not the last chunk */
+    unsigned wide;  /* two bytes of length follow; the last chunk */
+};
+
+static const struct heads text_heads = {0x00, 32, 0x30, 0x52, 0x53};
+static const struct heads bytes_heads = {0x20, 16, 0x34, 0x41, 0x42};
+
+/*
+ * The length of the character at p, of two to four bytes, where `left` bytes and `units` UTF-16 units are left: 0 if
+ * the message ends in it, -1 if it is ill-formed or does not fit the units.
+ */
+static int character(const uint8_t *p, size_t left, size_t units)
+{
+    unsigned lead = p[0], low = 0x80, high = 0xbf;
+    int length, i;
+
+    if (lead >= 0xc2 && lead <= 0xdf) {
+        length = 2;
+    } else if (lead >= 0xe0 && lead <= 0xef) {
+        length = 3;
+        if (lead == 0xe0)
+            low = 0xa0;
+        if (lead == 0xed)
+            high = 0x9f;
+    } else if (lead >= 0xf0 && lead <= 0xf4 && units >= 2) {
+        length = 4;
+        if (lead == 0xf0)
+            low = 0x90;
+        if (lead == 0xf4)
+            high = 0x8f;
+    } else {
+        return -1;
+    }
+    for (i = 1; i < length; i++) {
+        if ((size_t)i == left)
+            return 0;
+        if (p[i] < low || p[i] > high)
+            return -1;
+        low = 0x80;
+        high = 0xbf;
+    }
+    return length;
+}
+
+#endif
