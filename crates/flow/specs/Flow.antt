@@ -1,26 +1,32 @@
--- Readers, and how they are put together. C: what is known so far. I: the items read. A: a reader's result.
--- A reader takes what is known, a place, and the rest of the message from there.
-use mathlib.Core.Bool.{cond}
-use mathlib.Core.List.{List, [], _∷_, _++_, map}
-use Prim.Native.Nat.{ℕ, zero, suc, _+_, min}
-use lib.Dec.{eqb}
-use lib.ListN.{length, drop}
+-- Choices and bytes; readers, and how they are put together; lists stored in lists; answers.
+use mathlib.Core.{Bool.Bool, Bool.true, Bool.false, Bool.cond, Bool._&&_, List.List, List.[], List._∷_, List._++_, List.map}
+use Prim.Native.Nat.{ℕ, zero, suc, _+_, _*_, _<_}
+use lib.{Dec.eqb, Dec.leb, Dec.ltb, ListN.length, ListN.take, ListN.drop}
 
--- an item, and the place of its first byte
-pub record Entry (I : Type 0) : Type 0 where
+unfoldable pub pick : {A : Type 0} → Bool → A → A → A  -- a choice by a test
+pick true a b = a
+pick false a b = b
+
+abbrev pub within : ℕ → ℕ → ℕ → Bool  -- from lo on and below hi
+within lo hi b = leb lo b && ltb b hi
+
+abbrev pub Bytes : List ℕ → Type 0
+Bytes [] = Unit {0}
+Bytes (b ∷ s) = (b < 256) × Bytes s
+
+-- ---- readers. C: what is known so far. I: the items read. A: a reader's result
+pub record Entry (I : Type 0) : Type 0 where  -- an item, and the place of its first byte
   pub place : ℕ
   pub item : I
 
--- Done: bytes consumed, the result, the entries, what is known afterwards. Fault: a refusal's number and place
 pub data Outcome (C I A : Type 0) : Type 0 where
-  Done : ℕ → A → List (Entry I) → C → Outcome C I A
-  Fault : ℕ → ℕ → Outcome C I A
+  Done : ℕ → A → List (Entry I) → C → Outcome C I A  -- bytes consumed, the result, the entries, what is known afterwards
+  Fault : ℕ → ℕ → Outcome C I A  -- a refusal's number and place
 
-abbrev pub Read : Type 0 → Type 0 → Type 0 → Type 0
+abbrev pub Read : Type 0 → Type 0 → Type 0 → Type 0  -- by what is known, a place, and the rest of the message from there
 Read C I A = C → ℕ → List ℕ → Outcome C I A
 
--- a reader of what begins with a byte that is read already: that byte's place, and the byte
-abbrev pub From : Type 0 → Type 0 → Type 0 → Type 0
+abbrev pub From : Type 0 → Type 0 → Type 0 → Type 0  -- after a first byte that is read already: its place, and the byte
 From C I A = ℕ → ℕ → Read C I A
 
 abbrev pub One : Type 0
@@ -35,60 +41,35 @@ module _ {C I : Type 0} where
     then (Done n a es c) k = k n a es c
     then (Fault x o) k = Fault x o
 
-    abbrev pub before : ℕ → List (Entry I) → Outcome C I A → Outcome C I A
-    before k front (Done n a es c) = Done (k + n) a (front ++ es) c
-    before k front (Fault x o) = Fault x o
-
-    abbrev pub stepped : Outcome C I A → Outcome C I A
-    stepped (Done n a es c) = Done (suc n) a es c
-    stepped (Fault x o) = Fault x o
-
-    -- nothing is read
-    abbrev pub give : A → Read C I A
+    abbrev pub give : A → Read C I A  -- nothing is read
     give a c at s = Done 0 a [] c
 
-    -- refusal x at the place o
-    abbrev pub fail : ℕ → ℕ → Read C I A
+    abbrev pub fail : ℕ → ℕ → Read C I A  -- refusal x at the place o
     fail x o c at s = Fault x o
 
-    -- the one reader that takes a byte: where the message ends, refusal 2
-    abbrev pub byteAt : From C I A → Read C I A
+    abbrev pub byteAt : From C I A → Read C I A  -- the one reader that takes a byte: where the message ends, refusal 2
     byteAt g c at [] = Fault 2 at
-    byteAt g c at (b ∷ s) = stepped (g at b c (at + 1) s)
+    byteAt g c at (b ∷ s) = then (g at b c (at + 1) s) (λ n a es c′. Done (suc n) a es c′)
 
-    -- with what is known changed first
-    abbrev pub changing : (C → C) → Read C I A → Read C I A
+    abbrev pub changing : (C → C) → Read C I A → Read C I A  -- with what is known changed first
     changing φ f c at s = f (φ c) at s
 
-    -- by what is known
-    abbrev pub asking : (C → Read C I A) → Read C I A
+    abbrev pub asking : (C → Read C I A) → Read C I A  -- by what is known
     asking g c at s = g c c at s
 
-    abbrev pub renamed : {B : Type 0} → (A → B) → Outcome C I A → Outcome C I B
-    renamed φ (Done n a es c) = Done n (φ a) es c
-    renamed φ (Fault x o) = Fault x o
+    abbrev pub mapped : {B : Type 0} → (A → B) → Read C I A → Read C I B  -- the result through a function
+    mapped φ f c at s = then (f c at s) (λ n a es c′. Done n (φ a) es c′)
 
-    -- the result through a function
-    abbrev pub mapped : {B : Type 0} → (A → B) → Read C I A → Read C I B
-    mapped φ f c at s = renamed φ (f c at s)
+    abbrev pub headed : ℕ → (A → I) → Read C I A → Read C I One  -- an item before the others, by the result
+    headed p x f c at s = then (f c at s) (λ n a es c′. Done n tt (record { place = p; item = x a } ∷ es) c′)
 
-    abbrev pub top : ℕ → (A → I) → Outcome C I A → Outcome C I One
-    top p x (Done n a es c) = Done n tt (record { place = p; item = x a } ∷ es) c
-    top p x (Fault y o) = Fault y o
-
-    -- an item before the others, by the result
-    abbrev pub headed : ℕ → (A → I) → Read C I A → Read C I One
-    headed p x f c at s = top p x (f c at s)
-
-  -- one after the other
-  abbrev pub bind : {A B : Type 0} → Read C I A → (A → Read C I B) → Read C I B
-  bind f g c at s = then (f c at s) (λ n a es c′. before n es (g a c′ (at + n) (drop n s)))
+  abbrev pub bind : {A B : Type 0} → Read C I A → (A → Read C I B) → Read C I B  -- one after the other
+  bind f g c at s = then (f c at s) (λ n a es c′. then (g a c′ (at + n) (drop n s)) (λ m b fs c″. Done (n + m) b (es ++ fs) c″))
 
   abbrev pub after : {A : Type 0} → Read C I One → Read C I A → Read C I A
   after f g = bind f (λ u. g)
 
-  -- n of them
-  abbrev pub many : From C I One → ℕ → Read C I One
+  abbrev pub many : From C I One → ℕ → Read C I One  -- n of them
   many f zero c at s = give tt c at s
   many f (suc n) c at s = after (byteAt f) (many f n) c at s
 
@@ -108,9 +89,20 @@ module _ {C I : Type 0} where
   abbrev pub precededBy : ℕ → (ℕ → Read C I One) → From C I One → From C I One
   precededBy e d f p b c at s = preceded e d f (length s) p b c at s
 
--- ---- a reader by itself, at a place of a whole message: nothing is known, there are no items, and a place past the end is the end
-abbrev pub Answer : Type 0 → Type 0
-Answer A = Outcome One One A
+-- ---- lists stored in lists: the list l with new in it from the index at on, whole or not at all
+unfoldable pub stored : List ℕ → ℕ → List ℕ → List ℕ
+stored l at new = pick (leb (at + length new) (length l)) (take at l ++ (new ++ drop (at + length new) l)) l
 
-abbrev pub alone : {A : Type 0} → Read One One A → List ℕ → ℕ → Answer A
-alone f m p = f tt (min p (length m)) (drop p m)
+module _ {A : Type 0} (width : ℕ) (encode : A → List ℕ) where
+  unfoldable pub put : List ℕ → ℕ → A → List ℕ  -- the table with x as its entry k, where that fits
+  put t k x = stored t (k * width) (encode x)
+
+  unfoldable pub overlay : List ℕ → ℕ → List A → List ℕ  -- the table with the entries xs from the entry k on, those that fit
+  overlay t k [] = t
+  overlay t k (x ∷ xs) = overlay (put t k x) (suc k) xs
+
+-- ---- an answer: a refusal's number, 0 where accepted; a count; a place
+pub record Report : Type 0 where
+  pub number : ℕ
+  pub count : ℕ
+  pub place : ℕ

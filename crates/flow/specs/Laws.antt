@@ -8,8 +8,10 @@ use native.Mathlib.Omega.{arith}
 use lib.Dec.{T, eqb, eqb→eq, eqb-refl}
 use lib.ListN.{length, take, drop, length-append, length-drop}
 use lib.Seq.{take-add, drop-append-seam}
-use Rattle.flow.specs.Tests.{by-test, neqb, Bytes, bytes-drop}
-use Rattle.flow.specs.Flow.{Entry, Outcome, Done, Fault, Read, From, One, items, then, before, stepped, give, byteAt, changing, asking, renamed, mapped, top, headed, bind, after, many, until, untilEnd, preceded, precededBy}
+use Rattle.flow.specs.Tests.{by-test, neqb, bytes-drop}
+use Rattle.flow.specs.Flow.{Bytes, Entry, Outcome, Done, Fault, Read, From, One, items, then, give, byteAt, changing, asking, mapped, headed, bind, after, many, until, untilEnd, preceded, precededBy}
+use Rattle.flow.specs.Grammar.{Phrase, Many, finished, another, Ended, ended, Preceded, alone, first}
+use Rattle.flow.specs.Steps.{before, stepped, renamed, top}
 
 abbrev pub Goal : Type 0 → Type 0 → Type 0 → Type 1
 Goal C I A = List ℕ → A → List I → C → Type 0
@@ -109,16 +111,6 @@ module _ {C I : Type 0} where
   bound-makes f {w = w} h = record { makes = λ at tail. h (length (w ++ tail)) (rw length-append (omega arith)) .makes at tail }
 
 -- ---- several, and several up to the end byte e
-abbrev pub Phrase : Type 0 → Type 0 → Type 1
-Phrase C I = C → List ℕ → List I → C → Type 0
-
-pub data Many {C I : Type 0} (G : Phrase C I) : ℕ → C → List ℕ → List I → C → Type 0 where
-  finished : {c : C} → Many G 0 c [] [] c
-  another : {n : ℕ} {c c₁ c₂ : C} {u v : List ℕ} {is js : List I} → G c u is c₁ → Many G n c₁ v js c₂ → Many G (suc n) c (u ++ v) (is ++ js) c₂
-
-pub data Ended {C I : Type 0} (e : ℕ) (G : Phrase C I) : ℕ → C → List ℕ → List I → C → Type 0 where
-  ended : {n : ℕ} {c c′ : C} {v : List ℕ} {is : List I} → Many G n c v is c′ → Ended e G n c (v ++ (e ∷ [])) is c′
-
 module _ {C I : Type 0} where
   -- f reads what G is
   abbrev pub Reads : From C I One → Phrase C I → Type 0
@@ -199,10 +191,6 @@ module _ {C I : Type 0} (f : From C I One) (G : Phrase C I) where
       end-makes (ended r) = bound-makes (until e f) (until-makes r)
 
 -- ---- things before another, each with its first byte e
-pub data Preceded {C I : Type 0} (e : ℕ) (D G : Phrase C I) : C → List ℕ → List I → C → Type 0 where
-  alone : {c c′ : C} {w : List ℕ} {is : List I} → G c w is c′ → Preceded e D G c w is c′
-  first : {c c₁ c₂ : C} {u v : List ℕ} {is js : List I} → D c u is c₁ → Preceded e D G c₁ v js c₂ → Preceded e D G c (e ∷ (u ++ v)) (is ++ js) c₂
-
 module _ {C I : Type 0} (e : ℕ) (d : ℕ → Read C I One) (f : From C I One) (D G : Phrase C I) where
   module _ (hd : (p : ℕ) (c : C) (at : ℕ) (s : List ℕ) → Bytes s → Parsed (λ w u is c′. D c w is c′) s (d p c at s)) (hf : Reads f G) where
     abbrev The : C → ℕ → Goal C I One

@@ -1,7 +1,8 @@
-pub mod Tests
 pub mod Flow
+pub mod Steps
+pub mod Grammar
+pub mod Tests
 pub mod Laws
 pub mod Lifts
 pub mod Refusals
-pub mod Overlay
 pub mod OverlayLaws

@@ -4,7 +4,8 @@ use mathlib.Core.Bool.{Bool, true, false, cond}
 use mathlib.Core.List.{List, [], _∷_}
 use Prim.Native.Nat.{ℕ, _+_}
 use lib.ListN.{drop}
-use Rattle.flow.specs.Flow.{Entry, Outcome, Done, Fault, Read, From, One, then, before, stepped, renamed, give, fail, byteAt, mapped, bind}
+use Rattle.flow.specs.Flow.{Entry, Outcome, Done, Fault, Read, From, One, then, give, fail, byteAt, mapped, bind}
+use Rattle.flow.specs.Steps.{before, stepped, renamed}
 
 -- the outcome of a reader by itself, where c is known
 abbrev pub lifted : {C I A : Type 0} → C → Outcome One One A → Outcome C I A

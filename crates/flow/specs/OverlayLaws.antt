@@ -8,7 +8,12 @@ use lib.ListN.{length, take, drop, set, length-append}
 use lib.Seq.{sets, sets-eq, length-sets, length-take-le, take-append-seam, drop-at, set-comm, take-set-le, drop-set-lt}
 use borrow.Author.Tests.{le-leb, lt-leb}
 use Rattle.flow.specs.Tests.{pick-true, pick-false, split}
-use Rattle.flow.specs.Overlay.{stored, flat, put, overlay}
+use Rattle.flow.specs.Flow.{stored, put, overlay}
+
+-- the numbers of the entries
+unfoldable pub flat : {A : Type 0} → (width : ℕ) → (encode : A → List ℕ) → List A → List ℕ
+flat width encode [] = []
+flat width encode (x ∷ xs) = encode x ++ flat width encode xs
 
 -- ---- stores one by one
 sets-seam : (l : List ℕ) (i : ℕ) (a b : List ℕ) → sets (sets l i a) (i + length a) b ≡ sets l i (a ++ b)

@@ -5,7 +5,8 @@ use Prim.Native.Nat.{ℕ, zero, suc, _+_, _≤_}
 use native.Mathlib.Omega.{arith}
 use lib.Dec.{eqb}
 use lib.ListN.{length, drop, length-drop}
-use Rattle.flow.specs.Flow.{Entry, Outcome, Done, Fault, Read, From, One, then, before, stepped, give, byteAt, renamed, mapped, top, headed, bind, after, many, until, untilEnd, preceded, precededBy}
+use Rattle.flow.specs.Flow.{Entry, Outcome, Done, Fault, Read, From, One, then, give, byteAt, mapped, headed, bind, after, many, until, untilEnd, preceded, precededBy}
+use Rattle.flow.specs.Steps.{before, stepped, renamed, top}
 
 module _ {C I : Type 0} (P : ℕ → Type 0) (end : ℕ) where
   -- of an outcome from the bytes s: no more than s is consumed

@@ -8,6 +8,7 @@ use native.Mathlib.Decide.{ℕ-discrete}
 use lib.Dec.{T, ltb, eqb, leb, ltb→lt, nltb→le, eqb→eq, lt→ltb, not-T}
 use lib.Arith.{le→nltb}
 use lib.ListN.{take, drop, getD}
+use Rattle.flow.specs.Flow.{pick, within, Bytes}
 use borrow.Author.Tests.{lt-ltb, le-ltb, le-leb, lt-leb, eq-eqb, ne-eqb, ltb-true, ltb-false, leb-true}
 
 -- ---- a choice by a test, over `cond`
@@ -58,15 +59,7 @@ pub implied : (a b : Bool) → T (implies a b) → T a → T b
 implied true b h t = h
 implied false b h t = absurd t
 
--- ---- the same choice, shut, so that a search finds its arguments
-unfoldable pub pick : {A : Type 0} → Bool → A → A → A
-pick true a b = a
-pick false a b = b
-
--- from lo on and below hi
-abbrev pub within : ℕ → ℕ → ℕ → Bool
-within lo hi b = leb lo b && ltb b hi
-
+-- ---- the same choice, shut, so that a search finds its arguments: `pick`
 pub within-yes : (lo hi b : ℕ) → lo ≤ b → b < hi → within lo hi b ≡ true
 within-yes lo hi b h k = rw (le-leb lo b h, lt-ltb b hi k)
 
@@ -153,10 +146,6 @@ every-at (suc n) P h b l = go (ℕ-discrete b n) (every-at n P (and-right (P n) 
     go (no e) ih = ih (omega arith)
 
 -- ---- lists of bytes
-abbrev pub Bytes : List ℕ → Type 0
-Bytes [] = Unit {0}
-Bytes (b ∷ s) = (b < 256) × Bytes s
-
 pub bytes-append : (s t : List ℕ) → Bytes s → Bytes t → Bytes (s ++ t)
 bytes-append [] t p q = q
 bytes-append (b ∷ s) t p q = (p .0, bytes-append s t (p .1) q)

@@ -8,11 +8,9 @@ use native.Mathlib.Omega.{arith}
 use lib.Dec.{ltb}
 use lib.ListN.{length}
 use borrow.Author.Tests.{le-ltb, lt-ltb, ltb-true, ltb-false}
-use Rattle.flow.specs.Tests.{pick-true, pick-false, pick-either, Bytes}
-use Rattle.flow.specs.Flow.{Outcome, Done, Fault, One, items}
-use Rattle.record.specs.Items.{Item, Known, start, Ceilings}
-use Rattle.record.specs.Reading.{message, Accepted, Reads}
-use Rattle.record.specs.Rows.{Row, rows}
+use Rattle.flow.specs.Tests.{pick-true, pick-false, pick-either}
+use Rattle.flow.specs.Flow.{Bytes, Outcome, Done, Fault, One, items}
+use Rattle.record.specs.Records.{Item, Known, start, Ceilings, message, Accepted, Reads, Row, rows}
 use Rattle.record.specs.Meaning.{message-all}
 use Rattle.record.specs.Answers.{ReadAnswer, Accept, Refuse, judged, answered, read, WriteAnswer, Wrote, Refused, shortestOf, write, stored, Accepts}
 use Rattle.record.specs.Refusals.{Numbered, message-numbered}

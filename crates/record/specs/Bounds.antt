@@ -1,19 +1,18 @@
--- The count and the place that the reader answers lie within the message, and within `longest`.
+-- The count and the place that the reader answers lie within the message, and within `longest`; so does the writer's count.
 use mathlib.Core.Path.{_≡_, refl}
 use mathlib.Core.List.{List, [], _∷_}
+use mathlib.Core.Option.{Option, none, some}
 use Prim.Native.Nat.{ℕ, _≤_}
 use native.Mathlib.Omega.{arith}
 use lib.Dec.{ltb}
 use lib.ListN.{length, length-map}
 use borrow.Author.Tests.{ltb-false}
-use Rattle.flow.specs.Tests.{pick-either, Bytes}
-use Rattle.flow.specs.Flow.{Entry, Outcome, Done, Fault, One, items}
+use Rattle.flow.specs.Flow.{pick, Bytes, Entry, Outcome, Done, Fault, One, items}
+use Rattle.flow.specs.Tests.{pick-either}
 use Rattle.flow.specs.Refusals.{Told}
-use Rattle.record.specs.Items.{Item, Known, start, Ceilings}
-use Rattle.record.specs.Reading.{message}
+use Rattle.record.specs.Records.{Item, Known, start, Ceilings, message}
 use Rattle.record.specs.Extent.{rows-few}
-use Rattle.record.specs.Answers.{ReadAnswer, judged, answered, read}
-use Rattle.record.specs.Tables.{reportRead}
+use Rattle.record.specs.Answers.{ReadAnswer, judged, answered, read, stored, shortestOf, Layout, lentRows, rowsOf, reportRead, reportWritten, written}
 use Rattle.record.specs.Whole.{rows-length}
 use Rattle.record.specs.Refusals.{Numbered, message-within}
 use Rattle.record.specs.Demands.{read-numbered}
@@ -47,3 +46,15 @@ module _ (ℓ : Ceilings) (d longest lent : ℕ) where
     -- so the answer fits three small numbers, whatever the message's length
     pub answer-small : (reportRead (read ℓ d longest lent m) .count ≤ longest) × (reportRead (read ℓ d longest lent m) .place ≤ longest) × (reportRead (read ℓ d longest lent m) .number ≤ 9)
     answer-small = let p = read-most longest m b (λ l. l) in (p .0, p .1, read-numbered ℓ d longest lent m b)
+
+-- ---- the count of the writer's answer
+module _ (longest lent : ℕ) where
+  stored-small : (o : Option (List ℕ)) → reportWritten (stored longest lent o) .count ≤ longest
+  stored-small none = omega arith
+  stored-small (some w) = pick-either (λ a. reportWritten a .count ≤ longest) (ltb longest (length w)) (λ t. omega arith)
+      (λ t. let l : length w ≤ longest = ltb-false longest (length w) t in pick-either (λ a. reportWritten a .count ≤ longest) (ltb lent (length w)) (λ s. l) (λ s. l))
+
+pub written-small : (ℓ : Ceilings) (openFrom d longest : ℕ) (L : Layout) (source t : List ℕ) (n lent : ℕ) → reportWritten (written ℓ openFrom d longest L source t n lent) .count ≤ longest
+unfolding written
+written-small ℓ openFrom d longest L source t n lent = pick-either (λ a. reportWritten a .count ≤ longest) (ltb longest (length source)) (λ e. omega arith)
+    (λ e. stored-small longest lent (pick (ltb (lentRows L t) n) none (shortestOf ℓ openFrom d source (rowsOf L n t))))

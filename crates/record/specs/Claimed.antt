@@ -6,13 +6,12 @@ use mathlib.Core.List.{List, [], _∷_}
 use mathlib.Core.Option.{Option, none, some}
 use Prim.Native.Nat.{ℕ}
 use lib.Dec.{T, eqb, eqb→eq, eqb-refl}
-use Rattle.flow.specs.Tests.{by-test, pass, pick, and-left, and-right, and-both}
+use Rattle.flow.specs.Tests.{by-test, pass, and-left, and-right, and-both}
+use Rattle.flow.specs.Flow.{pick}
 use Rattle.scalar.specs.declared.numbers.Sort.the-variants as sort
 use Rattle.scalar.specs.declared.texts.Kind.the-variants.{Utf8, Binary}
 use Rattle.scalar.specs.Scalars.{Num, Str}
-use Rattle.record.specs.Items.{Leaf, UntypedList, TypedList, UntypedMap, TypedMap, Object, Reference, Item, Val, Definition, ClassName, FieldName, TypeName, TypeNumber}
-use Rattle.record.specs.Rows.{Row, itemRow}
-use Rattle.record.specs.Claims.{contentOf, contentAt, Claims, ClaimAll, no-rows, a-row}
+use Rattle.record.specs.Records.{Leaf, UntypedList, TypedList, UntypedMap, TypedMap, Object, Reference, Item, Val, Definition, ClassName, FieldName, TypeName, TypeNumber, Row, itemRow, contentOf, contentAt, Claims, ClaimAll, no-rows, a-row}
 
 -- the item of the row's kind, with the row's numbers or this content
 unfoldable pub ofKind : Row → List ℕ → Item

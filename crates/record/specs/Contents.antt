@@ -1,7 +1,7 @@
 -- What is written of the values in a list, map or object that are left after j of them: none, or one more and the rest.
 use mathlib.Core.Path.{_≡_, refl, sym, ap, _∙_}
 use mathlib.Core.Bool.{Bool, true, false, cond, _&&_}
-use mathlib.Core.List.{List, []}
+use mathlib.Core.List.{List, [], append-nil}
 use Prim.Native.Nat.{ℕ, suc, _+_, _-_, _/_, _%_, _≤_, _<_}
 use native.Mathlib.Omega.{arith}
 use lib.Dec.{eqb}
@@ -10,9 +10,9 @@ use borrow.Author.Tests.{eqb-true, eqb-false, eq-eqb, ne-eqb}
 use Rattle.flow.specs.Tests.{by-cases}
 use Rattle.record.specs.declared.Contents.{Contents}
 use Rattle.record.specs.declared.Contents.the-variants.{Elements, Couples}
-use Rattle.record.specs.Items.{Item, Known}
-use Rattle.record.specs.Spelling.{Put, putThen, putMany}
-use Rattle.record.specs.Walked.{Walked, Over, Stuck, walk, behind, onOver, behind-on, Drops, then-drops, walk-then, walk-many-none, walk-many-more, walk-same}
+use Rattle.record.specs.Records.{Item, Known}
+use Rattle.record.specs.Answers.{Put, putThen, putMany}
+use Rattle.record.specs.Walked.{Walked, Over, Stuck, walk, behind, onOver, behind-on, Drops, then-drops, walk-then, walk-many-none, walk-many-more, walk-same, walk-within}
 
 -- what is left after j values
 unfoldable pub left : Put → Contents → ℕ → Put
@@ -130,3 +130,18 @@ module _ (g : Put) (drops : Drops g) (is : List Item) where
 
     pub left-stuck : walk g c is k ≡ Stuck → walk (left g s j) c is k ≡ Stuck
     left-stuck h = left-step s j t r c k ∙ ap (λ (o : Walked). onOver o (λ e c′. walk (left g s (j + 1)) c′ is e)) h
+
+  -- one value alone
+  module _ (c : Known) (k : ℕ) where
+    pub one-over : (w : List ℕ) (e : ℕ) (c′ : Known) → walk g c is k ≡ Over w e c′ → walk (left g (Elements 1) 0) c is k ≡ Over w e c′
+    one-over w e c′ h =
+        left-over (Elements 1) 0 refl (omega arith) c k w e c′ h
+        ∙ ap (behind w) (left-stop (Elements 1) 1 refl c′ e (walk-within c is k g w e c′ h))
+        ∙ ap (λ (v : List ℕ). Over v e c′) (append-nil w)
+
+    pub one-value : (o : Walked) → walk (left g (Elements 1) 0) c is k ≡ o → walk g c is k ≡ o
+    one-value o h = go (walk g c is k) refl
+      where
+        go : (x : Walked) → walk g c is k ≡ x → walk g c is k ≡ o
+        go (Over w e c′) q = q ∙ sym (one-over w e c′ q) ∙ h
+        go Stuck q = q ∙ sym (left-stuck (Elements 1) 0 refl (omega arith) c k q) ∙ h

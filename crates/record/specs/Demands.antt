@@ -6,16 +6,15 @@ use mathlib.Core.Option.{Option, none, some}
 use Prim.Native.Nat.{ℕ, _/_, _^_, _≤_, _<_}
 use native.Mathlib.Nat.{le-trans, mul-le-mul-right, div-mul-le-self}
 use native.Mathlib.Omega.{arith}
-use lib.ListN.{length}
+use lib.ListN.{length, length-map}
 use borrow.Author.Tests.{le-ltb, lt-ltb}
-use Rattle.flow.specs.Tests.{pick-true, pick-false, Bytes}
-use Rattle.flow.specs.Flow.{Outcome, One}
-use Rattle.record.specs.Items.{Item, Known, Ceilings}
+use Rattle.flow.specs.Tests.{pick-true, pick-false}
+use Rattle.flow.specs.Flow.{Bytes, Entry, Outcome, One}
+use Rattle.record.specs.Records.{Item, Known, Ceilings, Row, rows}
 use Rattle.record.specs.Grammar.{Message}
-use Rattle.record.specs.Rows.{Row, rows}
+use Rattle.record.specs.Numbering.{definitions, accepted-adds}
 use Rattle.record.specs.Meaning.{reads-derived, derived-reads}
-use Rattle.record.specs.Answers.{ReadAnswer, Accept, Refuse, answered, read, Wrote, Refused, shortestOf, write, Has, Accepts}
-use Rattle.record.specs.Tables.{Layout, asNumbers, asBytes, lentRows, rowsOf, reportRead, filled, readTable}
+use Rattle.record.specs.Answers.{ReadAnswer, Accept, Refuse, answered, read, Wrote, Refused, shortestOf, write, Has, Accepts, Layout, asNumbers, asBytes, lentRows, rowsOf, reportRead, filled, readTable}
 use Rattle.record.specs.TableLaws.{Sound, All, rows-again, Fits, bytes-sized, all-numbers, all-bytes}
 use Rattle.record.specs.Widths.{rows-fit}
 use Rattle.record.specs.Whole.{rows-length}
@@ -30,6 +29,13 @@ module _ (ℓ : Ceilings) (d longest : ℕ) where
         (p .0, reads-derived ℓ d m r (record { bytes = b; accepted = rw (p .1) (x .reads-as) })),
     λ x. reads-accepts ℓ d longest m r (x .0) (derived-reads ℓ d m r (x .1)),
   )
+
+  -- what is accepted has at least one item, and so one row; and the classes then known are its definitions in their order: each got the next number
+  pub accepted-some : (m : List ℕ) → Bytes m → (r : List Item) → Accepts ℓ d longest m r → 0 < length r
+  accepted-some m b r x = accepted-adds ℓ d longest m b r x .0
+
+  pub classes-in-order : (m : List ℕ) → Bytes m → (r : List Item) (x : Accepts ℓ d longest m r) → x .known .classes ≡ definitions r
+  classes-in-order m b r x = accepted-adds ℓ d longest m b r x .1
 
   -- and the lent rows suffice: the answer then is the record's rows; too few are refusal 9, which counts the rows needed
   module _ (lent : ℕ) (m : List ℕ) where
@@ -67,6 +73,12 @@ module _ (ℓ : Ceilings) (d longest : ℕ) where
     answer-holds b rs n = by-read ℓ d longest lent m b (λ a. a ≡ Accept rs n → Holds rs)
         (λ h e. never cc) (λ x o h e. never cc) (λ r x h e. never cc)
         (λ r x h e. record { record-of = r; accepts = x; holds = cc; enough = h })
+
+    -- so the count reported of an accepted message is never 0
+    pub answer-some : Bytes m → (rs : List Row) (n : ℕ) → read ℓ d longest lent m ≡ Accept rs n → 0 < length rs
+    answer-some b rs n e =
+        let x = answer-holds b rs n e in
+        omega (arith, ap length (x .holds), rows-length (x .accepts .entries), ap length (x .accepts .reads-as), length-map (x .accepts .entries) (λ (e : Entry Item). e .item), accepted-some m b (x .record-of) (x .accepts))
 
   -- the table then holds that record, whatever the layout in which these rows can be stored
   pub table-holds : (L : Layout) → ((r : Row) → length (L .encode r) ≡ L .width) → (m t : List ℕ) → Bytes m → (rs : List Row) (n : ℕ) → All (Sound L) rs

@@ -9,12 +9,14 @@ use lib.Arith.{le→nltb}
 use lib.ListN.{length, getD}
 use Rattle.flow.specs.Tests.{skip, First}
 use Rattle.flow.specs.Flow.{Fault, One, give, fail, byteAt, changing, mapped, headed, bind, after, many, untilEnd, preceded, precededBy}
-use Rattle.flow.specs.Laws.{Phrase, Makes, give-makes, byte-makes, bind-makes, map-makes, head-makes, change-makes, ask-makes, pass-makes, skip-makes, Leads, leads-byte, Led, Makers, Shut, Many, many-makes, end-makes, precededBy-makes}
-use Rattle.scalar.specs.Scalars.{Scalar, isScalar, isText, scalarFrom, intFrom, textFrom, Int}
-use Rattle.scalar.specs.ScalarLaws.{scalar-makes, int-makes, text-makes, scalar-owned, text-first, int-first, scalar-shut}
-use Rattle.record.specs.Items.{Leaf, UntypedList, TypedList, UntypedMap, TypedMap, Object, Reference, Item, Val, Definition, ClassName, FieldName, TypeName, TypeNumber, Known, opened, typed, defined, Ceilings}
-use Rattle.record.specs.Reading.{Reader, Opening, Form, leaf, few, few-typed, few-object, counted, counted-typed, open-list, open-typed, open-map, typed-map, object, reference, formOf, int, count, name, typeNumber, referenceTo, typeName, with-two, container, fieldValues, pair, typeFrom, withType, fieldNames, plainBy, plainFrom, definition, valueFrom}
-use Rattle.record.specs.Forms.{few-form, few-typed-form, few-object-form, singles, leaf-form, no-scalar}
+use Rattle.flow.specs.Grammar.{Phrase, Many}
+use Rattle.flow.specs.Laws.{Makes, give-makes, byte-makes, bind-makes, map-makes, head-makes, change-makes, ask-makes, pass-makes, skip-makes, Leads, leads-byte, Led, Makers, Shut, many-makes, end-makes, precededBy-makes}
+use Rattle.scalar.specs.Scalars.{Scalar, isText, scalarFrom, intFrom, textFrom}
+use Rattle.scalar.specs.Grammar.{Int}
+use Rattle.scalar.specs.ScalarLaws.{isScalar, scalar-makes, int-makes, text-makes, scalar-owned, text-first, int-first, scalar-shut}
+use Rattle.record.specs.Records.{Leaf, UntypedList, TypedList, UntypedMap, TypedMap, Object, Reference, Item, Val, Definition, ClassName, FieldName, TypeName, TypeNumber, Known, opened, typed, defined, Ceilings, Reader, Opening, int, count, name, typeNumber, referenceTo, typeName, container, fieldValues, pair, typeFrom, withType, fieldNames, plainFrom, definition, valueFrom}
+use Rattle.record.specs.Forms.{Form, leaf, few, few-typed, few-object, counted, counted-typed, open-list, open-typed, open-map, typed-map, object, reference, formOf, plainBy, plain-is, few-form, few-typed-form, few-object-form, singles, leaf-form, no-scalar}
+use Rattle.record.specs.Shorthands.{with-two}
 use Rattle.record.specs.Grammar.{NameForm, a-name, TypeForm, type-name, type-number, PairForm, a-pair, DefinitionForm, a-definition, PlainForm, a-leaf, a-few, a-counted, an-open, a-few-typed, a-counted-typed, an-open-typed, a-map, a-typed-map, a-few-object, an-object, a-reference, Nowhere, ValueForm}
 
 -- ---- parts: an int, a count, a name, fields, a pair
@@ -98,7 +100,7 @@ module _ (ℓ : Ceilings) where
 
       by-form : (l : Form) (b : ℕ) → formOf b ≡ l → {c c′ : Known} {w : List ℕ} {is : List Item} → ((p : ℕ) → Makes (plainBy ℓ below l p b) c w tt is c′) → (p : ℕ)
           → Makes (plainFrom ℓ below p b) c w tt is c′
-      by-form l b e h p = rw e (h p)
+      by-form l b e h p = rw (plain-is ℓ below p b, e) (h p)
 
       leaf-makes : (c : Known) (w : List ℕ) (x : Scalar) → First (λ b. (b < 256) × T (isScalar b)) w → Leads {I = Item} scalarFrom c w x [] c → Led (plainFrom ℓ below) c w (Val (Leaf x) ∷ []) c
       unfolding plainBy
@@ -116,22 +118,22 @@ module _ (ℓ : Ceilings) where
           (λ p. holds (λ t. Val (TypedList n t)) (λ f. withType ℓ (λ t. mapped (λ u. t) (many f n))) p r
           (λ f hf x. type-then (λ t. mapped (λ u. t) (many f n)) q (map-makes (λ (u : One). t) (many f n) (many-makes f G hf y))))
       plain-makes c w is c′ (a-counted-typed {n = n} {t = t} r q i l y) = by-form counted-typed 0x56 (singles .of-counted-typed)
-          (λ p. holds (λ x. Val (TypedList (x .two) (x .one))) (λ f. withType ℓ (λ t. count (λ o n. mapped (λ u. with-two t n) (many f n)))) p r
+          (λ p. holds (λ (x : ℕ × ℕ). Val (TypedList (x .1) (x .0))) (λ f. withType ℓ (λ t. count (λ o n. mapped (λ u. with-two t n) (many f n)))) p r
           (λ f hf x. type-then (λ t. count (λ o n. mapped (λ u. with-two t n) (many f n))) q
           (count-then (λ o n. mapped (λ u. with-two t n) (many f n)) i l (λ o. map-makes (λ (u : One). with-two t n) (many f n) (many-makes f G hf y)))))
       plain-makes c w is c′ (an-open-typed {t = t} r q y) = by-form open-typed 0x55 (singles .of-open-typed)
-          (λ p. holds (λ x. Val (TypedList (x .two) (x .one))) (λ f. withType ℓ (λ t. mapped (with-two t) (untilEnd 0x5a f))) p r
+          (λ p. holds (λ (x : ℕ × ℕ). Val (TypedList (x .1) (x .0))) (λ f. withType ℓ (λ t. mapped (with-two t) (untilEnd 0x5a f))) p r
           (λ f hf x. type-then (λ t. mapped (with-two t) (untilEnd 0x5a f)) q (map-makes (with-two t) (untilEnd 0x5a f) (end-makes f G 0x5a hf x y))))
       plain-makes c w is c′ (a-map r y) = by-form open-map 0x48 (singles .of-open-map) (λ p. holds (λ n. Val (UntypedMap n)) (λ f. untilEnd 0x5a (pair f)) p r
           (λ f hf x. end-makes (pair f) (PairForm G) 0x5a (pair-makes f G hf) (pair-shut f 0x5a x) y))
       plain-makes c w is c′ (a-typed-map {t = t} r q y) = by-form typed-map 0x4d (singles .of-typed-map)
-          (λ p. holds (λ x. Val (TypedMap (x .two) (x .one))) (λ f. withType ℓ (λ t. mapped (with-two t) (untilEnd 0x5a (pair f)))) p r
+          (λ p. holds (λ (x : ℕ × ℕ). Val (TypedMap (x .1) (x .0))) (λ f. withType ℓ (λ t. mapped (with-two t) (untilEnd 0x5a (pair f)))) p r
           (λ f hf x. type-then (λ t. mapped (with-two t) (untilEnd 0x5a (pair f))) q (map-makes (with-two t) (untilEnd 0x5a (pair f))
           (end-makes (pair f) (PairForm G) 0x5a (pair-makes f G hf) (pair-shut f 0x5a x) y))))
       plain-makes c w is c′ (a-few-object {k = k} r l i y) = by-form (few-object k) (0x60 + k) (few-object-form k l)
           (λ p. holds (λ n. Val (Object k n)) (λ f. fieldValues f p k) p r (λ f hf x. fields-makes f G hf p k i y))
       plain-makes c w is c′ (an-object {k = k} r q i y) = by-form object 0x4f (singles .of-object)
-          (λ p. holds (λ x. Val (Object (x .one) (x .two))) (λ f. int (λ o k. mapped (with-two k) (fieldValues f p k))) p r
+          (λ p. holds (λ (x : ℕ × ℕ). Val (Object (x .0) (x .1))) (λ f. int (λ o k. mapped (with-two k) (fieldValues f p k))) p r
           (λ f hf x. int-then (λ o k. mapped (with-two k) (fieldValues f p k)) q (λ o. map-makes (with-two k) (fieldValues f p k) (fields-makes f G hf p k i y))))
       plain-makes c w is c′ (a-reference {k = k} {w = v} q l) = by-form reference 0x51 (singles .of-reference) (λ p. head-makes p (λ k. Val (Reference k)) (int (λ o. referenceTo p))
           (subst (λ (z : List ℕ). Makes (int (λ o. referenceTo p)) c z k [] c) (append-nil v)
@@ -141,7 +143,7 @@ module _ (ℓ : Ceilings) where
   -- no value begins with a byte that opens none
   plain-shut : (below : Option (Opening One)) (e : ℕ) → formOf e ≡ leaf → T (not (isScalar e)) → Shut (plainFrom ℓ below) e
   unfolding plainBy
-  plain-shut below e q z p c at s = rw (q, scalar-shut Item e z p c at s) refl
+  plain-shut below e q z p c at s = rw (plain-is ℓ below p e, q, scalar-shut Item e z p c at s) refl
 
   -- ---- definitions
   definition-makes : (c : Known) (w : List ℕ) (is : List Item) (c′ : Known) → DefinitionForm ℓ c w is c′ → (p : ℕ) → Makes (definition ℓ p) c w tt is c′

@@ -7,8 +7,8 @@ use Prim.Native.Nat.{ℕ, zero, suc, _+_, _^_}
 use lib.Dec.{ltb, eqb, leb}
 use lib.ListN.{length, getD}
 use Rattle.scalar.specs.Scalars.{shortestScalar, shortestInt, shortestText}
-use Rattle.record.specs.Items.{Value, Leaf, UntypedList, TypedList, UntypedMap, TypedMap, Object, Reference, Item, Val, Definition, ClassName, FieldName, TypeName, TypeNumber, Known, opened, typed, Ceilings}
-use Rattle.record.specs.Spelling.{Put, putThen, putMany, putNothing, putBytes, putCode, putIf, value?, definition?, className?, fieldName?, putName, putOpen, putList, codeThen, objectCode, putContainer, putDefined, putType, putDefinition, putPreceded, putPlainBy, putPlain, putValue}
+use Rattle.record.specs.Records.{Value, Leaf, UntypedList, TypedList, UntypedMap, TypedMap, Object, Reference, Item, Val, Definition, ClassName, FieldName, TypeName, TypeNumber, Known, opened, typed, Ceilings}
+use Rattle.record.specs.Answers.{Put, putThen, putMany, putNothing, putBytes, putCode, putIf, value?, definition?, className?, fieldName?, putName, putOpen, putList, codeThen, objectCode, putContainer, putDefined, putType, putDefinition, putPreceded, putPlainBy, putPlain, putValue}
 use Rattle.record.specs.Walked.{Dropped, Drops, then-drops, many-drops, bytes-drops, if-drops, item-drops}
 
 pub name-drops : (part : Item → Option (List ℕ)) → Drops (putName part)

@@ -6,15 +6,15 @@ use Prim.Native.Nat.{ℕ, zero, suc, _≤_, _<_}
 use native.Mathlib.Omega.{arith}
 use lib.ListN.{length, take, length-append}
 use lib.Seq.{length-take-le}
-use Rattle.flow.specs.Tests.{Bytes}
-use Rattle.flow.specs.Flow.{Entry, Done, One, items, byteAt}
-use Rattle.flow.specs.Laws.{Phrase, Parsed, byte-reads, leads-byte, Many, finished, another, Ended, ended, Preceded, alone, first}
-use Rattle.scalar.specs.Scalars.{Spelt}
+use Rattle.flow.specs.Flow.{Bytes, Entry, Done, One, items, byteAt}
+use Rattle.flow.specs.Grammar.{Phrase, Many, finished, another, Ended, ended, Preceded, alone, first}
+use Rattle.flow.specs.Laws.{Parsed, byte-reads, leads-byte}
+use Rattle.scalar.specs.Grammar.{Spelt}
 use Rattle.scalar.specs.Scalars as scalars
+use Rattle.scalar.specs.Grammar as scalar-grammar
 use Rattle.scalar.specs.NumberLaws.{number-some}
 use Rattle.scalar.specs.TextLaws.{string-some}
-use Rattle.record.specs.Items.{Item, FieldName, Known, start, Ceilings}
-use Rattle.record.specs.Reading.{valueFrom, Reads}
+use Rattle.record.specs.Records.{Item, FieldName, Known, start, Ceilings, valueFrom, Reads}
 use Rattle.record.specs.Grammar.{NameForm, a-name, TypeForm, type-name, type-number, PairForm, a-pair, DefinitionForm, a-definition, PlainForm, a-leaf, a-few, a-counted, an-open, a-few-typed, a-counted-typed, an-open-typed, a-map, a-typed-map, a-few-object, an-object, a-reference, Nowhere, ValueForm}
 use Rattle.record.specs.Parses.{value-reads}
 use Rattle.record.specs.Derives.{value-makes}
@@ -32,8 +32,8 @@ end-few : (G : Phrase Known Item) → Few G → {n : ℕ} {c c′ : Known} {w : 
 end-few G h (ended {v = v} r) = omega (arith, length-append v (0x5a ∷ []), many-few G h r)
 
 pub scalar-some : {w : List ℕ} {x : scalars.Scalar} → Spelt w x → 0 < length w
-scalar-some (scalars.a-number n) = number-some n
-scalar-some (scalars.a-string x) = string-some x
+scalar-some (scalar-grammar.a-number n) = number-some n
+scalar-some (scalar-grammar.a-string x) = string-some x
 
 name-few : (x : List ℕ → Item) → Few (NameForm x)
 name-few x c w is c′ (a-name r) = omega (arith, string-some r)

@@ -1,14 +1,69 @@
--- The laws of a value's first byte.
-use mathlib.Core.Path.{_≡_, refl, _∙_, ap}
-use mathlib.Core.Bool.{cond, not}
-use Prim.Native.Nat.{ℕ, _+_, _≤_, _<_}
+-- The first byte of a value, by name: its form; the reading by forms; and the laws of the first byte.
+use mathlib.Core.Path.{_≡_, refl, sym, _∙_, ap}
+use mathlib.Core.Bool.{Bool, true, false, cond, not}
+use mathlib.Core.Option.{Option}
+use Prim.Native.Nat.{ℕ, _+_, _-_, _≤_, _<_}
 use native.Mathlib.Omega.{arith}
 use lib.Dec.{T, eqb, eqb→eq, ltb→lt}
 use borrow.Author.Tests.{eqb-true, ne-eqb}
-use Rattle.flow.specs.Tests.{skip, pick, pick-true, pick-false, pick-either, within, within-is, within-yes, within-below, within-above, every, every-at}
-use Rattle.scalar.specs.Chart.{ranges, rangeOf, leadOf, kindOf}
-use Rattle.scalar.specs.Scalars.{isScalar}
-use Rattle.record.specs.Reading.{Form, leaf, few, few-typed, few-object, counted, counted-typed, open-list, open-typed, open-map, typed-map, object, reference, formOf}
+use Rattle.flow.specs.Tests.{skip, pick-true, pick-false, pick-either, within-is, within-yes, within-below, within-above, every, every-at}
+use Rattle.flow.specs.Flow.{pick, within, One, mapped, headed, many, untilEnd}
+use Rattle.scalar.specs.Scalars.{ranges, rangeOf, leadOf, kindOf, scalarFrom}
+use Rattle.scalar.specs.ScalarLaws.{isScalar}
+use Rattle.record.specs.Records.{Leaf, UntypedList, TypedList, UntypedMap, TypedMap, Object, Reference, Val, Ceilings, Opening, int, count, referenceTo, Reader, container, fieldValues, pair, withType, plainFrom}
+use Rattle.record.specs.Shorthands.{with-two}
+
+pub data Form : Type 0 where  -- the first byte of a value
+  leaf : Form  -- a scalar; also what opens nothing: 5a, the reserved bytes, and 43, which the definitions before a value take
+  few few-typed few-object : ℕ → Form  -- a list of n elements, untyped and typed; an object of class k
+  counted counted-typed : Form  -- a count follows
+  open-list open-typed open-map typed-map : Form  -- up to 5a
+  object reference : Form  -- an int follows: the class, the reference number
+
+-- the containers and the reference of 01's table of first bytes, in its order
+unfoldable pub formOf : ℕ → Form
+formOf b =
+    pick (within 0x70 0x78 b) (few-typed (b - 0x70))
+    (pick (eqb b 0x56) counted-typed
+    (pick (eqb b 0x55) open-typed
+    (pick (within 0x78 0x80 b) (few (b - 0x78))
+    (pick (eqb b 0x58) counted
+    (pick (eqb b 0x57) open-list
+    (pick (eqb b 0x4d) typed-map
+    (pick (eqb b 0x48) open-map
+    (pick (within 0x60 0x70 b) (few-object (b - 0x60))
+    (pick (eqb b 0x4f) object
+    (pick (eqb b 0x51) reference leaf))))))))))
+
+module _ (ℓ : Ceilings) where
+  -- a value of this form, whose first byte is b, at p
+  unfoldable pub plainBy : Option (Opening One) → Form → Opening One
+  plainBy below leaf p b = headed p (λ x. Val (Leaf x)) (scalarFrom p b)
+  plainBy below (few n) p b = container below p (λ f. headed p (λ u. Val (UntypedList n)) (many f n))
+  plainBy below (few-typed n) p b = container below p (λ f. headed p (λ t. Val (TypedList n t)) (withType ℓ (λ t. mapped (λ u. t) (many f n))))
+  plainBy below (few-object k) p b = container below p (λ f. headed p (λ n. Val (Object k n)) (fieldValues f p k))
+  plainBy below counted p b = container below p (λ f. headed p (λ n. Val (UntypedList n)) (count (λ o n. mapped (λ u. n) (many f n))))
+  plainBy below counted-typed p b = container below p (λ f. headed p (λ (x : ℕ × ℕ). Val (TypedList (x .1) (x .0))) (withType ℓ (λ t. count (λ o n. mapped (λ u. with-two t n) (many f n)))))
+  plainBy below open-list p b = container below p (λ f. headed p (λ n. Val (UntypedList n)) (untilEnd 0x5a f))
+  plainBy below open-typed p b = container below p (λ f. headed p (λ (x : ℕ × ℕ). Val (TypedList (x .1) (x .0))) (withType ℓ (λ t. mapped (with-two t) (untilEnd 0x5a f))))
+  plainBy below open-map p b = container below p (λ f. headed p (λ n. Val (UntypedMap n)) (untilEnd 0x5a (pair f)))
+  plainBy below typed-map p b = container below p (λ f. headed p (λ (x : ℕ × ℕ). Val (TypedMap (x .1) (x .0))) (withType ℓ (λ t. mapped (with-two t) (untilEnd 0x5a (pair f)))))
+  plainBy below object p b = container below p (λ f. headed p (λ (x : ℕ × ℕ). Val (Object (x .0) (x .1))) (int (λ o k. mapped (with-two k) (fieldValues f p k))))
+  plainBy below reference p b = headed p (λ k. Val (Reference k)) (int (λ o. referenceTo p))
+
+  by-pick : {A B : Type 0} (F : A → B) (t : Bool) (x : A) {y : A} {z : B} → z ≡ F y → pick t (F x) z ≡ F (pick t x y)
+  unfolding pick
+  by-pick F true x e = refl
+  by-pick F false x e = e
+
+  pub plain-is : (below : Option (Opening One)) (p b : ℕ) → plainFrom ℓ below p b ≡ plainBy below (formOf b) p b
+  unfolding plainFrom plainBy formOf
+  plain-is below p b =
+      let F : Form → Reader One = λ x. plainBy below x p b in
+      by-pick F (within 0x70 0x78 b) (few-typed (b - 0x70)) (by-pick F (eqb b 0x56) counted-typed (by-pick F (eqb b 0x55) open-typed
+      (by-pick F (within 0x78 0x80 b) (few (b - 0x78)) (by-pick F (eqb b 0x58) counted (by-pick F (eqb b 0x57) open-list
+      (by-pick F (eqb b 0x4d) typed-map (by-pick F (eqb b 0x48) open-map (by-pick F (within 0x60 0x70 b) (few-object (b - 0x60))
+      (by-pick F (eqb b 0x4f) object (by-pick F (eqb b 0x51) reference refl))))))))))
 
 -- ---- what a form says of its byte
 abbrev pub FormFact : ℕ → Form → Type 0

@@ -1,15 +1,13 @@
 -- The grammar of messages: what is known before, the bytes, the items, what is known after. One constructor for each production, in 01's order.
-use mathlib.Core.Bool.{Bool, true, false}
-use mathlib.Core.List.{List, [], _∷_, _++_}
+use mathlib.Core.{Bool.Bool, Bool.true, Bool.false, List.List, List.[], List._∷_, List._++_}
 use Prim.Native.Nat.{ℕ, zero, suc, _+_, _^_, _≤_, _<_}
-use lib.Dec.{T}
-use lib.ListN.{length, getD}
-use Rattle.flow.specs.Laws.{Phrase, Many, Ended, Preceded}
-use Rattle.scalar.specs.Scalars.{Scalar, Spelt, Int, Text}
-use Rattle.record.specs.Items.{Leaf, UntypedList, TypedList, UntypedMap, TypedMap, Object, Reference, Item, Val, Definition, ClassName, FieldName, TypeName, TypeNumber, Known, start, opened, typed, defined, Ceilings}
+use lib.{Dec.T, ListN.length, ListN.getD}
+use Rattle.flow.specs.Grammar.{Phrase, Many, Ended, Preceded}
+use Rattle.scalar.specs.Scalars.{Scalar}
+use Rattle.scalar.specs.Grammar.{Spelt, Int, Text}
+use Rattle.record.specs.Records.{Leaf, UntypedList, TypedList, UntypedMap, TypedMap, Object, Reference, Item, Val, Definition, ClassName, FieldName, TypeName, TypeNumber, Known, start, opened, typed, defined, Ceilings}
 
--- a text, as the item x
-pub data NameForm (x : List ℕ → Item) : Known → List ℕ → List Item → Known → Type 0 where
+pub data NameForm (x : List ℕ → Item) : Known → List ℕ → List Item → Known → Type 0 where  -- a text, as the item x
   a-name : {c : Known} {w cs : List ℕ} → Text w cs → NameForm x c w (x cs ∷ []) c
 
 -- a type, and its number: a text gets the next one, an int names one given
@@ -17,8 +15,7 @@ pub data TypeForm (ℓ : Ceilings) : Known → List ℕ → ℕ → List Item �
   type-name : {c : Known} {w cs : List ℕ} → c .types < ℓ .types → Text w cs → TypeForm ℓ c w (c .types) (TypeName cs ∷ []) (typed c)
   type-number : {c : Known} {w : List ℕ} {k : ℕ} → Int w k → k < c .types → TypeForm ℓ c w k (TypeNumber k ∷ []) c
 
--- a key and its value
-pub data PairForm (G : Phrase Known Item) : Known → List ℕ → List Item → Known → Type 0 where
+pub data PairForm (G : Phrase Known Item) : Known → List ℕ → List Item → Known → Type 0 where  -- a key and its value
   a-pair : {c c₁ c₂ : Known} {u v : List ℕ} {is js : List Item} → G c u is c₁ → G c₁ v js c₂ → PairForm G c (u ++ v) (is ++ js) c₂
 
 -- a value with no definition before it; `room`: one more container may open; G: the values in it
@@ -49,8 +46,7 @@ pub data PlainForm (ℓ : Ceilings) (room : Bool) (G : Phrase Known Item) : Know
   -- 51 int: reference
   a-reference : {c : Known} {k : ℕ} {w : List ℕ} → Int w k → k < c .references → PlainForm ℓ room G c (0x51 ∷ w) (Val (Reference k) ∷ []) c
 
--- text int text*: a class definition, after its 43
-pub data DefinitionForm (ℓ : Ceilings) : Known → List ℕ → List Item → Known → Type 0 where
+pub data DefinitionForm (ℓ : Ceilings) : Known → List ℕ → List Item → Known → Type 0 where  -- text int text*: a class definition, after its 43
   a-definition : {c c₁ : Known} {u v w cs : List ℕ} {n : ℕ} {is : List Item} → length (c .classes) < ℓ .classes → Text u cs → Int v n → n < 2 ^ 63 → n ≤ ℓ .fields
       → Many (NameForm FieldName) n c w is c₁ → DefinitionForm ℓ c (u ++ (v ++ w)) (Definition n ∷ ClassName cs ∷ is) (defined n c₁)
 
@@ -62,7 +58,6 @@ abbrev pub ValueForm : Ceilings → ℕ → Known → List ℕ → List Item →
 ValueForm ℓ zero = Preceded 0x43 (DefinitionForm ℓ) (PlainForm ℓ false Nowhere)
 ValueForm ℓ (suc d) = Preceded 0x43 (DefinitionForm ℓ) (PlainForm ℓ true (ValueForm ℓ d))
 
--- the message m has the items r
-pub record Message (ℓ : Ceilings) (d : ℕ) (m : List ℕ) (r : List Item) : Type 0 where
+pub record Message (ℓ : Ceilings) (d : ℕ) (m : List ℕ) (r : List Item) : Type 0 where  -- the message m has the items r
   pub known : Known
   pub derived : ValueForm ℓ d start m r known

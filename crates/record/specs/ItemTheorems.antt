@@ -6,10 +6,9 @@ use mathlib.Core.Option.{Option, none, some}
 use Prim.Native.Nat.{ℕ, _≤_}
 use native.Mathlib.Omega.{arith}
 use lib.ListN.{length}
-use Rattle.record.specs.Items.{Item, Ceilings}
-use Rattle.record.specs.Reading.{Reads}
+use Rattle.record.specs.Records.{Item, Ceilings, Reads}
 use Rattle.record.specs.Grammar.{Message}
-use Rattle.record.specs.Spelling.{spell}
+use Rattle.record.specs.Answers.{spell}
 use Rattle.record.specs.Meaning.{reads-derived, derived-reads}
 use Rattle.record.specs.Short.{message-short}
 use Rattle.record.specs.Back.{message-back}

@@ -5,17 +5,16 @@ use mathlib.Core.List.{[], _∷_}
 use Prim.Native.Nat.{ℕ, _-_, _<_}
 use lib.Dec.{T, eqb, eqb→eq}
 use lib.ListN.{getD}
-use Rattle.flow.specs.Tests.{pick, every, every-at, and-left, and-right}
+use Rattle.flow.specs.Flow.{pick}
+use Rattle.flow.specs.Tests.{every, every-at, and-left, and-right}
 use Rattle.scalar.specs.declared.chart.Lead.{Lead}
 use Rattle.scalar.specs.declared.chart.Lead.the-variants as lead
 use Rattle.scalar.specs.declared.numbers.Sort.the-variants as sort
 use Rattle.scalar.specs.declared.texts.Kind.the-variants.{Utf8, Binary}
-use Rattle.scalar.specs.Chart.{ranges, rangeOf, leadOf, kindOf}
-use Rattle.scalar.specs.Scalars.{Scalar, Num, Str}
+use Rattle.scalar.specs.Scalars.{ranges, rangeOf, leadOf, kindOf, Scalar, Num, Str}
 use Rattle.scalar.specs.ScalarLaws.{leadFor}
-use Rattle.record.specs.Items.{Leaf, Val}
-use Rattle.record.specs.Rows.{itemRow}
-use Rattle.record.specs.Reading.{Form, leaf, few, few-typed, few-object, counted, counted-typed, open-list, open-typed, open-map, typed-map, object, reference, formOf}
+use Rattle.record.specs.Records.{Leaf, Val, itemRow}
+use Rattle.record.specs.Forms.{Form, leaf, few, few-typed, few-object, counted, counted-typed, open-list, open-typed, open-map, typed-map, object, reference, formOf}
 
 abbrev pub formBy : Lead → ℕ → Form
 formBy (lead.Number s) b = leaf

@@ -1,9 +1,8 @@
-pub mod Items
-pub mod Reading
+pub mod Records
 pub mod Grammar
-pub mod Rows
+pub mod Answers
+pub mod Shorthands
 pub mod RowLaws
-pub mod Spelling
 pub mod Forms
 pub mod Parses
 pub mod Derives
@@ -12,17 +11,15 @@ pub mod Extent
 pub mod Short
 pub mod Back
 pub mod ItemTheorems
-pub mod Claims
 pub mod Claimed
 pub mod Places
-pub mod Answers
-pub mod Tables
 pub mod Same
 pub mod Writing
 pub mod TableLaws
 pub mod Refusals
 pub mod Answering
 pub mod Widths
+pub mod Numbering
 pub mod Demands
 pub mod Bounds
 pub mod Placed
@@ -40,4 +37,5 @@ pub mod WrittenNames
 pub mod WrittenValues
 pub mod WrittenWhole
 pub mod RowItems
+pub mod KnownArray
 pub mod Samples

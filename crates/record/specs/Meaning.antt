@@ -6,12 +6,13 @@ use Prim.Native.Nat.{ℕ, zero, suc, _+_, _≤_}
 use native.Mathlib.Omega.{arith}
 use lib.ListN.{length, take, drop, take-append-drop, length-drop}
 use lib.Seq.{drop-append-seam}
-use Rattle.flow.specs.Tests.{Bytes, bytes-append}
-use Rattle.flow.specs.Flow.{Entry, Outcome, Done, Fault, One, items, then, before, byteAt}
-use Rattle.flow.specs.Laws.{Phrase, Parsed, byte-reads, leads-byte, Many, finished, another, Ended, ended, Preceded, alone, first}
+use Rattle.flow.specs.Flow.{Bytes, Entry, Outcome, Done, Fault, One, items, then, byteAt}
+use Rattle.flow.specs.Grammar.{Phrase, Many, finished, another, Ended, ended, Preceded, alone, first}
+use Rattle.flow.specs.Tests.{bytes-append}
+use Rattle.flow.specs.Steps.{before}
+use Rattle.flow.specs.Laws.{Parsed, byte-reads, leads-byte}
 use Rattle.scalar.specs.ScalarLaws.{scalar-bytes, int-bytes, text-bytes}
-use Rattle.record.specs.Items.{Item, FieldName, Known, start, Ceilings}
-use Rattle.record.specs.Reading.{valueFrom, ending, message, Accepted, Reads}
+use Rattle.record.specs.Records.{Item, FieldName, Known, start, Ceilings, valueFrom, ending, message, Accepted, Reads}
 use Rattle.record.specs.Grammar.{NameForm, a-name, TypeForm, type-name, type-number, PairForm, a-pair, DefinitionForm, a-definition, PlainForm, a-leaf, a-few, a-counted, an-open, a-few-typed, a-counted-typed, an-open-typed, a-map, a-typed-map, a-few-object, an-object, a-reference, Nowhere, ValueForm, Message}
 use Rattle.record.specs.Parses.{value-reads}
 use Rattle.record.specs.Derives.{value-makes}
@@ -87,6 +88,23 @@ module _ (ℓ : Ceilings) (d : ℕ) where
       go : (o : Outcome Known Item One) → Parsed (λ w u is c′. ValueForm ℓ d start w is c′) m o → Accepted r (then o (λ n a es c′. before n es (ending c′ (0 + n) (drop n m)))) → Message ℓ d m r
       go (Done n u es c) v a = last n es c (drop n m) refl a (v .1)
       go (Fault y o) v a = absurd a
+
+  -- with what is known after it
+  pub message-form : (m : List ℕ) → Bytes m → (n : ℕ) (u : One) (es : List (Entry Item)) (c : Known) → message ℓ d start 0 m ≡ Done n u es c → ValueForm ℓ d start m (items es) c
+  unfolding message
+  message-form m b n u es c e = go (byteAt (valueFrom ℓ d) start 0 m) (byte-reads (valueFrom ℓ d) (ValueForm ℓ d) (value-reads ℓ d) start 0 m b) e
+    where
+      last : (k : ℕ) (fs : List (Entry Item)) (c′ : Known) (t : List ℕ) → drop k m ≡ t → ValueForm ℓ d start (take k m) (items fs) c′ → before k fs (ending c′ (0 + k) t) ≡ Done n u es c → ValueForm ℓ d start m (items es) c
+      last k fs c′ [] q v a =
+          let i : fs ++ [] ≡ es = cc in
+          let j : c′ ≡ c = cc in
+          subst (λ (z : List (Entry Item)). ValueForm ℓ d start m (items z) c) (sym (append-nil fs) ∙ i)
+          (subst (λ (z : Known). ValueForm ℓ d start m (items fs) z) j (subst (λ (z : List ℕ). ValueForm ℓ d start z (items fs) c′) (all-taken k m q) v))
+      last k fs c′ (x ∷ t) q v a = absurd (let z : _≡_ {A = ℕ} 0 1 = cc in omega arith)
+
+      go : (o : Outcome Known Item One) → Parsed (λ w u is c′. ValueForm ℓ d start w is c′) m o → then o (λ n a es c′. before n es (ending c′ (0 + n) (drop n m))) ≡ Done n u es c → ValueForm ℓ d start m (items es) c
+      go (Done k v fs c′) p a = last k fs c′ (drop k m) refl (p .1) a
+      go (Fault x o) p a = absurd (let z : _≡_ {A = ℕ} 0 1 = cc in omega arith)
 
   -- ---- what is accepted is read to its end
   pub message-all : (m : List ℕ) → Bytes m → (n : ℕ) (u : One) (es : List (Entry Item)) (c : Known) → message ℓ d start 0 m ≡ Done n u es c → n ≡ length m

@@ -7,15 +7,17 @@ use Prim.Native.Nat.{ℕ, zero, suc, _+_, _^_, _≤_, _<_}
 use native.Mathlib.Omega.{arith}
 use lib.Dec.{T, ltb, ltb→lt, nltb→le}
 use lib.ListN.{length, getD}
-use Rattle.flow.specs.Tests.{by-test, Bytes}
-use Rattle.flow.specs.Flow.{One, give, fail, byteAt, changing, mapped, headed, bind, after, many, untilEnd}
-use Rattle.flow.specs.Laws.{Goal, Phrase, Parsed, gives, weaker, takes, Behind, binds, maps, heads, Many, Ended, many-reads, until-reads, byte-reads, quietly, binds-quiet, precededBy-reads}
+use Rattle.flow.specs.Tests.{by-test}
+use Rattle.flow.specs.Flow.{Bytes, One, give, fail, byteAt, changing, mapped, headed, bind, after, many, untilEnd}
+use Rattle.flow.specs.Grammar.{Phrase, Many, Ended}
+use Rattle.flow.specs.Laws.{Goal, Parsed, gives, weaker, takes, Behind, binds, maps, heads, many-reads, until-reads, byte-reads, quietly, binds-quiet, precededBy-reads}
 use Rattle.flow.specs.Laws as Laws
-use Rattle.scalar.specs.Scalars.{isText, scalarFrom, intFrom, textFrom, Spelt, Int, Text}
+use Rattle.scalar.specs.Scalars.{isText, scalarFrom, intFrom, textFrom}
+use Rattle.scalar.specs.Grammar.{Spelt, Int, Text}
 use Rattle.scalar.specs.ScalarLaws.{scalar-scans, int-scans, text-scans}
-use Rattle.record.specs.Items.{Leaf, UntypedList, TypedList, UntypedMap, TypedMap, Object, Reference, Item, Val, Definition, ClassName, FieldName, TypeName, TypeNumber, Known, opened, typed, defined, Ceilings}
-use Rattle.record.specs.Reading.{Reader, Opening, Form, leaf, few, few-typed, few-object, counted, counted-typed, open-list, open-typed, open-map, typed-map, object, reference, formOf, int, count, name, typeNumber, referenceTo, Two, with-two, container, fieldValues, pair, typeFrom, withType, fieldNames, plainBy, plainFrom, definition, valueFrom}
-use Rattle.record.specs.Forms.{FormFact, form-fact}
+use Rattle.record.specs.Records.{Leaf, UntypedList, TypedList, UntypedMap, TypedMap, Object, Reference, Item, Val, Definition, ClassName, FieldName, TypeName, TypeNumber, Known, opened, typed, defined, Ceilings, Reader, Opening, int, count, name, typeNumber, referenceTo, container, fieldValues, pair, typeFrom, withType, fieldNames, plainFrom, definition, valueFrom}
+use Rattle.record.specs.Forms.{Form, leaf, few, few-typed, few-object, counted, counted-typed, open-list, open-typed, open-map, typed-map, object, reference, formOf, plainBy, plain-is, FormFact, form-fact}
+use Rattle.record.specs.Shorthands.{Two, with-two}
 use Rattle.record.specs.Grammar.{NameForm, a-name, TypeForm, type-name, type-number, PairForm, a-pair, DefinitionForm, a-definition, PlainForm, a-leaf, a-few, a-counted, an-open, a-few-typed, a-counted-typed, an-open-typed, a-map, a-typed-map, a-few-object, an-object, a-reference, Nowhere, ValueForm}
 
 -- ---- parts: an int, a count, a name
@@ -56,13 +58,13 @@ module _ (f : Opening One) (G : Phrase Known Item) (hf : Laws.Reads f G) where
 
 -- the items of two results
 abbrev typedList : Two → Item
-typedList x = Val (TypedList (x .two) (x .one))
+typedList x = Val (TypedList (x .1) (x .0))
 
 abbrev typedMap : Two → Item
-typedMap x = Val (TypedMap (x .two) (x .one))
+typedMap x = Val (TypedMap (x .1) (x .0))
 
 abbrev objectOf : Two → Item
-objectOf x = Val (Object (x .one) (x .two))
+objectOf x = Val (Object (x .0) (x .1))
 
 module _ (ℓ : Ceilings) where
   -- ---- types
@@ -152,7 +154,7 @@ module _ (ℓ : Ceilings) where
           (λ y. gives (Behind (At c 0x51 (λ k. Val (Reference k))) u []) k c at₁ t (rw (append-nil u) (a-reference x (ltb→lt k (c .references) y)))) (λ y. tt))))
 
       plain-reads : Laws.Reads (plainFrom ℓ below) (PlainForm ℓ room G)
-      plain-reads p b m c at s l = plain-by (formOf b) b (form-fact b) p c at s l
+      plain-reads p b m c at s l = rw (plain-is ℓ below p b) (plain-by (formOf b) b (form-fact b) p c at s l)
 
   -- ---- definitions
   definition-reads : (p : ℕ) (c : Known) (at : ℕ) (s : List ℕ) → Bytes s → Parsed (λ w u is c′. DefinitionForm ℓ c w is c′) s (definition ℓ p c at s)

@@ -7,11 +7,9 @@ use native.Mathlib.Omega.{arith}
 use native.Mathlib.Nat.{add-zero, add-assoc}
 use lib.ListN.{length, drop, getD, length-drop, drop-of-length-le}
 use lib.Seq.{drop-cons, drop-drop}
-use Rattle.flow.specs.Tests.{pick}
-use Rattle.flow.specs.Flow.{Entry, Outcome, Done, Fault, One, then, before, stepped, give, fail, byteAt, changing, asking, renamed, mapped, top, headed, bind}
-use Rattle.record.specs.Items.{Item, Known}
-use Rattle.record.specs.Reading.{Reader, Opening}
-use Rattle.record.specs.Rows.{Row, itemRow, rows}
+use Rattle.flow.specs.Flow.{pick, Entry, Outcome, Done, Fault, One, then, give, fail, byteAt, changing, asking, mapped, headed, bind}
+use Rattle.flow.specs.Steps.{before, stepped, renamed, top}
+use Rattle.record.specs.Records.{Item, Known, Reader, Opening, Row, itemRow, rows}
 
 -- Got: the place of the end, the result, the rows, what is known then. Lost: a refusal's number and place
 pub data Placed (A : Type 0) : Type 0 where

@@ -8,13 +8,16 @@ use native.Mathlib.Omega.{arith}
 use lib.Dec.{ltb, eqb}
 use lib.ListN.{length, take, drop, getD, take-append-drop, length-drop}
 use lib.Seq.{drop-drop}
-use Rattle.flow.specs.Tests.{by-test, Bytes, bytes-drop}
-use Rattle.flow.specs.Flow.{Entry, Outcome, Done, Fault, One, then, before, stepped, give, fail, byteAt, changing, renamed, mapped, top, headed, bind, after, many, until, untilEnd, preceded}
+use Rattle.flow.specs.Tests.{by-test, bytes-drop}
+use Rattle.flow.specs.Flow.{Bytes, Entry, Outcome, Done, Fault, One, then, give, fail, byteAt, changing, mapped, headed, bind, after, many, until, untilEnd, preceded}
+use Rattle.flow.specs.Steps.{before, stepped, renamed, top}
 use Rattle.flow.specs.Laws.{Parsed, Quiet, quiet-is}
-use Rattle.scalar.specs.Scalars.{isText, scalarFrom, intFrom, textFrom, Spelt, Int, Text}
+use Rattle.scalar.specs.Scalars.{isText, scalarFrom, intFrom, textFrom}
+use Rattle.scalar.specs.Grammar.{Spelt, Int, Text}
 use Rattle.scalar.specs.ScalarLaws.{scalar-scans, int-scans, text-scans}
-use Rattle.record.specs.Items.{Leaf, UntypedList, TypedList, UntypedMap, TypedMap, Object, Reference, Item, Val, Definition, ClassName, FieldName, TypeName, TypeNumber, Known, start, opened, typed, defined, Ceilings}
-use Rattle.record.specs.Reading.{Reader, Opening, Form, leaf, few, few-typed, few-object, counted, counted-typed, open-list, open-typed, open-map, typed-map, object, reference, formOf, int, count, name, typeNumber, referenceTo, with-two, container, fieldValues, pair, typeFrom, withType, fieldNames, plainBy, plainFrom, definition, valueFrom, ending, message}
+use Rattle.record.specs.Records.{Leaf, UntypedList, TypedList, UntypedMap, TypedMap, Object, Reference, Item, Val, Definition, ClassName, FieldName, TypeName, TypeNumber, Known, start, opened, typed, defined, Ceilings, Reader, Opening, int, count, name, typeNumber, referenceTo, container, fieldValues, pair, typeFrom, withType, fieldNames, plainFrom, definition, valueFrom, ending, message}
+use Rattle.record.specs.Forms.{Form, leaf, few, few-typed, few-object, counted, counted-typed, open-list, open-typed, open-map, typed-map, object, reference, formOf, plainBy, plain-is}
+use Rattle.record.specs.Shorthands.{with-two}
 
 -- such bytes stand at the head of s
 abbrev pub Stands : (List ℕ → Type 0) → List ℕ → Type 0
@@ -189,21 +192,21 @@ module _ (m : List ℕ) (bytes : Bytes m) where
       plain-by (few-object j) c k b e = holds (λ n. Val (Object j n)) (λ f. fieldValues f k j) (λ a s. tt) (λ f h. fields-opens f h k j) c k (in-message k b e)
       plain-by counted c k b e = holds (λ n. Val (UntypedList n)) (λ f. count (λ o n. mapped (λ u. n) (many f n))) (λ a s. tt)
           (λ f h. count-then (λ o n. mapped (λ u. n) (many f n)) (λ o n. mapped-many f h n n)) c k (in-message k b e)
-      plain-by counted-typed c k b e = holds (λ x. Val (TypedList (x .two) (x .one))) (λ f. withType ℓ (λ t. count (λ o n. mapped (λ u. with-two t n) (many f n)))) (λ a s. tt)
+      plain-by counted-typed c k b e = holds (λ (x : ℕ × ℕ). Val (TypedList (x .1) (x .0))) (λ f. withType ℓ (λ t. count (λ o n. mapped (λ u. with-two t n) (many f n)))) (λ a s. tt)
           (λ f h. with-opens (λ t. count (λ o n. mapped (λ u. with-two t n) (many f n))) (λ t. count-then (λ o n. mapped (λ u. with-two t n) (many f n)) (λ o n. mapped-many f h n (with-two t n)))) c k (in-message k b e)
       plain-by open-list c k b e = holds (λ n. Val (UntypedList n)) (untilEnd 0x5a) (λ a s. tt) end-opens c k (in-message k b e)
-      plain-by open-typed c k b e = holds (λ x. Val (TypedList (x .two) (x .one))) (λ f. withType ℓ (λ t. mapped (with-two t) (untilEnd 0x5a f))) (λ a s. tt)
+      plain-by open-typed c k b e = holds (λ (x : ℕ × ℕ). Val (TypedList (x .1) (x .0))) (λ f. withType ℓ (λ t. mapped (with-two t) (untilEnd 0x5a f))) (λ a s. tt)
           (λ f h. with-opens (λ t. mapped (with-two t) (untilEnd 0x5a f)) (λ t c j. map-opens (with-two t) (untilEnd 0x5a f c j (drop j m)) (end-opens f h c j))) c k (in-message k b e)
       plain-by open-map c k b e = holds (λ n. Val (UntypedMap n)) (λ f. untilEnd 0x5a (pair f)) (λ a s. tt) (λ f h. end-opens (pair f) (pair-opens f h)) c k (in-message k b e)
-      plain-by typed-map c k b e = holds (λ x. Val (TypedMap (x .two) (x .one))) (λ f. withType ℓ (λ t. mapped (with-two t) (untilEnd 0x5a (pair f)))) (λ a s. tt)
+      plain-by typed-map c k b e = holds (λ (x : ℕ × ℕ). Val (TypedMap (x .1) (x .0))) (λ f. withType ℓ (λ t. mapped (with-two t) (untilEnd 0x5a (pair f)))) (λ a s. tt)
           (λ f h. with-opens (λ t. mapped (with-two t) (untilEnd 0x5a (pair f))) (λ t c j. map-opens (with-two t) (untilEnd 0x5a (pair f) c j (drop j m)) (end-opens (pair f) (pair-opens f h) c j))) c k (in-message k b e)
-      plain-by object c k b e = holds (λ x. Val (Object (x .one) (x .two))) (λ f. int (λ o j. mapped (with-two j) (fieldValues f k j))) (λ a s. tt)
+      plain-by object c k b e = holds (λ (x : ℕ × ℕ). Val (Object (x .0) (x .1))) (λ f. int (λ o j. mapped (with-two j) (fieldValues f k j))) (λ a s. tt)
           (λ f h. int-then (λ o j. mapped (with-two j) (fieldValues f k j)) (λ o j c i. map-opens (with-two j) (fieldValues f k j c i (drop i m)) (fields-opens f h k j c i))) c k (in-message k b e)
       plain-by reference c k b e = head-opens k (in-message k b e) (λ j. Val (Reference j)) (λ a s. tt) (int (λ o. referenceTo k) c (k + 1) (drop (k + 1) m))
           (int-then (λ o. referenceTo k) (λ o j c i. cond-opens (ltb j (c .references)) (give j) (fail 6 k) (λ c i. tt) (λ c i. tt) c i) c (k + 1))
 
       plain-opens : AfterByte (plainFrom ℓ below)
-      plain-opens c k b e = plain-by (formOf b) c k b e
+      plain-opens c k b e = rw (plain-is ℓ below k b) (plain-by (formOf b) c k b e)
 
     names-open : (o n : ℕ) → Anywhere (fieldNames ℓ o n)
     names-open o n = cond-opens (ltb (ℓ .fields) n) (fail 7 o) (after (many (name FieldName) n) (changing (defined n) (give n))) (λ c k. tt)

@@ -11,8 +11,9 @@ use Rattle.flow.specs.Flow.{Fault, One, give, fail, byteAt, changing, mapped, h
 use Rattle.flow.specs.Refusals as tell
 use Rattle.scalar.specs.Scalars.{isText, scalarFrom, intFrom, textFrom}
 use Rattle.scalar.specs.Refusals.{scalar-tells, int-tells, text-tells}
-use Rattle.record.specs.Items.{Leaf, UntypedList, TypedList, UntypedMap, TypedMap, Object, Reference, Item, Val, Definition, ClassName, FieldName, TypeName, TypeNumber, Known, start, typed, defined, Ceilings}
-use Rattle.record.specs.Reading.{Reader, Opening, Form, leaf, few, few-typed, few-object, counted, counted-typed, open-list, open-typed, open-map, typed-map, object, reference, formOf, int, count, name, typeNumber, referenceTo, with-two, container, fieldValues, pair, typeName, typeFrom, withType, fieldNames, plainBy, plainFrom, definition, valueFrom, ending, message}
+use Rattle.record.specs.Records.{Leaf, UntypedList, TypedList, UntypedMap, TypedMap, Object, Reference, Item, Val, Definition, ClassName, FieldName, TypeName, TypeNumber, Known, start, typed, defined, Ceilings, Reader, Opening, int, count, name, typeNumber, referenceTo, container, fieldValues, pair, typeName, typeFrom, withType, fieldNames, plainFrom, definition, valueFrom, ending, message}
+use Rattle.record.specs.Forms.{Form, leaf, few, few-typed, few-object, counted, counted-typed, open-list, open-typed, open-map, typed-map, object, reference, formOf, plainBy, plain-is}
+use Rattle.record.specs.Shorthands.{with-two}
 
 abbrev pub Numbered : ℕ → Type 0
 Numbered x = (2 ≤ x) × (x ≤ 8)
@@ -87,19 +88,19 @@ module _ (end : ℕ) where
     plain-part below h (few-object i) p b m = container-part below h p m (λ f. headed p (λ n. Val (Object i n)) (fieldValues f p i)) (λ f k. tell.headed-tells Numbered end p (λ n. Val (Object i n)) (fieldValues f p i) (fields-part f k p m i))
     plain-part below h counted p b m = container-part below h p m (λ f. headed p (λ n. Val (UntypedList n)) (count (λ o n. mapped (λ u. n) (many f n)))) (λ f k.
         tell.headed-tells Numbered end p (λ n. Val (UntypedList n)) (count (λ o n. mapped (λ u. n) (many f n))) (count-part (λ o n. mapped (λ u. n) (many f n)) (λ o q n. tell.mapped-tells Numbered end (λ u. n) (many f n) (tell.many-tells Numbered end two f k n))))
-    plain-part below h counted-typed p b m = container-part below h p m (λ f. headed p (λ x. Val (TypedList (x .two) (x .one))) (withType ℓ (λ t. count (λ o n. mapped (λ u. with-two t n) (many f n))))) (λ f k.
-        tell.headed-tells Numbered end p (λ x. Val (TypedList (x .two) (x .one))) (withType ℓ (λ t. count (λ o n. mapped (λ u. with-two t n) (many f n)))) (type-part (λ t. count (λ o n. mapped (λ u. with-two t n) (many f n)))
+    plain-part below h counted-typed p b m = container-part below h p m (λ f. headed p (λ (x : ℕ × ℕ). Val (TypedList (x .1) (x .0))) (withType ℓ (λ t. count (λ o n. mapped (λ u. with-two t n) (many f n))))) (λ f k.
+        tell.headed-tells Numbered end p (λ (x : ℕ × ℕ). Val (TypedList (x .1) (x .0))) (withType ℓ (λ t. count (λ o n. mapped (λ u. with-two t n) (many f n)))) (type-part (λ t. count (λ o n. mapped (λ u. with-two t n) (many f n)))
         (λ t. count-part (λ o n. mapped (λ u. with-two t n) (many f n)) (λ o q n. tell.mapped-tells Numbered end (λ u. with-two t n) (many f n) (tell.many-tells Numbered end two f k n)))))
     plain-part below h open-list p b m = container-part below h p m (λ f. headed p (λ n. Val (UntypedList n)) (untilEnd 0x5a f)) (λ f k. tell.headed-tells Numbered end p (λ n. Val (UntypedList n)) (untilEnd 0x5a f) (tell.end-tells Numbered end two 0x5a f k))
-    plain-part below h open-typed p b m = container-part below h p m (λ f. headed p (λ x. Val (TypedList (x .two) (x .one))) (withType ℓ (λ t. mapped (with-two t) (untilEnd 0x5a f)))) (λ f k.
-        tell.headed-tells Numbered end p (λ x. Val (TypedList (x .two) (x .one))) (withType ℓ (λ t. mapped (with-two t) (untilEnd 0x5a f))) (type-part (λ t. mapped (with-two t) (untilEnd 0x5a f)) (λ t. tell.mapped-tells Numbered end (with-two t) (untilEnd 0x5a f) (tell.end-tells Numbered end two 0x5a f k))))
+    plain-part below h open-typed p b m = container-part below h p m (λ f. headed p (λ (x : ℕ × ℕ). Val (TypedList (x .1) (x .0))) (withType ℓ (λ t. mapped (with-two t) (untilEnd 0x5a f)))) (λ f k.
+        tell.headed-tells Numbered end p (λ (x : ℕ × ℕ). Val (TypedList (x .1) (x .0))) (withType ℓ (λ t. mapped (with-two t) (untilEnd 0x5a f))) (type-part (λ t. mapped (with-two t) (untilEnd 0x5a f)) (λ t. tell.mapped-tells Numbered end (with-two t) (untilEnd 0x5a f) (tell.end-tells Numbered end two 0x5a f k))))
     plain-part below h open-map p b m = container-part below h p m (λ f. headed p (λ n. Val (UntypedMap n)) (untilEnd 0x5a (pair f))) (λ f k.
         tell.headed-tells Numbered end p (λ n. Val (UntypedMap n)) (untilEnd 0x5a (pair f)) (tell.end-tells Numbered end two 0x5a (pair f) (pair-part f k)))
-    plain-part below h typed-map p b m = container-part below h p m (λ f. headed p (λ x. Val (TypedMap (x .two) (x .one))) (withType ℓ (λ t. mapped (with-two t) (untilEnd 0x5a (pair f))))) (λ f k.
-        tell.headed-tells Numbered end p (λ x. Val (TypedMap (x .two) (x .one))) (withType ℓ (λ t. mapped (with-two t) (untilEnd 0x5a (pair f)))) (type-part (λ t. mapped (with-two t) (untilEnd 0x5a (pair f)))
+    plain-part below h typed-map p b m = container-part below h p m (λ f. headed p (λ (x : ℕ × ℕ). Val (TypedMap (x .1) (x .0))) (withType ℓ (λ t. mapped (with-two t) (untilEnd 0x5a (pair f))))) (λ f k.
+        tell.headed-tells Numbered end p (λ (x : ℕ × ℕ). Val (TypedMap (x .1) (x .0))) (withType ℓ (λ t. mapped (with-two t) (untilEnd 0x5a (pair f)))) (type-part (λ t. mapped (with-two t) (untilEnd 0x5a (pair f)))
         (λ t. tell.mapped-tells Numbered end (with-two t) (untilEnd 0x5a (pair f)) (tell.end-tells Numbered end two 0x5a (pair f) (pair-part f k)))))
-    plain-part below h object p b m = container-part below h p m (λ f. headed p (λ x. Val (Object (x .one) (x .two))) (int (λ o k. mapped (with-two k) (fieldValues f p k)))) (λ f k.
-        tell.headed-tells Numbered end p (λ x. Val (Object (x .one) (x .two))) (int (λ o k. mapped (with-two k) (fieldValues f p k))) (int-part (λ o k. mapped (with-two k) (fieldValues f p k)) (λ o q i. tell.mapped-tells Numbered end (with-two i) (fieldValues f p i) (fields-part f k p m i))))
+    plain-part below h object p b m = container-part below h p m (λ f. headed p (λ (x : ℕ × ℕ). Val (Object (x .0) (x .1))) (int (λ o k. mapped (with-two k) (fieldValues f p k)))) (λ f k.
+        tell.headed-tells Numbered end p (λ (x : ℕ × ℕ). Val (Object (x .0) (x .1))) (int (λ o k. mapped (with-two k) (fieldValues f p k))) (int-part (λ o k. mapped (with-two k) (fieldValues f p k)) (λ o q i. tell.mapped-tells Numbered end (with-two i) (fieldValues f p i) (fields-part f k p m i))))
     plain-part below h reference p b m = tell.headed-tells Numbered end p (λ k. Val (Reference k)) (int (λ o. referenceTo p)) (int-part (λ o. referenceTo p) (λ o q. reference-part p m))
 
     definition-part : (p : ℕ) → p ≤ end → Tells (definition ℓ p)
@@ -112,10 +113,13 @@ module _ (end : ℕ) where
         (tell.bind-tells Numbered end (many (name FieldName) n) (λ u. changing (defined n) (give n)) (tell.many-tells Numbered end two (name FieldName) (name-part FieldName) n) (λ u c at s l. omega arith))))))
         (λ c at s l. ((omega arith, omega arith), m)) c at s
 
+    from-part : (below : Option (Opening One)) → TellsBelow below → TellsFrom (plainFrom ℓ below)
+    from-part below h p b = rw (plain-is ℓ below p b) (plain-part below h (formOf b) p b)
+
     value-part : (d : ℕ) → TellsFrom (valueFrom ℓ d)
     unfolding valueFrom
-    value-part zero = tell.precededBy-tells Numbered end two 0x43 (definition ℓ) (plainFrom ℓ none) definition-part (λ p b. plain-part none tt (formOf b) p b)
-    value-part (suc d) = tell.precededBy-tells Numbered end two 0x43 (definition ℓ) (plainFrom ℓ (some (valueFrom ℓ d))) definition-part (λ p b. plain-part (some (valueFrom ℓ d)) (value-part d) (formOf b) p b)
+    value-part zero = tell.precededBy-tells Numbered end two 0x43 (definition ℓ) (plainFrom ℓ none) definition-part (from-part none tt)
+    value-part (suc d) = tell.precededBy-tells Numbered end two 0x43 (definition ℓ) (plainFrom ℓ (some (valueFrom ℓ d))) definition-part (from-part (some (valueFrom ℓ d)) (value-part d))
 
     message-tells : (d : ℕ) → Tells (message ℓ d)
     unfolding message

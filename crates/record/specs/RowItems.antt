@@ -8,19 +8,16 @@ use native.Mathlib.Omega.{arith}
 use lib.Dec.{T, eqb}
 use lib.ListN.{length}
 use borrow.Author.Tests.{eq-eqb, ne-eqb}
-use Rattle.flow.specs.Tests.{pick}
-use Rattle.flow.specs.Flow.{Answer, Done, Fault, renamed}
+use Rattle.flow.specs.Flow.{pick, Done, Fault}
+use Rattle.flow.specs.Steps.{Answer, renamed}
 use Rattle.scalar.specs.declared.numbers.Sort.{Sort}
 use Rattle.scalar.specs.declared.numbers.Sort.the-variants as sort
 use Rattle.scalar.specs.declared.texts.Kind.{Kind}
 use Rattle.scalar.specs.declared.texts.Kind.the-variants.{Utf8, Binary}
-use Rattle.scalar.specs.Texts.{units, stringAt, shortestString}
+use Rattle.scalar.specs.Scalars.{units, stringAt, shortestString, Num, Str, sortKind}
 use Rattle.scalar.specs.TextAnswers.{Sizes, sized, sizes, measuredAt}
 use Rattle.scalar.specs.TextWriting.{itemForm, formOf}
-use Rattle.scalar.specs.Scalars.{Num, Str}
-use Rattle.record.specs.Items.{Leaf, UntypedList, TypedList, UntypedMap, TypedMap, Object, Reference, Item, Val, Definition, ClassName, FieldName, TypeName, TypeNumber}
-use Rattle.record.specs.Rows.{Row, row, sortKind, itemRow}
-use Rattle.record.specs.Claims.{told, contentAt}
+use Rattle.record.specs.Records.{Leaf, UntypedList, TypedList, UntypedMap, TypedMap, Object, Reference, Item, Val, Definition, ClassName, FieldName, TypeName, TypeNumber, Row, row, itemRow, told, contentAt}
 use Rattle.record.specs.Claimed.{ofKind, sameList, onSome, itemAt, same-refl, claims-back}
 
 -- ---- kinds, each with the item of a row's numbers or content
@@ -103,22 +100,22 @@ module _ (source : List ℕ) where
       go false h = absurd h
 
   module _ {k : ℕ} {f : List ℕ → Item} (t : OfText k f) (x : Row) (h : x .kind ≡ k) where
-    text-at : (o : Answer (List ℕ)) → stringAt Utf8 source (x .place) ≡ o → itemAt source x ≡ onSome (λ cs. texted f (x .first) (x .second) cs (x .place)) (told o)
-    text-at o e = by-kind x k h ∙ text-is t (x .place) (x .first) (x .second) ∙ ap (λ (o : Answer (List ℕ)). onSome (λ cs. texted f (x .first) (x .second) cs (x .place)) (told o)) e
+    text-at : (o : Option (List ℕ)) → told (stringAt Utf8 source (x .place)) ≡ o → itemAt source x ≡ onSome (λ cs. texted f (x .first) (x .second) cs (x .place)) o
+    text-at o e = by-kind x k h ∙ text-is t (x .place) (x .first) (x .second) ∙ ap (λ (o : Option (List ℕ)). onSome (λ cs. texted f (x .first) (x .second) cs (x .place)) o) e
 
-    pub text-lost : (y o : ℕ) → stringAt Utf8 source (x .place) ≡ Fault y o → itemAt source x ≡ none
-    text-lost y o e = text-at (Fault y o) e
+    pub text-lost : told (stringAt Utf8 source (x .place)) ≡ none → itemAt source x ≡ none
+    text-lost e = text-at none e
 
-    module _ (n : ℕ) (cs : List ℕ) (e : stringAt Utf8 source (x .place) ≡ Done n cs [] tt) where
+    module _ (cs : List ℕ) (e : told (stringAt Utf8 source (x .place)) ≡ some cs) where
       pub text-item : x .first ≡ units Utf8 cs → x .second ≡ length cs → itemAt source x ≡ some (f cs)
       text-item u b =
-          text-at (Done n cs [] tt) e ∙ rw (eq-eqb (x .place) (x .place) refl, eq-eqb (units Utf8 cs) (x .first) (sym u), eq-eqb (length cs) (x .second) (sym b), same-true cs)
+          text-at (some cs) e ∙ rw (eq-eqb (x .place) (x .place) refl, eq-eqb (units Utf8 cs) (x .first) (sym u), eq-eqb (length cs) (x .second) (sym b), same-true cs)
 
       pub text-other-units : (x .first ≡ units Utf8 cs → ⊥) → itemAt source x ≡ none
-      text-other-units u = text-at (Done n cs [] tt) e ∙ rw (eq-eqb (x .place) (x .place) refl, ne-eqb (units Utf8 cs) (x .first) (λ z. u (sym z)))
+      text-other-units u = text-at (some cs) e ∙ rw (eq-eqb (x .place) (x .place) refl, ne-eqb (units Utf8 cs) (x .first) (λ z. u (sym z)))
 
       pub text-other-length : (x .second ≡ length cs → ⊥) → itemAt source x ≡ none
-      text-other-length b = text-at (Done n cs [] tt) e ∙ rw (eq-eqb (x .place) (x .place) refl, ne-eqb (length cs) (x .second) (λ z. b (sym z))) (go (eqb (units Utf8 cs) (x .first)))
+      text-other-length b = text-at (some cs) e ∙ rw (eq-eqb (x .place) (x .place) refl, ne-eqb (length cs) (x .second) (λ z. b (sym z))) (go (eqb (units Utf8 cs) (x .first)))
         where
           go : (a : Bool) → cond ((a && false) && sameList cs cs) (some (f cs)) none ≡ none
           go true = refl
@@ -129,23 +126,23 @@ module _ (source : List ℕ) where
     abbrev stringed : List ℕ → Option Item
     stringed cs = cond ((eqb (x .place) (x .place) && (eqb (length cs) (x .first) && eqb 0 (x .second))) && sameList cs cs) (some (Val (Leaf (Str Binary cs)))) none
 
-    string-at : (o : Answer (List ℕ)) → stringAt Binary source (x .place) ≡ o → itemAt source x ≡ onSome stringed (told o)
+    string-at : (o : Option (List ℕ)) → told (stringAt Binary source (x .place)) ≡ o → itemAt source x ≡ onSome stringed o
     unfolding itemAt ofKind pick contentAt
-    string-at o e = by-kind x 8 h ∙ ap (λ (o : Answer (List ℕ)). onSome stringed (told o)) e
+    string-at o e = by-kind x 8 h ∙ ap (λ (o : Option (List ℕ)). onSome stringed o) e
 
-    pub string-lost : (y o : ℕ) → stringAt Binary source (x .place) ≡ Fault y o → itemAt source x ≡ none
-    string-lost y o e = string-at (Fault y o) e
+    pub string-lost : told (stringAt Binary source (x .place)) ≡ none → itemAt source x ≡ none
+    string-lost e = string-at none e
 
-    module _ (n : ℕ) (cs : List ℕ) (e : stringAt Binary source (x .place) ≡ Done n cs [] tt) where
+    module _ (cs : List ℕ) (e : told (stringAt Binary source (x .place)) ≡ some cs) where
       pub string-item : x .first ≡ length cs → x .second ≡ 0 → itemAt source x ≡ some (Val (Leaf (Str Binary cs)))
       string-item u b =
-          string-at (Done n cs [] tt) e ∙ rw (eq-eqb (x .place) (x .place) refl, eq-eqb (length cs) (x .first) (sym u), eq-eqb 0 (x .second) (sym b), same-true cs)
+          string-at (some cs) e ∙ rw (eq-eqb (x .place) (x .place) refl, eq-eqb (length cs) (x .first) (sym u), eq-eqb 0 (x .second) (sym b), same-true cs)
 
       pub string-other-length : (x .first ≡ length cs → ⊥) → itemAt source x ≡ none
-      string-other-length u = string-at (Done n cs [] tt) e ∙ rw (eq-eqb (x .place) (x .place) refl, ne-eqb (length cs) (x .first) (λ z. u (sym z)))
+      string-other-length u = string-at (some cs) e ∙ rw (eq-eqb (x .place) (x .place) refl, ne-eqb (length cs) (x .first) (λ z. u (sym z)))
 
       pub string-other-second : (x .second ≡ 0 → ⊥) → itemAt source x ≡ none
-      string-other-second b = string-at (Done n cs [] tt) e ∙ rw (eq-eqb (x .place) (x .place) refl, ne-eqb 0 (x .second) (λ z. b (sym z))) (go (eqb (length cs) (x .first)))
+      string-other-second b = string-at (some cs) e ∙ rw (eq-eqb (x .place) (x .place) refl, ne-eqb 0 (x .second) (λ z. b (sym z))) (go (eqb (length cs) (x .first)))
         where
           go : (a : Bool) → cond ((a && false) && sameList cs cs) (some (Val (Leaf (Str Binary cs)))) none ≡ none
           go true = refl

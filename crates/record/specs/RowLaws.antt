@@ -3,8 +3,7 @@ use mathlib.Core.Path.{_≡_, refl}
 use Prim.Native.Nat.{ℕ}
 use Rattle.scalar.specs.declared.texts.Kind.the-variants.{Utf8, Binary}
 use Rattle.scalar.specs.Scalars.{Num, Str}
-use Rattle.record.specs.Items.{Leaf, UntypedList, TypedList, UntypedMap, TypedMap, Object, Reference, Item, Val, Definition, ClassName, FieldName, TypeName, TypeNumber}
-use Rattle.record.specs.Rows.{Row, row, itemRow}
+use Rattle.record.specs.Records.{Leaf, UntypedList, TypedList, UntypedMap, TypedMap, Object, Reference, Item, Val, Definition, ClassName, FieldName, TypeName, TypeNumber, Row, row, itemRow}
 
 abbrev pub moved : Row → ℕ → Row
 moved x p = row (x .kind) p (x .first) (x .second)

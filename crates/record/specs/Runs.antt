@@ -9,12 +9,11 @@ use native.Mathlib.Nat.{add-zero}
 use lib.Dec.{eqb, leb}
 use lib.ListN.{length, getD}
 use borrow.Author.Tests.{eqb-true, eqb-false, eq-eqb, ne-eqb, lt-leb, leb-false}
-use Rattle.flow.specs.Tests.{pick, pick-true, pick-false, by-cases, split}
-use Rattle.flow.specs.Flow.{One, give, byteAt, mapped, after, many, until, untilEnd}
+use Rattle.flow.specs.Flow.{pick, One, give, byteAt, mapped, after, many, until, untilEnd}
+use Rattle.flow.specs.Tests.{pick-true, pick-false, by-cases, split}
 use Rattle.record.specs.declared.Group.{Group}
 use Rattle.record.specs.declared.Group.the-variants.{Counted, Fields, Open, Pairs}
-use Rattle.record.specs.Items.{Known}
-use Rattle.record.specs.Reading.{Reader, Opening, pair}
+use Rattle.record.specs.Records.{Known, Reader, Opening, pair}
 use Rattle.record.specs.Placed.{Placed, Got, Lost, run, on, through, on-same, on-on, through-on, through-through, run-give, run-byte, run-end, run-test, run-bounded, run-mapped, run-bind, run-same}
 
 -- ---- n of them

@@ -3,13 +3,10 @@ use mathlib.Core.Path.{_≡_, sym, _∙_, ap}
 use mathlib.Core.Logic.{_↔_}
 use mathlib.Core.List.{List, [], _∷_}
 use Prim.Native.Nat.{ℕ}
-use Rattle.record.specs.Items.{Item, Ceilings}
-use Rattle.record.specs.Rows.{Row, row}
+use Rattle.record.specs.Records.{Item, Ceilings, Row, row, contentAt, Claims, ClaimAll, no-rows, a-row}
 use Rattle.record.specs.RowLaws.{moved, item-moved}
-use Rattle.record.specs.Spelling.{spell}
-use Rattle.record.specs.Claims.{contentAt, Claims, ClaimAll, no-rows, a-row}
+use Rattle.record.specs.Answers.{spell, shortestOf}
 use Rattle.record.specs.Claimed.{onSome, all-claimed}
-use Rattle.record.specs.Answers.{shortestOf}
 
 -- two rows agree in all but place, and their places open the same content, each in its own source
 pub record SameRow (s t : List ℕ) (x y : Row) : Type 0 where

@@ -4,19 +4,19 @@ use mathlib.Core.List.{List, [], _∷_, _++_, map}
 use Prim.Native.Nat.{ℕ, zero, suc}
 use lib.Count.{leadingZeros}
 use lib.ListN.{length, replicate}
-use Rattle.flow.specs.Tests.{pick}
-use Rattle.flow.specs.Flow.{Done, Fault}
-use Rattle.scalar.specs.Chart.{ranges, rangeOf, leadOf, kindOf}
-use Rattle.scalar.specs.Doubles.{scaled, whole, magnitude, widened, wholeSize, wholeGuess, narrowMagnitude, narrowed}
-use Rattle.scalar.specs.Numbers.{value, formsOf, formAt, guess, shortest}
-use Rattle.scalar.specs.Texts.{partHead, lastHeads, charLead, stringFrom, stringAt, longest, content, shortestString}
-use Rattle.scalar.specs.Scalars.{scalarFrom, intFrom, textFrom, shortestScalar}
-use Rattle.record.specs.Reading.{formOf, typeFrom, plainBy, definition, valueFrom, message}
-use Rattle.record.specs.Rows.{Row, row, rows}
-use Rattle.record.specs.Spelling.{objectCode, putType, putDefinition, putPlainBy, putPlain, putValue, spell}
-use Rattle.record.specs.Claims.{contentAt}
+use Rattle.flow.specs.Flow.{pick, Done, Fault}
+use Rattle.scalar.specs.Scalars.{ranges, rangeOf, leadOf, kindOf, scaled, whole, magnitude, widened, value, formsOf, formAt, shortest, partHead, lastHeads, charLead, stringFrom, stringAt, longest, content, shortestString, scalarFrom, intFrom, textFrom, shortestScalar}
+use Rattle.scalar.specs.Guesses.{wholeSize, wholeGuess, narrowMagnitude, narrowed, guess}
+use Rattle.record.specs.Records.{typeFrom, plainFrom, definition, valueFrom, message, Row, row, rows, contentAt}
+use Rattle.record.specs.Answers.{objectCode, putType, putDefinition, putPlainBy, putPlain, putValue, spell, ReadAnswer, Accept, Refuse, judged, read, WriteAnswer, Wrote, Refused, shortestOf, write, base}
 use Rattle.record.specs.Claimed.{ofKind, itemAt}
-use Rattle.record.specs.Answers.{ReadAnswer, Accept, Refuse, judged, read, WriteAnswer, Wrote, Refused, shortestOf, write, base, baseRead, baseWrite}
+
+-- ---- the base: 32 containers open, 262,144 bytes, the open form from 48 elements on
+abbrev pub baseRead : (lent : ℕ) → List ℕ → ReadAnswer
+baseRead = read base 32 262_144
+
+abbrev pub baseWrite : (lent : ℕ) → List ℕ → List Row → WriteAnswer
+baseWrite = write base 48 32 262_144
 
 -- ---- what a sample says
 -- what becomes of a message: the writer's message for its own rows, or a refusal's number and place
@@ -230,18 +230,18 @@ placed =
 
 -- ---- they hold
 pub marked-hold : Hold marked
-unfolding judged message valueFrom plainBy definition typeFrom formOf pick scalarFrom intFrom textFrom stringFrom leadOf rangeOf ranges kindOf formsOf formAt value whole widened magnitude scaled leadingZeros partHead lastHeads charLead
+unfolding judged message valueFrom plainFrom definition typeFrom pick scalarFrom intFrom textFrom stringFrom leadOf rangeOf ranges kindOf formsOf formAt value whole widened magnitude scaled leadingZeros partHead lastHeads charLead
     write shortestOf itemAt ofKind contentAt stringAt spell putValue putPlain putPlainBy putDefinition putType objectCode shortestScalar shortest guess wholeGuess wholeSize narrowed narrowMagnitude shortestString content longest
 marked-hold = refl
 
 pub samples-hold : Hold (car ++ (classes ++ (accepted ++ (refused-1 ++ (refused-2 ++ (refused-3 ++ (refused-4 ++ (refused-5 ++ (refused-6 ++ (refused-7 ++ (refused-8 ++ (written ++ (list-forms ++ (no-records ++ placed))))))))))))))
-unfolding judged message valueFrom plainBy definition typeFrom formOf pick scalarFrom intFrom textFrom stringFrom leadOf rangeOf ranges kindOf formsOf formAt value whole widened magnitude scaled leadingZeros partHead lastHeads charLead
+unfolding judged message valueFrom plainFrom definition typeFrom pick scalarFrom intFrom textFrom stringFrom leadOf rangeOf ranges kindOf formsOf formAt value whole widened magnitude scaled leadingZeros partHead lastHeads charLead
     write shortestOf itemAt ofKind contentAt stringAt spell putValue putPlain putPlainBy putDefinition putType objectCode shortestScalar shortest guess wholeGuess wholeSize narrowed narrowMagnitude shortestString content longest
 samples-hold = refl
 
 -- lengths: a message too long for the ceiling, fewer rows lent than needed; a source too long, a shortest message too long, fewer bytes lent than needed
 pub lengths : (read base 32 3 9 (0x7b ∷ 0x90 ∷ 0x90 ∷ 0x90 ∷ []) ≡ Refuse 1 0 0) × (baseRead 1 (0x79 ∷ 0x90 ∷ []) ≡ Refuse 9 2 0)
     × (write base 48 32 1 9 (0x90 ∷ 0x90 ∷ []) [] ≡ Refused 1 0) × (write base 48 32 1 9 [] (row 3 0 48 0 ∷ []) ≡ Refused 1 0) × (baseWrite 1 [] (row 3 0 48 0 ∷ []) ≡ Refused 9 2)
-unfolding judged message valueFrom plainBy definition typeFrom formOf pick scalarFrom intFrom textFrom stringFrom leadOf rangeOf ranges kindOf formsOf formAt value whole widened magnitude scaled leadingZeros partHead lastHeads charLead
+unfolding judged message valueFrom plainFrom definition typeFrom pick scalarFrom intFrom textFrom stringFrom leadOf rangeOf ranges kindOf formsOf formAt value whole widened magnitude scaled leadingZeros partHead lastHeads charLead
     write shortestOf itemAt ofKind contentAt stringAt spell putValue putPlain putPlainBy putDefinition putType objectCode shortestScalar shortest guess wholeGuess wholeSize narrowed narrowMagnitude shortestString content longest
 lengths = (refl, refl, refl, refl, refl)

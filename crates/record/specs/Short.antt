@@ -9,12 +9,13 @@ use lib.Dec.{T, ltb, eqb, leb}
 use lib.ListN.{length, getD, length-append}
 use borrow.Author.Tests.{eq-eqb, lt-ltb, le-leb}
 use Rattle.flow.specs.Tests.{by-test, pass, tests}
-use Rattle.flow.specs.Laws.{Phrase, Many, finished, another, Ended, ended, Preceded, alone, first}
-use Rattle.scalar.specs.Scalars.{Int, Text, shortestScalar, shortestInt, shortestText}
+use Rattle.flow.specs.Grammar.{Phrase, Many, finished, another, Ended, ended, Preceded, alone, first}
+use Rattle.scalar.specs.Grammar.{Int, Text}
+use Rattle.scalar.specs.Scalars.{shortestScalar, shortestInt, shortestText}
 use Rattle.scalar.specs.ScalarLaws.{scalar-short, int-short, int-some, small-count, text-short}
-use Rattle.record.specs.Items.{Value, UntypedList, TypedList, UntypedMap, TypedMap, Object, Reference, Item, Val, Definition, ClassName, FieldName, TypeName, TypeNumber, Known, opened, typed, defined, Ceilings}
+use Rattle.record.specs.Records.{Value, UntypedList, TypedList, UntypedMap, TypedMap, Object, Reference, Item, Val, Definition, ClassName, FieldName, TypeName, TypeNumber, Known, opened, typed, defined, Ceilings}
 use Rattle.record.specs.Grammar.{NameForm, a-name, TypeForm, type-name, type-number, PairForm, a-pair, DefinitionForm, a-definition, PlainForm, a-leaf, a-few, a-counted, an-open, a-few-typed, a-counted-typed, an-open-typed, a-map, a-typed-map, a-few-object, an-object, a-reference, Nowhere, ValueForm, Message}
-use Rattle.record.specs.Spelling.{Spelled, Put, putThen, putMany, putBytes, putNothing, putCode, className?, fieldName?, putName, putList, putOpen, codeThen, objectCode, putContainer, putIf, putType, putPlainBy, putPlain, putDefined, putDefinition, putPreceded, putPrecededBy, putValue, spell}
+use Rattle.record.specs.Answers.{Spelled, Put, putThen, putMany, putBytes, putNothing, putCode, className?, fieldName?, putName, putList, putOpen, codeThen, objectCode, putContainer, putIf, putType, putPlainBy, putPlain, putDefined, putDefinition, putPreceded, putPrecededBy, putValue, spell}
 
 -- of these items, whatever follows, g makes at most n bytes
 record Spells (g : Put) (c : Known) (is : List Item) (n : ℕ) (c′ : Known) : Type 0 where

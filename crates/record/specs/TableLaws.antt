@@ -5,12 +5,12 @@ use Prim.Native.Nat.{ℕ, _*_, _^_, _≤_, _<_}
 use native.Mathlib.Omega.{arith}
 use lib.ListN.{length, take, drop, length-append}
 use lib.Seq.{take-at, drop-at, take-all, drop-drop}
-use Rattle.flow.specs.Overlay.{flat, overlay}
-use Rattle.flow.specs.OverlayLaws.{overlay-flat}
+use Rattle.flow.specs.OverlayLaws.{flat, overlay-flat}
+use Rattle.flow.specs.Flow.{overlay}
 use Rattle.wire.specs.BigEndian.{joined, be, high}
 use Rattle.wire.specs.Laws.{be-length, joined-be}
-use Rattle.record.specs.Rows.{Row, row}
-use Rattle.record.specs.Tables.{Layout, asNumbers, asBytes, rowsOf}
+use Rattle.record.specs.Records.{Row, row}
+use Rattle.record.specs.Answers.{Layout, asNumbers, asBytes, rowsOf}
 
 -- each row has the layout's width, and is its numbers again
 pub record Sound (L : Layout) (r : Row) : Type 0 where

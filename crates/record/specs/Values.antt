@@ -1,5 +1,5 @@
 -- What is read of a value by its first byte, at a place of the whole message: one law for each form, and one for each refusal.
-use mathlib.Core.Path.{_≡_, refl, sym, ap, ap₂, _∙_}
+use mathlib.Core.Path.{_≡_, refl, sym, ap, _∙_, ap₂}
 use mathlib.Core.Bool.{Bool, true, false, cond}
 use mathlib.Core.List.{List, [], _∷_}
 use mathlib.Core.Option.{Option, none, some}
@@ -8,25 +8,24 @@ use native.Mathlib.Omega.{arith}
 use lib.Dec.{T, ltb}
 use lib.ListN.{length, drop, getD}
 use borrow.Author.Tests.{lt-ltb, le-ltb}
-use Rattle.flow.specs.Tests.{pick, pick-true, pick-false}
-use Rattle.flow.specs.Flow.{Outcome, Done, Fault, One, Answer, give, fail, byteAt, changing, mapped, top, headed, many, untilEnd}
+use Rattle.flow.specs.Flow.{pick, Outcome, Done, Fault, One, give, fail, byteAt, changing, mapped, headed, many, untilEnd}
+use Rattle.flow.specs.Steps.{Answer, top}
+use Rattle.flow.specs.Tests.{pick-true, pick-false}
 use Rattle.scalar.specs.declared.numbers.Sort.{Sort}
 use Rattle.scalar.specs.declared.numbers.Sort.the-variants.{Int}
 use Rattle.scalar.specs.declared.texts.Kind.{Kind}
 use Rattle.scalar.specs.declared.texts.Kind.the-variants.{Utf8, Binary}
 use Rattle.scalar.specs.declared.chart.Lead.{Lead}
 use Rattle.scalar.specs.declared.chart.Lead.the-variants as lead
-use Rattle.scalar.specs.Chart.{leadOf}
-use Rattle.scalar.specs.Numbers.{formsOf, numberFrom, numberAt}
-use Rattle.scalar.specs.Texts.{stringFrom, stringAt}
+use Rattle.scalar.specs.Scalars.{leadOf, formsOf, numberFrom, sortKind, stringFrom, stringAt, Scalar, Num, Str, scalarBy, scalarFrom}
+use Rattle.scalar.specs.Answers.{numberAt}
 use Rattle.scalar.specs.TextAnswers.{Sizes, sized, sizes, measuredAt}
-use Rattle.scalar.specs.Scalars.{Scalar, Num, Str, isScalar, scalarBy, scalarFrom}
-use Rattle.scalar.specs.ScalarLaws.{scalar-shut}
+use Rattle.scalar.specs.ScalarLaws.{isScalar, scalar-shut}
 use Rattle.record.specs.declared.Group.{Group}
 use Rattle.record.specs.declared.Group.the-variants.{Counted, Fields, Open, Pairs}
-use Rattle.record.specs.Items.{Leaf, UntypedList, TypedList, UntypedMap, TypedMap, Object, Reference, Item, Val, Known, opened, Ceilings}
-use Rattle.record.specs.Reading.{Reader, Opening, Form, leaf, few, few-typed, few-object, counted, counted-typed, open-list, open-typed, open-map, typed-map, object, reference, formOf, int, count, referenceTo, Two, with-two, fieldValues, pair, typeFrom, withType, plainBy, plainFrom}
-use Rattle.record.specs.Rows.{Row, row, sortKind, itemRow}
+use Rattle.record.specs.Records.{Leaf, UntypedList, TypedList, UntypedMap, TypedMap, Object, Reference, Item, Val, Known, opened, Ceilings, Reader, Opening, int, count, referenceTo, fieldValues, pair, typeFrom, withType, plainFrom, Row, row, itemRow}
+use Rattle.record.specs.Forms.{Form, leaf, few, few-typed, few-object, counted, counted-typed, open-list, open-typed, open-map, typed-map, object, reference, formOf, plainBy, plain-is}
+use Rattle.record.specs.Shorthands.{Two, with-two}
 use Rattle.record.specs.Placed.{Placed, Got, Lost, placed, run, front, on, through, topped, topped-through, run-give, run-fail, run-changing, run-asking, run-test, run-headed, run-mapped, run-bind}
 use Rattle.record.specs.Runs.{rest, rest-many, rest-fields, rest-open, rest-pairs}
 use Rattle.record.specs.Parts.{lone, laid, number-behind, string-behind, string-laid, int-got, int-lost, count-got, count-negative, count-lost}
@@ -41,11 +40,15 @@ abbrev stringRow : Kind → ℕ → Sizes → Row
 stringRow Utf8 p s = row 7 p (s .units) (s .bytes)
 stringRow Binary p s = row 8 p (s .bytes) 0
 
+-- the reading by the form of the first byte
+run-plain : (ℓ : Ceilings) (below : Option (Opening One)) (c : Known) (m : List ℕ) (p : ℕ) (x : Form) → formOf (getD m p 0) ≡ x → run (plainFrom ℓ below p (getD m p 0)) c m (p + 1) ≡ run (plainBy ℓ below x p (getD m p 0)) c m (p + 1)
+run-plain ℓ below c m p x h = ap (λ (r : Reader One). run r c m (p + 1)) (plain-is ℓ below p (getD m p 0) ∙ ap (λ (y : Form). plainBy ℓ below y p (getD m p 0)) h)
+
 module _ (ℓ : Ceilings) (below : Option (Opening One)) (c : Known) (m : List ℕ) (p : ℕ) (l : p < length m) (h : formOf (getD m p 0) ≡ leaf) where
   leaf-by : (x : Lead) → leadOf (getD m p 0) ≡ x → run (plainFrom ℓ below p (getD m p 0)) c m (p + 1) ≡ topped p (λ x. Val (Leaf x)) (run (scalarBy x p (getD m p 0)) c m (p + 1))
   unfolding plainBy scalarFrom
   leaf-by x e =
-      ap (λ (y : Form). run (plainBy ℓ below y p (getD m p 0)) c m (p + 1)) h
+      run-plain ℓ below c m p leaf h
       ∙ run-headed p (λ x. Val (Leaf x)) (scalarFrom p (getD m p 0)) c m (p + 1)
       ∙ ap (λ (y : Lead). topped p (λ x. Val (Leaf x)) (run (scalarBy y p (getD m p 0)) c m (p + 1))) e
 
@@ -95,14 +98,14 @@ module _ (ℓ : Ceilings) (below : Option (Opening One)) (c : Known) (m : List �
   pub leaf-none : isScalar (getD m p 0) ≡ false → run (plainFrom ℓ below p (getD m p 0)) c m (p + 1) ≡ Lost 3 p
   unfolding plainBy run
   leaf-none t =
-      ap (λ (y : Form). run (plainBy ℓ below y p (getD m p 0)) c m (p + 1)) h
+      run-plain ℓ below c m p leaf h
       ∙ ap (λ (o : Outcome Known Item Scalar). placed (p + 1) (top p (λ x. Val (Leaf x)) o)) (scalar-shut Item (getD m p 0) (rw t tt) p c (p + 1) (drop (p + 1) m))
 
 -- ---- a reference
 module _ (ℓ : Ceilings) (below : Option (Opening One)) (c : Known) (m : List ℕ) (p : ℕ) (l : p < length m) (h : formOf (getD m p 0) ≡ reference) where
   reference-by : run (plainFrom ℓ below p (getD m p 0)) c m (p + 1) ≡ topped p (λ k. Val (Reference k)) (run (int (λ o. referenceTo p)) c m (p + 1))
   unfolding plainBy
-  reference-by = ap (λ (y : Form). run (plainBy ℓ below y p (getD m p 0)) c m (p + 1)) h ∙ run-headed p (λ k. Val (Reference k)) (int (λ o. referenceTo p)) c m (p + 1)
+  reference-by = run-plain ℓ below c m p reference h ∙ run-headed p (λ k. Val (Reference k)) (int (λ o. referenceTo p)) c m (p + 1)
 
   reference-test : (n k : ℕ) → numberAt Int m (p + 1) ≡ Done n k [] tt → run (int (λ o. referenceTo p)) c m (p + 1) ≡ pick (ltb k (c .references)) (Got (p + 1 + n) k [] c) (Lost 6 p)
   reference-test n k e =
@@ -178,7 +181,7 @@ module _ (ℓ : Ceilings) (below : Option (Opening One)) (c : Known) (m : List �
   -- where no more may open
   pub form-full : (x : Form) → formOf (getD m p 0) ≡ x → T (holds x) → below ≡ none → run (plainFrom ℓ below p (getD m p 0)) c m (p + 1) ≡ Lost 7 p
   unfolding plainBy run
-  form-full x h t w = ap₂ (λ (u : Option (Opening One)) (y : Form). run (plainBy ℓ u y p (getD m p 0)) c m (p + 1)) w h ∙ go x t
+  form-full x h t w = run-plain ℓ below c m p x h ∙ ap (λ (u : Option (Opening One)). run (plainBy ℓ u x p (getD m p 0)) c m (p + 1)) w ∙ go x t
     where
       go : (x : Form) → T (holds x) → run (plainBy ℓ none x p (getD m p 0)) c m (p + 1) ≡ Lost 7 p
       go leaf t = absurd t
@@ -202,7 +205,8 @@ module _ (ℓ : Ceilings) (below : Option (Opening One)) (c : Known) (m : List �
 
     held : {A : Type 0} (X : A → Item) (g : Reader A) (x : Form) → plainBy ℓ (some f) x p (getD m p 0) ≡ changing opened (headed p X g) → formOf (getD m p 0) ≡ x → Here ≡ topped p X (run g (opened c) m (p + 1))
     held X g x e h =
-        ap₂ (λ (u : Option (Opening One)) (y : Form). run (plainBy ℓ u y p (getD m p 0)) c m (p + 1)) w h
+        run-plain ℓ below c m p x h
+        ∙ ap (λ (u : Option (Opening One)). run (plainBy ℓ u x p (getD m p 0)) c m (p + 1)) w
         ∙ ap (λ (r : Reader One). run r c m (p + 1)) e
         ∙ run-changing opened (headed p X g) c m (p + 1)
         ∙ run-headed p X g (opened c) m (p + 1)
@@ -252,16 +256,16 @@ module _ (ℓ : Ceilings) (below : Option (Opening One)) (c : Known) (m : List �
       form-few-object-ungiven s = few-object-by ∙ ap (topped p (λ n. Val (Object k n))) (fields-ungiven f p k (opened c) m (p + 1) s)
 
     module _ (h : formOf (getD m p 0) ≡ object) where
-      object-by : Here ≡ topped p (λ x. Val (Object (x .one) (x .two))) (run (int (λ o k. mapped (with-two k) (fieldValues f p k))) (opened c) m (p + 1))
+      object-by : Here ≡ topped p (λ (x : ℕ × ℕ). Val (Object (x .0) (x .1))) (run (int (λ o k. mapped (with-two k) (fieldValues f p k))) (opened c) m (p + 1))
       unfolding plainBy
-      object-by = held (λ x. Val (Object (x .one) (x .two))) (int (λ o k. mapped (with-two k) (fieldValues f p k))) object refl h
+      object-by = held (λ (x : ℕ × ℕ). Val (Object (x .0) (x .1))) (int (λ o k. mapped (with-two k) (fieldValues f p k))) object refl h
 
       object-class : (n k : ℕ) → numberAt Int m (p + 1) ≡ Done n k [] tt → Here ≡ topped p (λ n. Val (Object k n)) (run (fieldValues f p k) (opened c) m (p + 1 + n))
       object-class n k e =
           object-by
-          ∙ ap (topped p (λ x. Val (Object (x .one) (x .two))))
+          ∙ ap (topped p (λ (x : ℕ × ℕ). Val (Object (x .0) (x .1))))
           (int-got (λ o k. mapped (with-two k) (fieldValues f p k)) (opened c) m (p + 1) (omega arith) n k e ∙ run-mapped (with-two k) (fieldValues f p k) (opened c) m (p + 1 + n))
-          ∙ topped-through p (λ x. Val (Object (x .one) (x .two))) (with-two k) (run (fieldValues f p k) (opened c) m (p + 1 + n))
+          ∙ topped-through p (λ (x : ℕ × ℕ). Val (Object (x .0) (x .1))) (with-two k) (run (fieldValues f p k) (opened c) m (p + 1 + n))
 
       pub form-object : (z k n : ℕ) → numberAt Int m (p + 1) ≡ Done z k [] tt → n ≡ getD (c .classes) k 0 → k < length (c .classes)
           → Here ≡ topped p (heading (Fields k n) none) (run (rest f (Fields k n) 0) (opened c) m (p + 1 + z))
@@ -271,7 +275,7 @@ module _ (ℓ : Ceilings) (below : Option (Opening One)) (c : Known) (m : List �
       form-object-ungiven z k e s = object-class z k e ∙ ap (topped p (λ n. Val (Object k n))) (fields-ungiven f p k (opened c) m (p + 1 + z) s)
 
       pub form-object-lost : (x o : ℕ) → numberAt Int m (p + 1) ≡ Fault x o → Here ≡ Lost x o
-      form-object-lost x o e = object-by ∙ ap (topped p (λ x. Val (Object (x .one) (x .two)))) (int-lost (λ o k. mapped (with-two k) (fieldValues f p k)) (opened c) m (p + 1) (omega arith) x o e)
+      form-object-lost x o e = object-by ∙ ap (topped p (λ (x : ℕ × ℕ). Val (Object (x .0) (x .1)))) (int-lost (λ o k. mapped (with-two k) (fieldValues f p k)) (opened c) m (p + 1) (omega arith) x o e)
 
     -- with a type
     behind-type : {A : Type 0} (X : A → Item) (k : ℕ → Reader A) (x : Form) → plainBy ℓ (some f) x p (getD m p 0) ≡ changing opened (headed p X (withType ℓ k)) → formOf (getD m p 0) ≡ x
@@ -288,11 +292,11 @@ module _ (ℓ : Ceilings) (below : Option (Opening One)) (c : Known) (m : List �
     form-type-lost (few-object k) h t y o e = absurd t
     form-type-lost counted h t y o e = absurd t
     form-type-lost counted-typed h t y o e =
-        behind-type (λ x. Val (TypedList (x .two) (x .one))) (λ t. count (λ o n. mapped (λ u. with-two t n) (many f n))) counted-typed refl h (Lost y o) e
+        behind-type (λ (x : ℕ × ℕ). Val (TypedList (x .1) (x .0))) (λ t. count (λ o n. mapped (λ u. with-two t n) (many f n))) counted-typed refl h (Lost y o) e
     form-type-lost open-list h t y o e = absurd t
-    form-type-lost open-typed h t y o e = behind-type (λ x. Val (TypedList (x .two) (x .one))) (λ t. mapped (with-two t) (untilEnd 0x5a f)) open-typed refl h (Lost y o) e
+    form-type-lost open-typed h t y o e = behind-type (λ (x : ℕ × ℕ). Val (TypedList (x .1) (x .0))) (λ t. mapped (with-two t) (untilEnd 0x5a f)) open-typed refl h (Lost y o) e
     form-type-lost open-map h t y o e = absurd t
-    form-type-lost typed-map h t y o e = behind-type (λ x. Val (TypedMap (x .two) (x .one))) (λ t. mapped (with-two t) (untilEnd 0x5a (pair f))) typed-map refl h (Lost y o) e
+    form-type-lost typed-map h t y o e = behind-type (λ (x : ℕ × ℕ). Val (TypedMap (x .1) (x .0))) (λ t. mapped (with-two t) (untilEnd 0x5a (pair f))) typed-map refl h (Lost y o) e
     form-type-lost object h t y o e = absurd t
     form-type-lost reference h t y o e = absurd t
 
@@ -322,28 +326,28 @@ module _ (ℓ : Ceilings) (below : Option (Opening One)) (c : Known) (m : List �
       pub form-open-typed : formOf (getD m p 0) ≡ open-typed → Here ≡ topped p (heading Open (some t)) (front rs (run (rest f Open 0) c₁ m e))
       unfolding plainBy
       form-open-typed h =
-          behind-type (λ x. Val (TypedList (x .two) (x .one))) (λ t. mapped (with-two t) (untilEnd 0x5a f)) open-typed refl h (Got e t rs c₁) y
-          ∙ mapped-topped (λ x. Val (TypedList (x .two) (x .one))) (with-two t) (untilEnd 0x5a f) e
+          behind-type (λ (x : ℕ × ℕ). Val (TypedList (x .1) (x .0))) (λ t. mapped (with-two t) (untilEnd 0x5a f)) open-typed refl h (Got e t rs c₁) y
+          ∙ mapped-topped (λ (x : ℕ × ℕ). Val (TypedList (x .1) (x .0))) (with-two t) (untilEnd 0x5a f) e
           ∙ ap (λ (o : Placed ℕ). topped p (heading Open (some t)) (front rs o)) (rest-open f m c₁ e)
 
       pub form-typed-map : formOf (getD m p 0) ≡ typed-map → Here ≡ topped p (heading Pairs (some t)) (front rs (run (rest f Pairs 0) c₁ m e))
       unfolding plainBy
       form-typed-map h =
-          behind-type (λ x. Val (TypedMap (x .two) (x .one))) (λ t. mapped (with-two t) (untilEnd 0x5a (pair f))) typed-map refl h (Got e t rs c₁) y
-          ∙ mapped-topped (λ x. Val (TypedMap (x .two) (x .one))) (with-two t) (untilEnd 0x5a (pair f)) e
+          behind-type (λ (x : ℕ × ℕ). Val (TypedMap (x .1) (x .0))) (λ t. mapped (with-two t) (untilEnd 0x5a (pair f))) typed-map refl h (Got e t rs c₁) y
+          ∙ mapped-topped (λ (x : ℕ × ℕ). Val (TypedMap (x .1) (x .0))) (with-two t) (untilEnd 0x5a (pair f)) e
           ∙ ap (λ (o : Placed ℕ). topped p (heading Pairs (some t)) (front rs o)) (rest-pairs f m c₁ e)
 
       module _ (h : formOf (getD m p 0) ≡ counted-typed) (i : e ≤ length m) where
-        counted-typed-by : (o : Placed Two) → run (count (λ o n. mapped (λ u. with-two t n) (many f n))) c₁ m e ≡ o → Here ≡ topped p (λ x. Val (TypedList (x .two) (x .one))) (front rs o)
+        counted-typed-by : (o : Placed Two) → run (count (λ o n. mapped (λ u. with-two t n) (many f n))) c₁ m e ≡ o → Here ≡ topped p (λ (x : ℕ × ℕ). Val (TypedList (x .1) (x .0))) (front rs o)
         unfolding plainBy
         counted-typed-by o q =
-            behind-type (λ x. Val (TypedList (x .two) (x .one))) (λ t. count (λ o n. mapped (λ u. with-two t n) (many f n))) counted-typed refl h (Got e t rs c₁) y
-            ∙ ap (λ (o : Placed Two). topped p (λ x. Val (TypedList (x .two) (x .one))) (front rs o)) q
+            behind-type (λ (x : ℕ × ℕ). Val (TypedList (x .1) (x .0))) (λ t. count (λ o n. mapped (λ u. with-two t n) (many f n))) counted-typed refl h (Got e t rs c₁) y
+            ∙ ap (λ (o : Placed Two). topped p (λ (x : ℕ × ℕ). Val (TypedList (x .1) (x .0))) (front rs o)) q
 
         pub form-counted-typed : (n v : ℕ) → numberAt Int m e ≡ Done n v [] tt → v < 2 ^ 63 → Here ≡ topped p (heading (Counted v) (some t)) (front rs (run (rest f (Counted v) 0) c₁ m (e + n)))
         form-counted-typed n v z s =
             counted-typed-by (run (mapped (λ u. with-two t v) (many f v)) c₁ m (e + n)) (count-got (λ o n. mapped (λ u. with-two t n) (many f n)) c₁ m e i n v z s)
-            ∙ many-topped (λ x. Val (TypedList (x .two) (x .one))) (with-two t v) v (e + n) refl
+            ∙ many-topped (λ (x : ℕ × ℕ). Val (TypedList (x .1) (x .0))) (with-two t v) v (e + n) refl
 
         pub form-counted-typed-negative : (n v : ℕ) → numberAt Int m e ≡ Done n v [] tt → 2 ^ 63 ≤ v → Here ≡ Lost 5 e
         form-counted-typed-negative n v z s = counted-typed-by (Lost 5 e) (count-negative (λ o n. mapped (λ u. with-two t n) (many f n)) c₁ m e i n v z s)

@@ -8,11 +8,9 @@ use lib.Dec.{ltb}
 use lib.ListN.{length, drop-of-length-le}
 use lib.Seq.{drop-cons}
 use borrow.Author.Tests.{lt-ltb, le-ltb}
-use Rattle.flow.specs.Tests.{pick, pick-true, pick-false}
-use Rattle.flow.specs.Flow.{Entry, Outcome, Done, Fault, One, byteAt}
-use Rattle.record.specs.Items.{Item, Known, start, Ceilings}
-use Rattle.record.specs.Reading.{valueFrom, ending, message}
-use Rattle.record.specs.Rows.{Row, rows}
+use Rattle.flow.specs.Flow.{pick, Entry, Outcome, Done, Fault, One, byteAt}
+use Rattle.flow.specs.Tests.{pick-true, pick-false}
+use Rattle.record.specs.Records.{Item, Known, start, Ceilings, valueFrom, ending, message, Row, rows}
 use Rattle.record.specs.Answers.{ReadAnswer, Accept, Refuse, judged, answered, read}
 use Rattle.record.specs.Placed.{Placed, Got, Lost, placed, run, front, on, run-bind}
 

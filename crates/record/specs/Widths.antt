@@ -5,20 +5,18 @@ use mathlib.Core.List.{List, [], _∷_, _++_}
 use Prim.Native.Nat.{ℕ, zero, suc, _+_, _^_, _≤_, _<_}
 use native.Mathlib.Omega.{arith}
 use lib.ListN.{length, getD, length-append}
-use Rattle.flow.specs.Tests.{Bytes}
-use Rattle.flow.specs.Flow.{Entry, items}
-use Rattle.flow.specs.Laws.{Phrase, Many, finished, another, Ended, ended, Preceded, alone, first}
+use Rattle.flow.specs.Flow.{Bytes, Entry, items}
+use Rattle.flow.specs.Grammar.{Phrase, Many, finished, another, Ended, ended, Preceded, alone, first}
 use Rattle.scalar.specs.declared.numbers.Sort.{Sort}
 use Rattle.scalar.specs.declared.numbers.Sort.the-variants as sort
 use Rattle.scalar.specs.declared.texts.Kind.the-variants.{Utf8, Binary}
-use Rattle.scalar.specs.Scalars.{Scalar, Spelt, a-number, a-string, Text}
-use Rattle.scalar.specs.Texts.{units}
+use Rattle.scalar.specs.Scalars.{Scalar, units, sortKind}
+use Rattle.scalar.specs.Grammar.{Spelt, a-number, a-string, Text}
 use Rattle.scalar.specs.NumberLaws.{number-some}
 use Rattle.scalar.specs.TextLaws.{string-some}
 use Rattle.scalar.specs.Bits.{number-bits, content-length, units-few}
-use Rattle.record.specs.Items.{Leaf, Item, Val, FieldName, Known, start, opened, typed, defined, Ceilings}
+use Rattle.record.specs.Records.{Leaf, Item, Val, FieldName, Known, start, opened, typed, defined, Ceilings, row, itemRow, rows}
 use Rattle.record.specs.Grammar.{NameForm, a-name, TypeForm, type-name, type-number, PairForm, a-pair, DefinitionForm, a-definition, PlainForm, a-leaf, a-few, a-counted, an-open, a-few-typed, a-counted-typed, an-open-typed, a-map, a-typed-map, a-few-object, an-object, a-reference, Nowhere, ValueForm}
-use Rattle.record.specs.Rows.{row, sortKind, itemRow, rows}
 use Rattle.record.specs.RowLaws.{item-moved}
 use Rattle.record.specs.Meaning.{reads-derived}
 use Rattle.record.specs.Extent.{scalar-some}

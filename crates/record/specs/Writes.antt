@@ -1,19 +1,18 @@
--- What is written of a value, a type or a class definition by the item at an index: one law for each kind of item, and one for each way to
--- be no record.
+-- What is written of a value by the item at an index: one law for each kind of item, and one for each way to be no record; of a list, map
+-- or object with a type, up to the values inside.
 use mathlib.Core.Path.{_≡_, refl, ap, _∙_}
 use mathlib.Core.Bool.{Bool, true, false, cond, _&&_}
 use mathlib.Core.List.{List, [], _∷_, _++_}
 use mathlib.Core.Option.{Option, none, some}
-use Prim.Native.Nat.{ℕ, suc, _+_, _-_, _≤_, _<_}
+use Prim.Native.Nat.{ℕ, suc, _+_, _≤_, _<_}
 use native.Mathlib.Omega.{arith}
 use lib.Dec.{ltb, eqb}
-use lib.ListN.{length, drop, getD, length-drop}
-use borrow.Author.Tests.{lt-ltb, le-ltb, eq-eqb, ne-eqb}
+use lib.ListN.{length, getD}
+use borrow.Author.Tests.{lt-ltb, le-ltb}
 use Rattle.scalar.specs.Scalars.{Scalar, shortestScalar, shortestInt}
-use Rattle.record.specs.Items.{Value, Leaf, UntypedList, TypedList, UntypedMap, TypedMap, Object, Reference, Item, Val, Known, opened, Ceilings}
-use Rattle.record.specs.Spelling.{Put, putThen, putMany, putNothing, putBytes, putCode, putIf, value?, putOpen, putList, codeThen, objectCode, putContainer, putType, putPlainBy, putPlain}
-use Rattle.record.specs.Walked.{At, End, at-within, Walked, Over, Stuck, walk, behind, onOver, behind-behind, Drops, then-drops, many-drops, walk-then, walk-bytes, walk-none, walk-if, walk-unless, walk-both, walk-unless-one, walk-unless-other, walk-if-none, walk-item, walk-other, walk-over, walk-same, walk-within, walk-first, walk-first-none}
-use Rattle.record.specs.Drops.{nothing-drops, type-drops}
+use Rattle.record.specs.Records.{Value, Leaf, UntypedList, TypedList, UntypedMap, TypedMap, Object, Reference, Item, Val, Known, opened, Ceilings}
+use Rattle.record.specs.Answers.{Put, putThen, putMany, putNothing, putBytes, putCode, putIf, value?, putOpen, putList, codeThen, objectCode, putContainer, putType, putPlainBy, putPlain}
+use Rattle.record.specs.Walked.{At, End, at-within, Walked, Over, Stuck, walk, behind, onOver, behind-behind, Drops, walk-then, walk-bytes, walk-none, walk-if, walk-unless, walk-if-none, walk-item, walk-other, walk-over, walk-same, walk-first, walk-first-none}
 
 -- ---- a list of n elements: its type, if it has one, takes the bytes w and goes on at e
 module _ (openFrom few counted opening n : ℕ) (q body : Put) (drops : Drops q) (c : Known) (is : List Item) (k : ℕ) (l : k ≤ length is) where
@@ -45,6 +44,14 @@ module _ (openFrom few counted opening n : ℕ) (q body : Put) (drops : Drops q)
         ∙ ap (behind (counted ∷ w)) (walk-first c′ is e v body i)
         ∙ behind-behind (counted ∷ w) v (walk body c′ is e)
 
+    -- no int for the count
+    pub list-uncounted : 8 ≤ n → n < openFrom → shortestInt n ≡ none → listed ≡ Stuck
+    list-uncounted s t x =
+        list-as false true (le-ltb n 8 s) (lt-ltb n openFrom t)
+        ∙ after-type counted (putThen (putBytes (shortestInt n)) body)
+        ∙ ap (λ (o : Option (List ℕ)). behind (counted ∷ w) (walk (putThen (putBytes o) body) c′ is e)) x
+        ∙ ap (behind (counted ∷ w)) (walk-first-none c′ is e body)
+
     pub open-body : (b : ℕ) → Drops body → walk (putOpen b q body) c is k ≡ behind (b ∷ w) (onOver (walk body c′ is e) (λ e c. Over (0x5a ∷ []) e c))
     open-body b d =
         after-type b (putThen body (putCode 0x5a))
@@ -68,11 +75,6 @@ module _ (openFrom few counted opening n : ℕ) (q body : Put) (drops : Drops q)
         go true b x y = list-as true b x y ∙ untyped (few + n) body
         go false true x y = list-as false true x y ∙ untyped counted (putThen (putBytes (shortestInt n)) body)
         go false false x y = list-as false false x y ∙ open-stuck opening
-
--- no type takes nothing
-pub walk-nothing : (c : Known) (is : List Item) (k : ℕ) → k ≤ length is → walk putNothing c is k ≡ Over [] k c
-unfolding walk
-walk-nothing c is k l = let q : length is - length (drop k is) ≡ k = omega (arith, length-drop k is) in ap (λ (e : ℕ). Over [] e c) q
 
 -- ---- an object's code, by its class
 pub object-few : (j : ℕ) → j < 16 → objectCode j ≡ some ((0x60 + j) ∷ [])
@@ -172,99 +174,35 @@ module _ (ℓ : Ceilings) (openFrom : ℕ) (below : Option Put) (c : Known) (is 
           full (Object j n) t = unless (eqb (getD (c .classes) j 0) n && ltb j (length (c .classes))) (λ g. putThen (putBytes (objectCode j)) (putMany g n))
           full (Reference j) t = let z : _≡_ {A = ℕ} 0 1 = cc in absurd (omega arith)
 
-      -- ---- an object of the class j, with n fields
-      module _ (j n : ℕ) (q : v ≡ Object j n) where
-        object-is : Here ≡ walk (putIf (eqb (getD (c .classes) j 0) n && ltb j (length (c .classes))) (putContainer below (λ g. putThen (putBytes (objectCode j)) (putMany g n)))) c is (suc k)
-        unfolding putPlainBy walk
-        object-is = plain-is ∙ ap (λ (v : Value). walk (putPlainBy ℓ openFrom below v) c is (suc k)) q
-
-        pub plain-no-class : length (c .classes) ≤ j → Here ≡ Stuck
-        plain-no-class s = object-is ∙ walk-unless-other c is (suc k) _ (eqb (getD (c .classes) j 0) n) (ltb j (length (c .classes))) (le-ltb j (length (c .classes)) s)
-
-        pub plain-misfit : (getD (c .classes) j 0 ≡ n → ⊥) → Here ≡ Stuck
-        plain-misfit s = object-is ∙ walk-unless-one c is (suc k) _ (eqb (getD (c .classes) j 0) n) (ltb j (length (c .classes))) (ne-eqb (getD (c .classes) j 0) n s)
-
       -- ---- one more may open, with the values g in it
-      module _ (g : Put) (b : below ≡ some g) (drops : Drops g) where
+      module _ (g : Put) (b : below ≡ some g) where
         container-is : (x : Value) → v ≡ x → Here ≡ walk (putPlainBy ℓ openFrom (some g) x) c is (suc k)
         container-is x q = plain-is ∙ ap (λ (o : Option Put). walk (putPlainBy ℓ openFrom o v) c is (suc k)) b ∙ ap (λ (v : Value). walk (putPlainBy ℓ openFrom (some g) v) c is (suc k)) q
 
-        -- ---- a list of n elements
-        module _ (n : ℕ) (q : v ≡ UntypedList n) where
-          pub plain-list : Here ≡ walk (putList openFrom 0x78 0x58 0x57 n putNothing (putMany g n)) (opened c) is (suc k)
-          unfolding putPlainBy walk
-          plain-list = container-is (UntypedList n) q
-
-          pub plain-list-few : n < 8 → Here ≡ behind ((0x78 + n) ∷ []) (walk (putMany g n) (opened c) is (suc k))
-          plain-list-few s =
-              plain-list ∙ list-few openFrom 0x78 0x58 0x57 n putNothing (putMany g n) nothing-drops (opened c) is (suc k) present [] (suc k) (opened c) (walk-nothing (opened c) is (suc k) present) present s
-
-          pub plain-list-counted : 8 ≤ n → n < openFrom → (u : List ℕ) → shortestInt n ≡ some u → Here ≡ behind (0x58 ∷ u) (walk (putMany g n) (opened c) is (suc k))
-          plain-list-counted s t u x =
-              plain-list ∙ list-counted openFrom 0x78 0x58 0x57 n putNothing (putMany g n) nothing-drops (opened c) is (suc k) present [] (suc k) (opened c) (walk-nothing (opened c) is (suc k) present) present s t u x
-
-          pub plain-list-open : 8 ≤ n → openFrom ≤ n → Here ≡ behind (0x57 ∷ []) (ended (walk (putMany g n) (opened c) is (suc k)))
-          plain-list-open s t =
-              plain-list
-              ∙ list-open openFrom 0x78 0x58 0x57 n putNothing (putMany g n) nothing-drops (opened c) is (suc k) present [] (suc k) (opened c) (walk-nothing (opened c) is (suc k) present) present s t (many-drops g drops n)
-
-        -- ---- a list of n elements of the type t, which takes the bytes w and goes on at p
-        module _ (n t : ℕ) (q : v ≡ TypedList n t) where
-          pub plain-typed-list : Here ≡ walk (putList openFrom 0x70 0x56 0x55 n (putType ℓ t) (putMany g n)) (opened c) is (suc k)
-          unfolding putPlainBy walk
-          plain-typed-list = container-is (TypedList n t) q
-
-          pub typed-list-stuck : walk (putType ℓ t) (opened c) is (suc k) ≡ Stuck → Here ≡ Stuck
-          typed-list-stuck y = plain-typed-list ∙ list-stuck openFrom 0x70 0x56 0x55 n (putType ℓ t) (putMany g n) (type-drops ℓ t) (opened c) is (suc k) present y
-
-          module _ (w : List ℕ) (p : ℕ) (c′ : Known) (y : walk (putType ℓ t) (opened c) is (suc k) ≡ Over w p c′) where
-            list-typed : p ≤ length is
-            list-typed = walk-within (opened c) is (suc k) (putType ℓ t) w p c′ y
-
-            pub typed-list-few : n < 8 → Here ≡ behind ((0x70 + n) ∷ w) (walk (putMany g n) c′ is p)
-            typed-list-few s = plain-typed-list ∙ list-few openFrom 0x70 0x56 0x55 n (putType ℓ t) (putMany g n) (type-drops ℓ t) (opened c) is (suc k) present w p c′ y list-typed s
-
-            pub typed-list-counted : 8 ≤ n → n < openFrom → (u : List ℕ) → shortestInt n ≡ some u → Here ≡ behind (0x56 ∷ (w ++ u)) (walk (putMany g n) c′ is p)
-            typed-list-counted s r u x = plain-typed-list ∙ list-counted openFrom 0x70 0x56 0x55 n (putType ℓ t) (putMany g n) (type-drops ℓ t) (opened c) is (suc k) present w p c′ y list-typed s r u x
-
-            pub typed-list-open : 8 ≤ n → openFrom ≤ n → Here ≡ behind (0x55 ∷ w) (ended (walk (putMany g n) c′ is p))
-            typed-list-open s r = plain-typed-list ∙ list-open openFrom 0x70 0x56 0x55 n (putType ℓ t) (putMany g n) (type-drops ℓ t) (opened c) is (suc k) present w p c′ y list-typed s r (many-drops g drops n)
-
-        -- ---- a map of n pairs
-        pairs-drop : (n : ℕ) → Drops (putMany (putThen g g) n)
-        pairs-drop n = many-drops (putThen g g) (then-drops g g drops drops) n
-
-        pub plain-map : (n : ℕ) → v ≡ UntypedMap n → Here ≡ behind (0x48 ∷ []) (ended (walk (putMany (putThen g g) n) (opened c) is (suc k)))
+        -- a list of n elements
+        pub plain-list : (n : ℕ) → v ≡ UntypedList n → Here ≡ walk (putList openFrom 0x78 0x58 0x57 n putNothing (putMany g n)) (opened c) is (suc k)
         unfolding putPlainBy walk
-        plain-map n q =
-            container-is (UntypedMap n) q
-            ∙ open-body openFrom 0 0 0 n putNothing (putMany (putThen g g) n) nothing-drops (opened c) is (suc k) present [] (suc k) (opened c) (walk-nothing (opened c) is (suc k) present) present 0x48 (pairs-drop n)
+        plain-list n q = container-is (UntypedList n) q
 
-        module _ (n t : ℕ) (q : v ≡ TypedMap n t) where
-          map-is : Here ≡ walk (putOpen 0x4d (putType ℓ t) (putMany (putThen g g) n)) (opened c) is (suc k)
-          unfolding putPlainBy walk
-          map-is = container-is (TypedMap n t) q
+        pub plain-typed-list : (n t : ℕ) → v ≡ TypedList n t → Here ≡ walk (putList openFrom 0x70 0x56 0x55 n (putType ℓ t) (putMany g n)) (opened c) is (suc k)
+        unfolding putPlainBy walk
+        plain-typed-list n t q = container-is (TypedList n t) q
 
-          pub typed-map-stuck : walk (putType ℓ t) (opened c) is (suc k) ≡ Stuck → Here ≡ Stuck
-          typed-map-stuck y = map-is ∙ open-stuck openFrom 0 0 0 n (putType ℓ t) (putMany (putThen g g) n) (type-drops ℓ t) (opened c) is (suc k) present y 0x4d
+        -- a map of n pairs
+        pub plain-map : (n : ℕ) → v ≡ UntypedMap n → Here ≡ walk (putOpen 0x48 putNothing (putMany (putThen g g) n)) (opened c) is (suc k)
+        unfolding putPlainBy walk
+        plain-map n q = container-is (UntypedMap n) q
 
-          pub plain-typed-map : (w : List ℕ) (p : ℕ) (c′ : Known) → walk (putType ℓ t) (opened c) is (suc k) ≡ Over w p c′ → Here ≡ behind (0x4d ∷ w) (ended (walk (putMany (putThen g g) n) c′ is p))
-          plain-typed-map w p c′ y =
-              map-is
-              ∙ open-body openFrom 0 0 0 n (putType ℓ t) (putMany (putThen g g) n) (type-drops ℓ t) (opened c) is (suc k) present w p c′ y (walk-within (opened c) is (suc k) (putType ℓ t) w p c′ y) 0x4d (pairs-drop n)
+        pub plain-typed-map : (n t : ℕ) → v ≡ TypedMap n t → Here ≡ walk (putOpen 0x4d (putType ℓ t) (putMany (putThen g g) n)) (opened c) is (suc k)
+        unfolding putPlainBy walk
+        plain-typed-map n t q = container-is (TypedMap n t) q
 
-        -- ---- an object
-        module _ (j n : ℕ) (q : v ≡ Object j n) (s : j < length (c .classes)) (f : getD (c .classes) j 0 ≡ n) where
-          object-by : (o : Option (List ℕ)) → objectCode j ≡ o → Here ≡ walk (putThen (putBytes o) (putMany g n)) (opened c) is (suc k)
-          unfolding walk
-          object-by o r =
-              object-is j n q
-              ∙ walk-both c is (suc k) _ (eqb (getD (c .classes) j 0) n) (ltb j (length (c .classes))) (eq-eqb (getD (c .classes) j 0) n f) (lt-ltb j (length (c .classes)) s)
-              ∙ ap (λ (o : Option Put). walk (putContainer o (λ g. putThen (putBytes (objectCode j)) (putMany g n))) c is (suc k)) b
-              ∙ ap (λ (o : Option (List ℕ)). walk (putThen (putBytes o) (putMany g n)) (opened c) is (suc k)) r
-
-          pub plain-object : (w : List ℕ) → objectCode j ≡ some w → Here ≡ behind w (walk (putMany g n) (opened c) is (suc k))
-          plain-object w r = object-by (some w) r ∙ walk-first (opened c) is (suc k) w (putMany g n) present
-
-          pub plain-no-code : objectCode j ≡ none → Here ≡ Stuck
-          plain-no-code r = object-by none r ∙ walk-first-none (opened c) is (suc k) (putMany g n)
+        -- an object of the class j, with n fields
+        pub plain-object : (j n : ℕ) → v ≡ Object j n
+            → Here ≡ walk (putIf (eqb (getD (c .classes) j 0) n && ltb j (length (c .classes))) (putThen (putBytes (objectCode j)) (putMany g n))) (opened c) is (suc k)
+        unfolding putPlainBy walk
+        plain-object j n q = container-is (Object j n) q ∙ go (eqb (getD (c .classes) j 0) n && ltb j (length (c .classes)))
+          where
+            go : (t : Bool) → walk (putIf t (putContainer (some g) (λ g. putThen (putBytes (objectCode j)) (putMany g n)))) c is (suc k) ≡ walk (putIf t (putThen (putBytes (objectCode j)) (putMany g n))) (opened c) is (suc k)
+            go true = refl
+            go false = refl

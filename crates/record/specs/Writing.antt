@@ -8,26 +8,22 @@ use native.Mathlib.Omega.{arith}
 use lib.Dec.{ltb}
 use lib.ListN.{length, drop}
 use borrow.Author.Tests.{le-ltb, ltb-false}
-use Rattle.flow.specs.Tests.{pick, pick-false, pick-either, Bytes}
-use Rattle.flow.specs.Flow.{Entry, Outcome, Done, Fault, One, items, byteAt}
+use Rattle.flow.specs.Flow.{pick, Bytes, Entry, Outcome, Done, Fault, One, items, byteAt}
+use Rattle.flow.specs.Tests.{pick-false, pick-either}
 use Rattle.flow.specs.Laws.{leads-byte}
 use Rattle.scalar.specs.declared.numbers.Sort.the-variants as sort
 use Rattle.scalar.specs.declared.texts.Kind.{Kind}
 use Rattle.scalar.specs.declared.texts.Kind.the-variants.{Utf8, Binary}
-use Rattle.scalar.specs.Texts.{stringFrom, stringAt, String}
+use Rattle.scalar.specs.Scalars.{stringFrom, stringAt, Num, Str}
+use Rattle.scalar.specs.Grammar.{String, Spelt, a-string}
 use Rattle.scalar.specs.TextLaws.{string-makes}
-use Rattle.scalar.specs.Scalars.{Num, Str, Spelt, a-string}
-use Rattle.record.specs.Items.{Leaf, UntypedList, TypedList, UntypedMap, TypedMap, Object, Reference, Item, Val, Definition, ClassName, FieldName, TypeName, TypeNumber, Known, start, Ceilings}
-use Rattle.record.specs.Reading.{message, Accepted, Reads}
-use Rattle.record.specs.Rows.{Row, itemRow, rows}
+use Rattle.record.specs.Records.{Leaf, UntypedList, TypedList, UntypedMap, TypedMap, Object, Reference, Item, Val, Definition, ClassName, FieldName, TypeName, TypeNumber, Known, start, Ceilings, message, Accepted, Reads, Row, itemRow, rows, contentOf, told, contentAt, ClaimAll, no-rows, a-row}
 use Rattle.record.specs.RowLaws.{item-moved}
-use Rattle.record.specs.Spelling.{spell}
+use Rattle.record.specs.Answers.{spell, judged, shortestOf, write, Wrote, Has}
 use Rattle.record.specs.Meaning.{message-all}
 use Rattle.record.specs.ItemTheorems.{no-longer, reads-back}
 use Rattle.record.specs.Places.{Stands, Opens, EntriesOpen, OutcomeOpens, places}
-use Rattle.record.specs.Claims.{contentOf, told, contentAt, ClaimAll, no-rows, a-row}
 use Rattle.record.specs.Claimed.{onSome, recordOf, all-claimed, claims-exactly}
-use Rattle.record.specs.Answers.{judged, shortestOf, write, Wrote, Has}
 
 -- ---- the writer, of any rows
 module _ (ℓ : Ceilings) (openFrom : ℕ) (most : openFrom ≤ 48) (d : ℕ) (source : List ℕ) (r : List Row) where

@@ -9,9 +9,9 @@ use lib.Dec.{ltb, eqb, leb}
 use lib.ListN.{length, drop}
 use borrow.Author.Tests.{lt-ltb, le-ltb, le-leb, lt-leb, eq-eqb, ne-eqb}
 use Rattle.scalar.specs.Scalars.{shortestInt, shortestText}
-use Rattle.record.specs.Items.{Item, Val, Definition, ClassName, FieldName, TypeName, TypeNumber, Known, typed, defined, Ceilings}
-use Rattle.record.specs.Spelling.{Put, putThen, putMany, putBytes, putIf, definition?, className?, fieldName?, putName, putDefined, putType, putDefinition}
-use Rattle.record.specs.Walked.{At, End, at-within, Walked, Over, Stuck, walked, walk, behind, onOver, behind-behind, many-drops, walk-then, walk-bytes, walk-none, walk-both, walk-unless-one, walk-unless-other, walk-if-none, walk-item, walk-other, walk-over, walk-same, walk-first, walk-first-none}
+use Rattle.record.specs.Records.{Item, Val, Definition, ClassName, FieldName, TypeName, TypeNumber, Known, typed, defined, Ceilings}
+use Rattle.record.specs.Answers.{Put, putThen, putMany, putBytes, putIf, definition?, className?, fieldName?, putName, putDefined, putType, putDefinition}
+use Rattle.record.specs.Walked.{At, End, at-within, Walked, Over, Stuck, walked, walk, behind, onOver, behind-behind, many-drops, walk-then, walk-bytes, walk-none, walk-both, walk-unless-one, walk-unless-other, walk-if-none, walk-item, walk-other, walk-over, walk-same, walk-within, walk-first, walk-first-none}
 use Rattle.record.specs.Drops.{name-drops, namesOf, countOf, bodyOf, definable, definitionBy}
 use Rattle.record.specs.declared.Contents.the-variants.{Elements}
 use Rattle.record.specs.Contents.{left, walk-elements, left-stop, left-over, left-stuck}
@@ -135,24 +135,11 @@ module _ (n j : ℕ) (c : Known) (is : List Item) (k : ℕ) where
     names-more : eqb j n ≡ false
     names-more = ne-eqb j n (λ e. omega arith)
 
-    names-over : (w : List ℕ) → walk (putName fieldName?) c is k ≡ Over w (suc k) c → Names-here ≡ behind w (walk (namesLeft n (j + 1)) c is (suc k))
+    pub names-over : (w : List ℕ) → walk (putName fieldName?) c is k ≡ Over w (suc k) c → Names-here ≡ behind w (walk (namesLeft n (j + 1)) c is (suc k))
     names-over w x = left-over (putName fieldName?) (name-drops fieldName?) is (Elements n) j names-more (omega arith) c k w (suc k) c x
 
-    names-stuck : walk (putName fieldName?) c is k ≡ Stuck → Names-here ≡ Stuck
+    pub names-stuck : walk (putName fieldName?) c is k ≡ Stuck → Names-here ≡ Stuck
     names-stuck x = left-stuck (putName fieldName?) (name-drops fieldName?) is (Elements n) j names-more (omega arith) c k x
-
-    pub names-end : End is k → Names-here ≡ Stuck
-    names-end e = names-stuck (name-end fieldName? c is k e)
-
-    pub names-other : (i : Item) → At is k i → fieldName? i ≡ none → Names-here ≡ Stuck
-    names-other i e x = names-stuck (name-other fieldName? c is k i e x)
-
-    module _ (cs : List ℕ) (e : At is k (FieldName cs)) where
-      pub names-step : (w : List ℕ) → shortestText cs ≡ some w → Names-here ≡ behind w (walk (namesLeft n (j + 1)) c is (suc k))
-      names-step w x = names-over w (name-got fieldName? c is k (FieldName cs) e cs refl w x)
-
-      pub names-none : shortestText cs ≡ none → Names-here ≡ Stuck
-      names-none x = names-stuck (name-none fieldName? c is k (FieldName cs) e cs refl x)
 
 -- ---- a class definition: its item at k, its name after it, and then its field names
 module _ (ℓ : Ceilings) (c : Known) (is : List Item) (k : ℕ) where
@@ -163,10 +150,6 @@ module _ (ℓ : Ceilings) (c : Known) (is : List Item) (k : ℕ) where
   unfolding putDefinition
   definition-end e = walk-over c is k definition? (definitionBy ℓ) e
 
-  pub definition-other : (i : Item) → At is k i → definition? i ≡ none → Definition-here ≡ Stuck
-  unfolding putDefinition
-  definition-other i e h = walk-other c is k definition? (definitionBy ℓ) i e h
-
   module _ (n : ℕ) (e : At is k (Definition n)) where
     definition-is : Definition-here ≡ walk (putIf (definable ℓ c n) (bodyOf ℓ n)) c is (suc k)
     unfolding putDefinition walk
@@ -175,11 +158,6 @@ module _ (ℓ : Ceilings) (c : Known) (is : List Item) (k : ℕ) where
     pub definition-full : ℓ .classes ≤ length (c .classes) → Definition-here ≡ Stuck
     definition-full s =
         definition-is ∙ walk-unless-one c is (suc k) (bodyOf ℓ n) (ltb (length (c .classes)) (ℓ .classes)) (ltb n (2 ^ 63) && leb n (ℓ .fields)) (le-ltb (length (c .classes)) (ℓ .classes) s)
-
-    pub definition-huge : 2 ^ 63 ≤ n → Definition-here ≡ Stuck
-    definition-huge s =
-        definition-is
-        ∙ walk-unless-other c is (suc k) (bodyOf ℓ n) (ltb (length (c .classes)) (ℓ .classes)) (ltb n (2 ^ 63) && leb n (ℓ .fields)) (ap (λ (b : Bool). b && leb n (ℓ .fields)) (le-ltb n (2 ^ 63) s))
 
     pub definition-wide : ℓ .fields < n → Definition-here ≡ Stuck
     definition-wide s =
@@ -201,44 +179,37 @@ module _ (ℓ : Ceilings) (c : Known) (is : List Item) (k : ℕ) where
           ∙ ap (behind (0x43 ∷ [])) (walk-then c is (suc k) (putName className?) (countOf ℓ n) (name-drops className?))
           ∙ ap (λ (o : Walked). behind (0x43 ∷ []) (onOver o (λ p c′. walk (countOf ℓ n) c′ is p))) h
 
-      pub definition-nameless : End is (suc k) → Definition-here ≡ Stuck
-      definition-nameless h = definition-by Stuck (name-end className? c is (suc k) h)
+      pub definition-unnamed : walk (putName className?) c is (suc k) ≡ Stuck → Definition-here ≡ Stuck
+      definition-unnamed h = definition-by Stuck h
 
-      pub definition-misnamed : (i : Item) → At is (suc k) i → className? i ≡ none → Definition-here ≡ Stuck
-      definition-misnamed i h x = definition-by Stuck (name-other className? c is (suc k) i h x)
+      -- the name takes the bytes w
+      module _ (w : List ℕ) (h : walk (putName className?) c is (suc k) ≡ Over w (suc (suc k)) c) where
+        counted : (o : Option (List ℕ)) → shortestInt n ≡ o → Definition-here ≡ behind (0x43 ∷ w) (walk (putThen (putBytes o) (namesOf ℓ n)) c is (suc (suc k)))
+        counted o y =
+            definition-by (Over w (suc (suc k)) c) h
+            ∙ behind-behind (0x43 ∷ []) w (walk (countOf ℓ n) c is (suc (suc k)))
+            ∙ ap (λ (o : Option (List ℕ)). behind (0x43 ∷ w) (walk (putThen (putBytes o) (namesOf ℓ n)) c is (suc (suc k)))) y
 
-      module _ (cs : List ℕ) (h : At is (suc k) (ClassName cs)) where
-        pub definition-unnamed : shortestText cs ≡ none → Definition-here ≡ Stuck
-        definition-unnamed x = definition-by Stuck (name-none className? c is (suc k) (ClassName cs) h cs refl x)
+        pub definition-uncounted : shortestInt n ≡ none → Definition-here ≡ Stuck
+        definition-uncounted y = counted none y ∙ ap (behind (0x43 ∷ w)) (walk-first-none c is (suc (suc k)) (namesOf ℓ n))
 
-        -- the name takes the bytes w
-        module _ (w : List ℕ) (x : shortestText cs ≡ some w) where
-          counted : (o : Option (List ℕ)) → shortestInt n ≡ o → Definition-here ≡ behind (0x43 ∷ w) (walk (putThen (putBytes o) (namesOf ℓ n)) c is (suc (suc k)))
-          counted o y =
-              definition-by (Over w (suc (suc k)) c) (name-got className? c is (suc k) (ClassName cs) h cs refl w x)
-              ∙ behind-behind (0x43 ∷ []) w (walk (countOf ℓ n) c is (suc (suc k)))
-              ∙ ap (λ (o : Option (List ℕ)). behind (0x43 ∷ w) (walk (putThen (putBytes o) (namesOf ℓ n)) c is (suc (suc k)))) y
+        -- and the count v
+        module _ (v : List ℕ) (y : shortestInt n ≡ some v) where
+          given : (p : ℕ) (c′ : Known) → p ≤ length is → walk (putDefined n) c′ is p ≡ Over [] p (defined n c′)
+          unfolding walk
+          given p c′ l = walk-bytes (defined n c′) is p [] l
 
-          pub definition-uncounted : shortestInt n ≡ none → Definition-here ≡ Stuck
-          definition-uncounted y = counted none y ∙ ap (behind (0x43 ∷ w)) (walk-first-none c is (suc (suc k)) (namesOf ℓ n))
+          names-in : (o : Walked) → walk (namesLeft n 0) c is (suc (suc k)) ≡ o → Definition-here ≡ behind (0x43 ∷ w) (behind v (onOver o (λ p c′. Over [] p (defined n c′))))
+          names-in o z =
+              counted (some v) y
+              ∙ ap (behind (0x43 ∷ w)) (walk-first c is (suc (suc k)) v (namesOf ℓ n) (walk-within c is (suc k) (putName className?) w (suc (suc k)) c h))
+              ∙ ap (λ (o : Walked). behind (0x43 ∷ w) (behind v o)) (walk-then c is (suc (suc k)) (putMany (putName fieldName?) n) (putDefined n) (many-drops (putName fieldName?) (name-drops fieldName?) n)
+              ∙ walk-same c is (suc (suc k)) (putMany (putName fieldName?) n) _ _ given
+              ∙ ap (λ (o : Walked). onOver o (λ p c′. Over [] p (defined n c′))) (walk-elements (putName fieldName?) n c is (suc (suc k)) ∙ z))
 
-          -- and the count v
-          module _ (v : List ℕ) (y : shortestInt n ≡ some v) where
-            given : (p : ℕ) (c′ : Known) → p ≤ length is → walk (putDefined n) c′ is p ≡ Over [] p (defined n c′)
-            unfolding walk
-            given p c′ l = walk-bytes (defined n c′) is p [] l
+          pub definition-names-stuck : walk (namesLeft n 0) c is (suc (suc k)) ≡ Stuck → Definition-here ≡ Stuck
+          definition-names-stuck z = names-in Stuck z
 
-            names-in : (o : Walked) → walk (namesLeft n 0) c is (suc (suc k)) ≡ o → Definition-here ≡ behind (0x43 ∷ w) (behind v (onOver o (λ p c′. Over [] p (defined n c′))))
-            names-in o z =
-                counted (some v) y
-                ∙ ap (behind (0x43 ∷ w)) (walk-first c is (suc (suc k)) v (namesOf ℓ n) (at-within is (suc k) (ClassName cs) h))
-                ∙ ap (λ (o : Walked). behind (0x43 ∷ w) (behind v o)) (walk-then c is (suc (suc k)) (putMany (putName fieldName?) n) (putDefined n) (many-drops (putName fieldName?) (name-drops fieldName?) n)
-                ∙ walk-same c is (suc (suc k)) (putMany (putName fieldName?) n) _ _ given
-                ∙ ap (λ (o : Walked). onOver o (λ p c′. Over [] p (defined n c′))) (walk-elements (putName fieldName?) n c is (suc (suc k)) ∙ z))
-
-            pub definition-names-stuck : walk (namesLeft n 0) c is (suc (suc k)) ≡ Stuck → Definition-here ≡ Stuck
-            definition-names-stuck z = names-in Stuck z
-
-            -- the field names take the bytes u, up to p
-            pub definition-got : (u : List ℕ) (p : ℕ) → walk (namesLeft n 0) c is (suc (suc k)) ≡ Over u p c → Definition-here ≡ Over (0x43 ∷ (w ++ (v ++ u))) p (defined n c)
-            definition-got u p z = names-in (Over u p c) z ∙ ap (λ (l : List ℕ). Over (0x43 ∷ (w ++ (v ++ l))) p (defined n c)) (append-nil u)
+          -- the field names take the bytes u, up to p
+          pub definition-got : (u : List ℕ) (p : ℕ) → walk (namesLeft n 0) c is (suc (suc k)) ≡ Over u p c → Definition-here ≡ Over (0x43 ∷ (w ++ (v ++ u))) p (defined n c)
+          definition-got u p z = names-in (Over u p c) z ∙ ap (λ (l : List ℕ). Over (0x43 ∷ (w ++ (v ++ l))) p (defined n c)) (append-nil u)

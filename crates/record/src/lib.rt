@@ -1,4 +1,6 @@
-// What a record is, how a message reads, its shortest message, and the theorems stand in specs/: theory, and types that code shares.
+// What a record is, how a message reads, its shortest message, and the theorems stand in specs/: theory, types that code shares, and
+// the array of what is known.
+pub mod known;
 
 // How the values of a list, map or object are counted: so many elements; the fields of an object, with its class and how many;
 // elements up to 5a; keys and values up to 5a.

@@ -10,15 +10,16 @@ use lib.ListN.{length, getD}
 use mir.Syntax.{w8}
 use mir.Val.{Fits}
 use Rattle.flow.specs.Tests.{split, bytes-all}
-use Rattle.flow.specs.Flow.{Answer, Done}
+use Rattle.flow.specs.Steps.{Answer}
+use Rattle.flow.specs.Flow.{Done}
 use Rattle.scalar.specs.declared.texts.Kind.{Kind}
 use Rattle.scalar.specs.declared.texts.Kind.the-variants.{Utf8}
 use Rattle.scalar.specs.declared.texts.HeadForm.the-variants.{Starts}
 use Rattle.scalar.specs.declared.texts.ChunkRead.the-variants.{Chunk}
-use Rattle.scalar.specs.Texts.{partHead, lastHeads, characters}
-use Rattle.scalar.specs.TextAnswers.{extentAt, headForm, chunked, ChunkMet}
+use Rattle.scalar.specs.Scalars.{partHead, lastHeads, characters}
+use Rattle.scalar.specs.TextAnswers.{sized, extentAt, headForm, chunked, measuredAt, ChunkMet}
 use Rattle.scalar.specs.TextAt.{basic, Ascii, continued-none, characters-none, characters-next, body-there, string-there}
-use Rattle.scalar.proofs.Strings.{Along, along-start, along-end, along-more, leads-at, head-at, starts}
+use Rattle.scalar.proofs.Strings.{Along, along-start, along-end, along-more, leads-at, head-at, starts, joining-start, joining-last}
 
 -- ---- none, one, more after others, and fewer
 module _ (m : List ℕ) (p : ℕ) where
@@ -34,7 +35,11 @@ module _ (m : List ℕ) (p : ℕ) where
   pub ascii-fewer : (i j : ℕ) → j ≤ i → Ascii m p i → Ascii m p j
   ascii-fewer i j h x = record { below = λ k l. x .below k (omega arith) }
 
--- ---- eight at once: the highest bit of each is clear
+  -- the first i and the last i of them, where these are all
+  pub ascii-ends : (i n q : ℕ) → q ≡ p + n - i → i ≤ n → n ≤ i + i → Ascii m p i → Ascii m q i → Ascii m p n
+  ascii-ends i n q s l h x y = record { below = λ k j. split k i (λ z. x .below k z) (λ z. let e : q + (k + i - n) ≡ p + k = omega arith in rw e at (y .below (k + i - n) (omega arith))) }
+
+-- ---- four or eight at once: the highest bit of each is clear
 -- a byte whose highest bit is clear; a number whose bytes' highest bits are: its lowest byte and the others
 top-clear : (b : ℕ) → b < 256 → bitAnd b 0x80 ≡ 0 → b < 0x80
 top-clear b l e =
@@ -47,7 +52,7 @@ tops-clear w k b l e =
     let s : bitAnd w k * 2 ^ 8 + bitAnd b 0x80 ≡ 0 = sym (and-block 8 w k b 0x80 l (omega arith)) ∙ e in
     (omega arith, top-clear b l (omega arith))
 
-module _ (m : List ℕ) (p : ℕ) (bytes : (i : ℕ) → Fits w8 (getD m i 0)) where
+module _ (m : List ℕ) (bytes : (i : ℕ) → Fits w8 (getD m i 0)) where
   abbrev four : ℕ → ℕ → ℕ → ℕ → ℕ
   four a b c d = ((getD m d 0 * 256 + getD m c 0) * 256 + getD m b 0) * 256 + getD m a 0
 
@@ -58,35 +63,26 @@ module _ (m : List ℕ) (p : ℕ) (bytes : (i : ℕ) → Fits w8 (getD m i 0)) w
       let z = tops-clear (getD m d 0) 0x80 (getD m c 0) (bytes c .fits) (y .0) in
       (x .1, y .1, z .1, top-clear (getD m d 0) (bytes d .fits) (z .0))
 
-  module _ (lo hi : ℕ) (l : lo < 2 ^ 32) (x : lo ≡ four p (p + 1) (p + 2) (p + 3)) (y : hi ≡ four (p + 4) (p + 5) (p + 6) (p + 7)) where
-    pub ascii-eight : bitAnd (hi * 0x1_0000_0000 + lo) 0x8080_8080_8080_8080 ≡ 0 → Ascii m p 8
-    ascii-eight e = record { below = go }
-      where
-        s : bitAnd hi 0x8080_8080 * 2 ^ 32 + bitAnd lo 0x8080_8080 ≡ 0
-        s = sym (and-block 32 hi 0x8080_8080 lo 0x8080_8080 l (omega arith)) ∙ e
+  pub ascii-four : (p w : ℕ) → w ≡ four p (p + 1) (p + 2) (p + 3) → bitAnd w 0x8080_8080 ≡ 0 → Ascii m p 4
+  ascii-four p w x e = record { below = go }
+    where
+      u : (getD m p 0 < 0x80) × (getD m (p + 1) 0 < 0x80) × (getD m (p + 2) 0 < 0x80) × (getD m (p + 3) 0 < 0x80)
+      u = four-clear p (p + 1) (p + 2) (p + 3) (rw x at e)
 
-        v : bitAnd lo 0x8080_8080 ≡ 0
-        v = omega (arith, s)
+      go : (i : ℕ) → i < 4 → getD m (p + i) 0 < 0x80
+      go zero l = rw (add-zero p) (u .0)
+      go (suc zero) l = u .1
+      go (suc (suc zero)) l = u .2
+      go (suc (suc (suc zero))) l = u .3
+      go (suc (suc (suc (suc i)))) l = absurd (omega arith)
 
-        w : bitAnd hi 0x8080_8080 ≡ 0
-        w = omega (arith, s)
-
-        u : (getD m p 0 < 0x80) × (getD m (p + 1) 0 < 0x80) × (getD m (p + 2) 0 < 0x80) × (getD m (p + 3) 0 < 0x80)
-        u = four-clear p (p + 1) (p + 2) (p + 3) (rw x at v)
-
-        t : (getD m (p + 4) 0 < 0x80) × (getD m (p + 5) 0 < 0x80) × (getD m (p + 6) 0 < 0x80) × (getD m (p + 7) 0 < 0x80)
-        t = four-clear (p + 4) (p + 5) (p + 6) (p + 7) (rw y at w)
-
-        go : (i : ℕ) → i < 8 → getD m (p + i) 0 < 0x80
-        go zero l = rw (add-zero p) (u .0)
-        go (suc zero) l = u .1
-        go (suc (suc zero)) l = u .2
-        go (suc (suc (suc zero))) l = u .3
-        go (suc (suc (suc (suc zero)))) l = t .0
-        go (suc (suc (suc (suc (suc zero))))) l = t .1
-        go (suc (suc (suc (suc (suc (suc zero)))))) l = t .2
-        go (suc (suc (suc (suc (suc (suc (suc zero))))))) l = t .3
-        go (suc (suc (suc (suc (suc (suc (suc (suc i)))))))) l = absurd (omega arith)
+  pub ascii-eight : (p lo hi : ℕ) → lo < 2 ^ 32 → lo ≡ four p (p + 1) (p + 2) (p + 3) → hi ≡ four (p + 4) (p + 5) (p + 6) (p + 7) → bitAnd (hi * 0x1_0000_0000 + lo) 0x8080_8080_8080_8080 ≡ 0 → Ascii m p 8
+  ascii-eight p lo hi l x y e =
+      let s : bitAnd hi 0x8080_8080 * 2 ^ 32 + bitAnd lo 0x8080_8080 ≡ 0 = sym (and-block 32 hi 0x8080_8080 lo 0x8080_8080 l (omega arith)) ∙ e in
+      let f : p + 4 + 1 ≡ p + 5 = omega arith in
+      let g : p + 4 + 2 ≡ p + 6 = omega arith in
+      let h : p + 4 + 3 ≡ p + 7 = omega arith in
+      ascii-more m p 4 4 (ascii-four p lo x (omega arith)) (ascii-four (p + 4) hi (rw (f, g, h) y) (omega arith))
 
 -- ---- a loop over characters: what is left after them reads as the whole does, but for the bytes so far
 pub along-ascii : {whole : Answer ℕ} {m : List ℕ} {at p : ℕ} (n r : ℕ) → Along whole (extentAt (characters n) m p) m at p → r ≤ n → p + r ≤ length m → Ascii m p r
@@ -118,7 +114,16 @@ module _ (m : List ℕ) (p n : ℕ) (l : p + 1 + n ≤ length m) (x : Ascii m (p
       let z = body-there Utf8 n m (p + 1) (bytes-all m (λ i. bytes i .fits)) n (omega arith) ascii-extent in
       record { says = (string-there Utf8 m p (omega arith) 0 n true (short-head e h) (omega arith) n refl ∙ ap (chunked Utf8 m p 1 true) (z .0), omega arith, omega arith, z .2, z .3) }
 
--- s: its bytes in all
 pub chunk-short : (k : Kind) (m : List ℕ) (p s : ℕ) → k ≡ Utf8 → ((i : ℕ) → Fits w8 (getD m i 0)) → 0 < s → (0 < s → (s ≡ getD m p 0 + 1) × (s ≤ 0x20) × (p + s ≤ length m) × Ascii m (p + 1) (s - 1))
     → ChunkMet k m p (Chunk 1 (s - 1) (s - 1) true)
 chunk-short k m p s e bytes z f = let h = f z in rw e (short-there m p (s - 1) (omega (arith, h .2)) (h .3) bytes (omega (arith, h .0)) (omega (arith, h .1)))
+
+-- s: its bytes in all
+pub text-short : (m : List ℕ) (p s : ℕ) → ((i : ℕ) → Fits w8 (getD m i 0)) → 0 < s → (0 < s → (s ≡ getD m p 0 + 1) × (s ≤ 0x20) × (p + s ≤ length m) × Ascii m (p + 1) (s - 1))
+    → Done s (sized (s - 1) (s - 1)) [] tt ≡ measuredAt Utf8 m p
+text-short m p s bytes z f =
+    let h = f z in
+    let one = short-there m p (s - 1) (omega (arith, h .2)) (h .3) bytes (omega (arith, h .0)) (omega (arith, h .1)) in
+    let e : p + (1 + (s - 1)) - p ≡ s = omega arith in
+    let d : 0 + (s - 1) ≡ s - 1 = omega arith in
+    rw (e, d) at (joining-last (joining-start Utf8 m p (omega (arith, h .2))) one 1 (s - 1) (s - 1) true refl refl)

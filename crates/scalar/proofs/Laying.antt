@@ -1,30 +1,39 @@
 -- What the contracts of the code that writes texts and byte strings ask at each way out.
-use mathlib.Core.Path.{_≡_, refl, sym, _∙_, ap}
-use mathlib.Core.Bool.{Bool, true, false, cond}
+use mathlib.Core.Path.{_≡_, refl, sym, _∙_, ap, subst}
+use mathlib.Core.Bool.{Bool, true, false, cond, _&&_}
 use mathlib.Core.List.{List, [], _∷_}
-use mathlib.Core.Option.{none, some}
-use Prim.Native.Nat.{ℕ, suc, _+_, _^_, _≤_, _<_}
+use mathlib.Core.Option.{Option, none, some}
+use Prim.Native.Nat.{ℕ, suc, _+_, _-_, _^_, _≤_, _<_}
 use native.Mathlib.Numerals.{add-one}
 use native.Mathlib.Omega.{arith}
-use lib.ListN.{length, take, set, getD, length-append}
-use lib.Seq.{take-suc, length-take-le}
+use lib.Dec.{eqb}
+use lib.ListN.{length, take, drop, set, getD, length-append, length-drop}
+use lib.Seq.{take-suc, take-suc-set, take-add, take-length, drop-drop, length-take-le}
 use mir.Syntax.{w8, w64}
 use mir.Val.{Fits}
-use borrow.Author.Tests.{le-leb, lt-leb}
+use borrow.Author.Tests.{le-leb, lt-leb, eq-eqb, ne-eqb}
 use Rattle.flow.specs.Tests.{pick-true, pick-false, bytes-all}
-use Rattle.flow.specs.Flow.{Answer, Done, Fault, renamed}
-use Rattle.flow.specs.Overlay.{stored}
+use Rattle.flow.specs.Steps.{Answer, renamed}
+use Rattle.flow.specs.Flow.{Done, Fault, stored, pick, Report}
 use Rattle.flow.specs.OverlayLaws.{stored-out, stored-sets, stored-seam, length-stored}
 use Rattle.wire.specs.BigEndian.{be}
 use Rattle.wire.specs.Laws.{be-length}
 use Rattle.scalar.specs.declared.texts.Kind.{Kind}
 use Rattle.scalar.specs.declared.texts.StringRead.{StringRead}
 use Rattle.scalar.specs.declared.texts.StringRead.the-variants.{Content, Refused}
+use Rattle.scalar.specs.declared.texts.ChunkRead.{ChunkRead}
+use Rattle.scalar.specs.declared.texts.ChunkRead.the-variants as chunk
+use Rattle.scalar.specs.declared.text_writer.Cursor.{Cursor}
+use Rattle.scalar.specs.declared.text_writer.Found.{Found}
+use Rattle.scalar.specs.declared.text_writer.Found.the-variants.{There, Nothing}
 use Rattle.scalar.specs.Answers.{reported, reportOf, outputOf, lengthOf}
-use Rattle.scalar.specs.Texts.{units, spelled, content, stringAt, shortestString}
+use Rattle.scalar.specs.Scalars.{units, spelled, content, stringAt, shortestString}
 use Rattle.scalar.specs.TextTheorems.{text-no-shorter, text-within}
-use Rattle.scalar.specs.TextAnswers.{Sizes, sized, sizes, measuredAt, toldString}
-use Rattle.scalar.specs.TextWriting.{itemForm, contentOf, IsDone, laid, Item, Lays}
+use Rattle.scalar.specs.TextAnswers.{Sizes, sized, sizes, measuredAt, toldString, ChunkMet, Joining}
+use Rattle.scalar.specs.TextAt.{string-ends}
+use Rattle.scalar.specs.TextCursor.{opens-chunk}
+use Rattle.scalar.specs.TextWriting.{itemForm, sizedForm, contentOf, IsDone, Opens, laid, Item, FoundSays, FoundMet, Lays}
+use Rattle.scalar.proofs.Strings.{chunk-says, joining-start, joining-last, joining-more}
 
 -- ---- one byte more of a run
 pub stored-next : (l : List ℕ) (at : ℕ) (s : List ℕ) (i : ℕ) → i < length s → at + suc i ≤ length l → set (stored l at (take i s)) (at + i) (getD s i 0) ≡ stored l at (take (i + 1) s)
@@ -33,9 +42,44 @@ stored-next l at s i h f =
     rw (add-one i, take-suc s i 0 h, ← stored-seam l at (take i s) (getD s i 0 ∷ []) (omega (arith, length-append (take i s) (getD s i 0 ∷ []))), n)
     (sym (stored-sets (stored l at (take i s)) (at + i) (getD s i 0 ∷ []) (rw length-stored (omega arith))))
 
--- ---- a head stored: w is a number of j bytes
+-- ---- n bytes more of a run
+pub run-on : (l : List ℕ) (at : ℕ) (s : List ℕ) (from i n : ℕ) → from + i + n ≤ length s → at + (i + n) ≤ length l → (l₁ l₂ : List ℕ) → l₁ ≡ stored l at (take i (drop from s))
+    → l₂ ≡ stored l₁ (at + i) (take n (drop (from + i) s)) → l₂ ≡ stored l at (take (i + n) (drop from s))
+run-on l at s from i n h f l₁ l₂ d e =
+    let q = length-drop from s in
+    let j = length-take-le i (drop from s) (omega arith) in
+    let k = length-take-le (i + n) (drop from s) (omega arith) in
+    let v = take-add i n (drop from s) in
+    e ∙ rw (d, v, ← drop-drop i from s) (rw j at (stored-seam l at (take i (drop from s)) (take n (drop i (drop from s))) (omega (arith, ap length v))))
+
+pub run-whole : (l : List ℕ) (at : ℕ) (s : List ℕ) (from i n : ℕ) → i ≤ n → from + n ≤ length s → at + n ≤ length l → (l₁ l₂ : List ℕ) → l₁ ≡ stored l at (take i (drop from s))
+    → l₂ ≡ stored l₁ (at + i) (take (n - i) (drop (from + i) s)) → l₂ ≡ stored l at (take n (drop from s))
+run-whole l at s from i n k h f l₁ l₂ d e = let j : i + (n - i) ≡ n = omega arith in rw j at (run-on l at s from i (n - i) (omega arith) (omega arith) l₁ l₂ d e)
+
+pub length-kept : (l : List ℕ) (at : ℕ) (l₁ w : List ℕ) → l₁ ≡ stored l at w → length l₁ ≡ length l
+length-kept l at l₁ w e = ap length e ∙ length-stored l at w
+
+-- ---- a block more of a run
+pub block-on : (l : List ℕ) (at : ℕ) (s : List ℕ) (from i : ℕ) → from + i + 4096 ≤ length s → at + (i + 4096) ≤ length l → (l₁ b l₂ : List ℕ) → l₁ ≡ stored l at (take i (drop from s))
+    → length b ≡ 4096 → b ≡ take (length b) (drop (from + i) s) → l₂ ≡ stored l₁ (at + i) b → l₂ ≡ stored l at (take (i + 4096) (drop from s))
+block-on l at s from i h f l₁ b l₂ d n e g = rw n at (run-on l at s from i (length b) (omega arith) (omega arith) l₁ l₂ d (g ∙ ap (stored l₁ (at + i)) e))
+
+-- ---- a block filled and stored: one byte more, and whole
+pub block-next : (b s : List ℕ) (i : ℕ) → i < length b → i < length s → take i b ≡ take i s → take (i + 1) (set b i (getD s i 0)) ≡ take (i + 1) s
+block-next b s i h l e = rw (add-one i, take-suc-set b i (getD s i 0) h, take-suc s i 0 l, e) refl
+
+pub block-whole : (b s : List ℕ) (i : ℕ) → i ≡ length b → take i b ≡ take i s → b ≡ take (length b) s
+block-whole b s i d e = sym (take-length b) ∙ rw (← d) e
+
+pub block-stored : (l : List ℕ) (at : ℕ) (b : List ℕ) (i : ℕ) → length b ≡ 4096 → 4096 ≤ i → i ≤ 4096 → (l₁ : List ℕ) → l₁ ≡ stored l at (take i b) → l₁ ≡ stored l at b
+block-stored l at b i n h k l₁ e = let d : i ≡ length b = omega arith in e ∙ ap (stored l at) (ap (λ (j : ℕ). take j b) d ∙ take-length b)
+
+-- ---- a head: w is a number of j bytes
+pub head-bytes : (w : List ℕ) (j x : ℕ) → w ≡ be j x → j ≡ length w
+head-bytes w j x e = rw e (sym (be-length j x))
+
 pub head-stored : (l : List ℕ) (at : ℕ) (w : List ℕ) (j x : ℕ) → w ≡ be j x → {l′ : List ℕ} → l′ ≡ stored l at (be j x) → (j ≡ length w) × (l′ ≡ stored l at w)
-head-stored l at w j x e s = (rw e (sym (be-length j x)), rw e s)
+head-stored l at w j x e s = (head-bytes w j x e, rw e s)
 
 -- ---- the string at a place, where x is what is read there
 spelled-some : (k : Kind) (cs w : List ℕ) → shortestString k cs ≡ some w → w ≡ spelled k (suc (length cs)) cs
@@ -46,76 +90,175 @@ spelled-some k cs w = go (content k cs) (spelled k (suc (length cs)) cs)
     go true v e = cc
     go false v e = cc
 
--- what is found there; its shortest form is no longer than the message
-record Found (k : Kind) (m : List ℕ) (p u b : ℕ) : Type 0 where
-  pub done : IsDone (stringAt k m p)
-  pub units-are : u ≡ units k (contentOf (stringAt k m p))
-  pub bytes-are : b ≡ length (contentOf (stringAt k m p))
-  pub inside : p ≤ length m
-  pub short : length (laid k m p) ≤ length m
-  pub form-is : itemForm k m p ≡ some (laid k m p)
-
-module _ (k : Kind) (m : List ℕ) (p : ℕ) {x : StringRead} (t : toldString x ≡ measuredAt k m p) where
-  module _ (bytes : (i : ℕ) → Fits w8 (getD m i 0)) (u b n : ℕ) (q : x ≡ Content u b n) where
-    found : Found k m p u b
-    unfolding measuredAt itemForm laid
-    found = go (stringAt k m p) refl (ap toldString (sym q) ∙ t)
+-- ---- a string that stands at p: its shortest form, which is no longer than the message
+module _ (k : Kind) (m : List ℕ) (p : ℕ) {c : Cursor} {u b : ℕ} (i : Item k m p c u b) where
+  module _ (bytes : (i : ℕ) → Fits w8 (getD m i 0)) where
+    item-form : (itemForm k m p ≡ some (laid k m p)) × (length (laid k m p) ≤ length m)
+    unfolding itemForm laid
+    item-form = go (stringAt k m p) refl (i .done)
       where
-        go : (o : Answer (List ℕ)) → stringAt k m p ≡ o → Done n (sized u b) [] tt ≡ renamed (sizes k) o → Found k m p u b
-        go (Done i cs es c) e s =
-            let z = text-no-shorter k m (bytes-all m (λ i. bytes i .fits)) p i cs es e in
-            let y = text-within k m (bytes-all m (λ i. bytes i .fits)) p i cs es e in
-            let f : sized u b ≡ sizes k cs = cc in
-            record {
-              done = rw e tt;
-              units-are = rw e (ap (λ (v : Sizes). v .units) f);
-              bytes-are = rw e (ap (λ (v : Sizes). v .bytes) f);
-              inside = omega (arith, y .1);
-              short = rw e (omega (arith, y .1, z .2, ap length (spelled-some k cs (z .0) (z .1))));
-              form-is = rw e (z .1 ∙ ap (λ (v : List ℕ). some v) (spelled-some k cs (z .0) (z .1)));
-            }
-        go (Fault y o) e s = let z : _≡_ {A = ℕ} 0 1 = cc in absurd (omega arith)
+        go : (o : Answer (List ℕ)) → stringAt k m p ≡ o → IsDone o → (itemForm k m p ≡ some (laid k m p)) × (length (laid k m p) ≤ length m)
+        go (Done n cs es x) e d =
+            let z = text-no-shorter k m (bytes-all m (λ i. bytes i .fits)) p n cs es e in
+            let y = text-within k m (bytes-all m (λ i. bytes i .fits)) p n cs es e in
+            let s = spelled-some k cs (z .0) (z .1) in
+            (rw e (z .1 ∙ ap (λ (v : List ℕ). some v) s), rw e (omega (arith, y .1, z .2, ap length s)))
+        go (Fault y o) e d = absurd d
 
-    item : (to : ℕ) → to + length (laid k m p) < 2 ^ 64 → Item k m p u b to
-    item to h = record { done = found .done; units-are = found .units-are; bytes-are = found .bytes-are; few = h; within = found .inside }
-
-    pub item-counted : Fits w64 (length m) → Item k m p u b 0
-    item-counted f = item 0 (omega (arith, found .short))
+    pub item-counted : Fits w64 (length m) → length (laid k m p) < 2 ^ 64
+    item-counted f = omega (arith, item-form .1)
 
     -- r: how long its shortest form is
     module _ (r : ℕ) (d : r ≡ length (laid k m p)) where
-      pub item-length : r ≡ lengthOf (itemForm k m p)
-      unfolding lengthOf
-      item-length = rw (found .form-is) d
-
-      pub item-laid : (to : ℕ) → to + r < 2 ^ 64 → Item k m p u b to
-      item-laid to h = item to (omega arith)
-
       module _ (l : List ℕ) (to : ℕ) where
         pub item-not : length l < to + r → (reported 9 r ≡ reportOf (itemForm k m p) (length l) to) × (l ≡ outputOf (itemForm k m p) l to)
         unfolding reportOf outputOf
         item-not h = (
-          rw (found .form-is, ← d) (sym (pick-false _ _ (lt-leb (to + r) (length l) h))),
-          rw (found .form-is) (sym (stored-out l to (laid k m p) (omega arith))),
+          rw (item-form .0, ← d) (sym (pick-false _ _ (lt-leb (to + r) (length l) h))),
+          rw (item-form .0) (sym (stored-out l to (laid k m p) (omega arith))),
         )
 
         pub item-whole : to + r ≤ length l → (l′ : List ℕ) (s : ℕ) → Lays k m p l to l′ s → (reported 0 r ≡ reportOf (itemForm k m p) (length l) to) × (l′ ≡ outputOf (itemForm k m p) l to)
         unfolding reportOf outputOf
-        item-whole h l′ s y = (rw (found .form-is, ← d) (sym (pick-true _ _ (le-leb (to + r) (length l) h))), rw (found .form-is) (y .holds (omega (arith, y .long))))
+        item-whole h l′ s y = (rw (item-form .0, ← d) (sym (pick-true _ _ (le-leb (to + r) (length l) h))), rw (item-form .0) (y .holds (omega (arith, y .long))))
 
-  module _ (y o : ℕ) (q : x ≡ Refused y o) where
-    not-found : itemForm k m p ≡ none
-    unfolding measuredAt itemForm
-    not-found = go (stringAt k m p) refl (ap toldString (sym q) ∙ t)
+  -- ---- of the sizes that are asked for, or not
+  sized-as : (v d : ℕ) → sizedForm k m p v d ≡ pick (eqb u v && eqb b d) (itemForm k m p) none
+  unfolding itemForm sizedForm
+  sized-as v d = go (stringAt k m p) refl (i .done)
+    where
+      go : (o : Answer (List ℕ)) → stringAt k m p ≡ o → IsDone o → sizedForm k m p v d ≡ pick (eqb u v && eqb b d) (itemForm k m p) none
+      go (Done n cs es x) e y = rw (i .units-are, i .bytes-are, e) refl
+      go (Fault y o) e z = absurd z
+
+  module _ (v d : ℕ) where
+    sized-same : u ≡ v → b ≡ d → sizedForm k m p v d ≡ itemForm k m p
+    sized-same e f = sized-as v d ∙ pick-true _ _ (rw (eq-eqb u v e, eq-eqb b d f) refl)
+
+    sized-units : (u ≡ v → ⊥) → sizedForm k m p v d ≡ none
+    sized-units e = sized-as v d ∙ pick-false _ _ (rw (ne-eqb u v e) refl)
+
+    sized-bytes : u ≡ v → (b ≡ d → ⊥) → sizedForm k m p v d ≡ none
+    sized-bytes e f = sized-as v d ∙ pick-false _ _ (rw (eq-eqb u v e, ne-eqb b d f) refl)
+
+-- ---- what is found there, by what it is
+none-written : (o : Option (List ℕ)) → o ≡ none → (l : List ℕ) (to : ℕ) → (reported 10 0 ≡ reportOf o (length l) to) × (l ≡ outputOf o l to)
+unfolding reportOf outputOf
+none-written o e l to = (rw e refl, rw e refl)
+
+module _ (k : Kind) (m : List ℕ) (p : ℕ) (x : Found) (t : FoundMet k m p x) where
+  says : {y : Found} → x ≡ y → FoundSays k m p y
+  says e = subst (FoundSays k m p) e (t .says)
+
+  module _ (e : x ≡ Nothing) where
+    nothing : (itemForm k m p ≡ none) × ((v d : ℕ) → sizedForm k m p v d ≡ none)
+    unfolding itemForm sizedForm
+    nothing = go (stringAt k m p) refl (says e)
       where
-        go : (r : Answer (List ℕ)) → stringAt k m p ≡ r → Fault y o ≡ renamed (sizes k) r → itemForm k m p ≡ none
-        go (Done i cs es c) e s = let z : _≡_ {A = ℕ} 0 1 = cc in absurd (omega arith)
-        go (Fault z r) e s = rw e refl
+        go : (o : Answer (List ℕ)) → stringAt k m p ≡ o → (IsDone o → ⊥) → (itemForm k m p ≡ none) × ((v d : ℕ) → sizedForm k m p v d ≡ none)
+        go (Done n cs es x) q d = absurd (d tt)
+        go (Fault y o) q d = (rw q refl, λ v d. rw q refl)
 
-    pub none-length : 0 ≡ lengthOf (itemForm k m p)
+    pub nothing-length : 0 ≡ lengthOf (itemForm k m p)
     unfolding lengthOf
-    none-length = rw not-found refl
+    nothing-length = rw (nothing .0) refl
 
-    pub none-written : (l : List ℕ) (to : ℕ) → (reported 10 0 ≡ reportOf (itemForm k m p) (length l) to) × (l ≡ outputOf (itemForm k m p) l to)
-    unfolding reportOf outputOf
-    none-written l to = (rw not-found refl, rw not-found refl)
+    module _ (l : List ℕ) (to : ℕ) where
+      pub nothing-written : (reported 10 0 ≡ reportOf (itemForm k m p) (length l) to) × (l ≡ outputOf (itemForm k m p) l to)
+      nothing-written = none-written _ (nothing .0) l to
+
+      pub nothing-sized : (v d : ℕ) → (reported 10 0 ≡ reportOf (sizedForm k m p v d) (length l) to) × (l ≡ outputOf (sizedForm k m p v d) l to)
+      nothing-sized v d = none-written _ (nothing .1 v d) l to
+
+  module _ (c : Cursor) (u b : ℕ) (e : x ≡ There c u b) where
+    pub there-item : Item k m p c u b
+    there-item = says e
+
+    module _ (bytes : (i : ℕ) → Fits w8 (getD m i 0)) where
+      pub there-counted : Fits w64 (length m) → Item k m p c u b × (length (laid k m p) < 2 ^ 64)
+      there-counted f = (there-item, item-counted k m p there-item bytes f)
+
+      pub there-length : (r : ℕ) → r ≡ length (laid k m p) → r ≡ lengthOf (itemForm k m p)
+      unfolding lengthOf
+      there-length r d = rw (item-form k m p there-item bytes .0) d
+
+    module _ (v d : ℕ) (l : List ℕ) (to : ℕ) where
+      pub other-units : (u ≡ v → ⊥) → (reported 10 0 ≡ reportOf (sizedForm k m p v d) (length l) to) × (l ≡ outputOf (sizedForm k m p v d) l to)
+      other-units f = none-written _ (sized-units k m p there-item v d f) l to
+
+      pub other-bytes : u ≡ v → (b ≡ d → ⊥) → (reported 10 0 ≡ reportOf (sizedForm k m p v d) (length l) to) × (l ≡ outputOf (sizedForm k m p v d) l to)
+      other-bytes f g = none-written _ (sized-bytes k m p there-item v d f g) l to
+
+      pub same-sizes : u ≡ v → b ≡ d → (r : Report) (l′ : List ℕ) → (r ≡ reportOf (itemForm k m p) (length l) to) × (l′ ≡ outputOf (itemForm k m p) l to)
+          → (r ≡ reportOf (sizedForm k m p v d) (length l) to) × (l′ ≡ outputOf (sizedForm k m p v d) l to)
+      same-sizes f g r l′ y = rw (sized-same k m p there-item v d f g) y
+
+-- ---- finding it: by its first chunk x, and where that is not the last, by what is read on
+module _ (k : Kind) (m : List ℕ) (p : ℕ) where
+  missing : {y o : ℕ} → stringAt k m p ≡ Fault y o → FoundMet k m p Nothing
+  missing e = record { says = λ d. subst IsDone e d }
+
+  pub find-ends : length m ≤ p → FoundMet k m p Nothing
+  find-ends l = missing (string-ends k m p l)
+
+  item-there : (n u b : ℕ) → Done n (sized u b) [] tt ≡ measuredAt k m p → (c : Cursor) → Opens k m p c → FoundMet k m p (There c u b)
+  unfolding measuredAt
+  item-there n u b t c q = go (stringAt k m p) refl t
+    where
+      go : (o : Answer (List ℕ)) → stringAt k m p ≡ o → Done n (sized u b) [] tt ≡ renamed (sizes k) o → FoundMet k m p (There c u b)
+      go (Done i cs es x) e s =
+          let f : sized u b ≡ sizes k cs = cc in
+          let d : IsDone (stringAt k m p) = rw e tt in
+          let w = q .opens d in
+          record {
+            says = record {
+              done = d;
+              going = w .0;
+              content-is = w .1;
+              units-are = rw e (ap (λ (v : Sizes). v .units) f);
+              bytes-are = rw e (ap (λ (v : Sizes). v .bytes) f);
+            };
+          }
+      go (Fault y o) e s = let z : _≡_ {A = ℕ} 0 1 = cc in absurd (omega arith)
+
+  module _ (x : ChunkRead) (t : ChunkMet k m p x) where
+    pub find-refused : (y o : ℕ) → x ≡ chunk.Refused y o → FoundMet k m p Nothing
+    find-refused y o e = missing (chunk-says t e)
+
+    module _ (h n u : ℕ) (a : Bool) (e : x ≡ chunk.Chunk h n u a) (l : p < length m) where
+      abbrev first : Cursor
+      first = record { here = p + h; left = n; last = a }
+
+      pub find-opens : Opens k m p first
+      find-opens = opens-chunk k m p h n u a (chunk-says t e)
+
+      module _ (f : Fits w64 (length m)) where
+        pub find-head : Fits w64 (p + h)
+        find-head = record { fits = omega (arith, f .fits, chunk-says t e .2) }
+
+        pub find-size : Fits w64 (h + n)
+        find-size = record { fits = omega (arith, f .fits, chunk-says t e .2) }
+
+        pub find-end : Fits w64 (p + (h + n))
+        find-end = record { fits = omega (arith, f .fits, chunk-says t e .2) }
+
+      none-before : (i : ℕ) → 0 + i ≡ i
+      none-before i = omega arith
+
+      pub find-last : a ≡ true → FoundMet k m p (There first u n)
+      find-last d = item-there _ u n (rw (none-before u, none-before n) at (joining-last (joining-start k m p l) t h n u a e d)) first find-opens
+
+      pub find-on : a ≡ false → Joining k m p (p + (h + n)) u n
+      find-on d = rw (none-before u, none-before n) at (joining-more (joining-start k m p l) t h n u a e d)
+
+  module _ (c : Cursor) (w : Opens k m p c) (r : StringRead) (s : toldString r ≡ measuredAt k m p) where
+    pub find-broken : (y o : ℕ) → r ≡ Refused y o → FoundMet k m p Nothing
+    unfolding measuredAt
+    find-broken y o q = go (stringAt k m p) refl (ap toldString (sym q) ∙ s)
+      where
+        go : (r : Answer (List ℕ)) → stringAt k m p ≡ r → Fault y o ≡ renamed (sizes k) r → FoundMet k m p Nothing
+        go (Done i cs es x) e s = let z : _≡_ {A = ℕ} 0 1 = cc in absurd (omega arith)
+        go (Fault z r) e s = missing e
+
+    pub find-more : (v b j : ℕ) → r ≡ Content v b j → FoundMet k m p (There c v b)
+    find-more v b j q = item-there j v b (ap toldString (sym q) ∙ s) c w

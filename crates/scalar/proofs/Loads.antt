@@ -8,47 +8,20 @@ use borrow.Author.Tests.{leb-true, leb-false}
 use lib.Dec.{leb}
 use lib.IntN.{pos, _-ℤ_}
 use lib.ListN.{length, take, drop, getD}
-use lib.Seq.{drop-cons}
 use mir.Syntax.{w32, w64}
 use mir.Val.{ofZ, toZ}
 use Rattle.flow.specs.Tests.{pick-either, took-le, left-le}
-use Rattle.flow.specs.Flow.{Answer, Done, Fault}
+use Rattle.flow.specs.Steps.{Answer}
+use Rattle.flow.specs.Flow.{Done, Fault}
 use Rattle.wire.specs.BigEndian.{joined}
+use Rattle.wire.specs.Laws.{joined-one}
 use Rattle.scalar.specs.declared.numbers.Sort.{Sort}
 use Rattle.scalar.specs.declared.numbers.Rule.{Rule}
 use Rattle.scalar.specs.declared.numbers.Rule.the-variants.{Plain, Offset, Signed, Float}
 use Rattle.scalar.specs.declared.numbers.Begun.the-variants.{Starts}
-use Rattle.scalar.specs.Doubles.{widened}
-use Rattle.scalar.specs.Numbers.{value, formsOf, formAt, numberAt}
-use Rattle.scalar.specs.Answers.{formRead}
+use Rattle.scalar.specs.Scalars.{widened, value, formsOf, formAt}
+use Rattle.scalar.specs.Answers.{numberAt, formRead}
 use Rattle.scalar.specs.NumberAt.{number-cut, number-there}
-
--- ---- bytes: one more, and four more
-next : (m : List ℕ) (i n a : ℕ) → i < length m → joined a (take (suc n) (drop i m)) ≡ joined (256 * a + getD m i 0) (take n (drop (suc i) m))
-next m i n a h = rw (drop-cons m i 0 h) refl
-
-four-more : (m : List ℕ) (i n a : ℕ) → i + 4 ≤ length m
-    → joined a (take (suc (suc (suc (suc n)))) (drop i m)) ≡ joined (256 * (256 * (256 * (256 * a + getD m i 0) + getD m (i + 1) 0) + getD m (i + 2) 0) + getD m (i + 3) 0) (take n (drop (i + 4) m))
-four-more m i n a h =
-    let e : i + 1 ≡ suc i = omega arith in
-    let f : i + 2 ≡ suc (suc i) = omega arith in
-    let g : i + 3 ≡ suc (suc (suc i)) = omega arith in
-    let k : i + 4 ≡ suc (suc (suc (suc i))) = omega arith in
-    rw (e, f, g, k)
-    (next m i (suc (suc (suc n))) a (omega arith)
-    ∙ next m (suc i) (suc (suc n)) (256 * a + getD m i 0) (omega arith)
-    ∙ next m (suc (suc i)) (suc n) (256 * (256 * a + getD m i 0) + getD m (suc i) 0) (omega arith)
-    ∙ next m (suc (suc (suc i))) n (256 * (256 * (256 * a + getD m i 0) + getD m (suc i) 0) + getD m (suc (suc i)) 0) (omega arith))
-
-pub four-is : (m : List ℕ) (i v : ℕ) → v ≡ 256 * (256 * (256 * getD m i 0 + getD m (i + 1) 0) + getD m (i + 2) 0) + getD m (i + 3) 0 → i + 4 ≤ length m → v ≡ joined 0 (take 4 (drop i m))
-four-is m i v e h = omega (arith, e, four-more m i 0 0 h)
-
-pub eight-is : (m : List ℕ) (i a b : ℕ) → i + 8 ≤ length m → a ≡ joined 0 (take 4 (drop i m)) → b ≡ joined 0 (take 4 (drop (i + 4) m)) → a * 0x1_0000_0000 + b ≡ joined 0 (take 8 (drop i m))
-eight-is m i a b h ea eb =
-    let x = four-more m i 0 0 (omega arith) in
-    let y = four-more m (i + 4) 0 0 (omega arith) in
-    let w : ℕ = 256 * (256 * (256 * (256 * 0 + getD m i 0) + getD m (i + 1) 0) + getD m (i + 2) 0) + getD m (i + 3) 0 in
-    omega (arith, ea, eb, x, y, four-more m i 4 0 (omega arith), four-more m (i + 4) 0 w (omega arith))
 
 -- ---- a form: the message ends in it; its value
 module _ (m : List ℕ) (p k u : ℕ) (r : Rule) where
@@ -73,13 +46,13 @@ module _ (m : List ℕ) (p : ℕ) where
 
   pub two-is : (u z x v : ℕ) → 1 < length m - p → x ≡ 256 * u + getD m (p + 1) 0 → v ≡ ofZ w64 (pos x -ℤ pos z) → Done 2 v [] tt ≡ formRead m p 1 u (Offset z)
   unfolding value
-  two-is u z x v h i e = formed-is m p 1 u (Offset z) h v (e ∙ ap (λ (n : ℕ). ofZ w64 (pos n -ℤ pos z)) (i ∙ sym (next m (p + 1) 0 u (omega arith))))
+  two-is u z x v h i e = formed-is m p 1 u (Offset z) h v (e ∙ ap (λ (n : ℕ). ofZ w64 (pos n -ℤ pos z)) (i ∙ sym (joined-one m (p + 1) 0 u (omega arith))))
 
   pub three-is : (u z x y v : ℕ) → 2 < length m - p → x ≡ 256 * u + getD m (p + 1) 0 → y ≡ 256 * x + getD m (p + 2) 0 → v ≡ ofZ w64 (pos y -ℤ pos z) → Done 3 v [] tt ≡ formRead m p 2 u (Offset z)
   unfolding value
   three-is u z x y v h i j e =
       let s : suc (p + 1) ≡ p + 2 = omega arith in
-      let b : joined u (take 2 (drop (p + 1) m)) ≡ joined (256 * (256 * u + getD m (p + 1) 0) + getD m (suc (p + 1)) 0) [] = next m (p + 1) 1 u (omega arith) ∙ next m (suc (p + 1)) 0 (256 * u + getD m (p + 1) 0) (omega arith) in
+      let b : joined u (take 2 (drop (p + 1) m)) ≡ joined (256 * (256 * u + getD m (p + 1) 0) + getD m (suc (p + 1)) 0) [] = joined-one m (p + 1) 1 u (omega arith) ∙ joined-one m (suc (p + 1)) 0 (256 * u + getD m (p + 1) 0) (omega arith) in
       let g : getD m (suc (p + 1)) 0 ≡ getD m (p + 2) 0 = ap (λ (n : ℕ). getD m n 0) s in
       formed-is m p 2 u (Offset z) h v (e ∙ ap (λ (n : ℕ). ofZ w64 (pos n -ℤ pos z)) (omega (arith, i, j, g, b)))
 

@@ -11,8 +11,8 @@ use lib.Dec.{T, leb}
 use lib.ListN.{length, take, drop, getD, length-take, length-drop}
 use mir.Syntax.{w8}
 use mir.Val.{Fits}
-use Rattle.flow.specs.Tests.{and-left, and-right, within-yes, within-is, pick-either, Bytes, bytes-take, bytes-drop, bytes-all}
-use Rattle.flow.specs.Flow.{Done, Fault}
+use Rattle.flow.specs.Tests.{and-left, and-right, within-yes, within-is, pick-either, bytes-take, bytes-drop, bytes-all}
+use Rattle.flow.specs.Flow.{Bytes, Done, Fault}
 use Rattle.wire.specs.BigEndian.{joined, be}
 use Rattle.wire.specs.Laws.{be-length, be-bytes, joined-below}
 use Rattle.scalar.specs.declared.numbers.Sort.{Sort}
@@ -21,8 +21,9 @@ use Rattle.scalar.specs.declared.numbers.Rule.{Rule}
 use Rattle.scalar.specs.declared.numbers.Rule.the-variants.{Plain}
 use Rattle.scalar.specs.declared.numbers.Begun.{Begun}
 use Rattle.scalar.specs.declared.numbers.Begun.the-variants.{Starts, NoForm}
-use Rattle.scalar.specs.Numbers.{value, Form, form, formsOf, inside, formAt, numberAt, Number, held, here, later}
-use Rattle.scalar.specs.Answers.{Takes}
+use Rattle.scalar.specs.Scalars.{value, Form, form, formsOf, inside, formAt}
+use Rattle.scalar.specs.Grammar.{Number, held, here, later}
+use Rattle.scalar.specs.Answers.{numberAt, Takes}
 use Rattle.scalar.specs.NumberLaws.{size, form-here, form-skip, clear, proper, number-apart}
 use Rattle.scalar.specs.NumberAt.{number-ends, number-none, number-cut, number-there}
 use Rattle.scalar.specs.Sorts.{properly}

@@ -8,7 +8,8 @@ use native.Mathlib.Omega.{arith}
 use lib.Dec.{T, leb, leb→le}
 use lib.ListN.{getD}
 use mir.Facts.{or-yes}
-use Rattle.flow.specs.Tests.{pick, pick-either, within, within-is, and-left, and-right, took-in, left-below, left-above}
+use Rattle.flow.specs.Flow.{pick, within}
+use Rattle.flow.specs.Tests.{pick-either, within-is, and-left, and-right, took-in, left-below, left-above}
 
 -- the bytes from `from` to below `below`, and what each of them says
 pub record Row (A : Type 0) : Type 0 where

@@ -10,8 +10,9 @@ use lib.ListN.{length, take, drop, getD, length-append, length-take, length-drop
 use lib.Seq.{length-take-le}
 use mir.Syntax.{w8, w64}
 use mir.Val.{Fits}
-use Rattle.flow.specs.Tests.{pick, bytes-take, bytes-drop, bytes-all}
-use Rattle.flow.specs.Flow.{Answer, Done, Fault}
+use Rattle.flow.specs.Flow.{pick, Done, Fault}
+use Rattle.flow.specs.Steps.{Answer}
+use Rattle.flow.specs.Tests.{bytes-take, bytes-drop, bytes-all}
 use Rattle.wire.specs.BigEndian.{joined, wider}
 use Rattle.wire.specs.Laws.{joined-below}
 use Rattle.scalar.specs.declared.numbers.Begun.{Begun}
@@ -30,10 +31,9 @@ use Rattle.scalar.specs.declared.texts.HeadRead.{HeadRead}
 use Rattle.scalar.specs.declared.texts.HeadRead.the-variants as head
 use Rattle.scalar.specs.declared.texts.ChunkRead.{ChunkRead}
 use Rattle.scalar.specs.declared.texts.ChunkRead.the-variants as chunk
-use Rattle.scalar.specs.Numbers.{Form, formAt, inside}
-use Rattle.scalar.specs.Texts.{partHead, lastHeads, charLead, units, continued, characters, body, stringAt}
+use Rattle.scalar.specs.Scalars.{Form, formAt, inside, partHead, lastHeads, charLead, units, continued, characters, body, stringAt}
 use Rattle.scalar.specs.TextUnits.{units-append}
-use Rattle.scalar.specs.TextAnswers.{sized, measuredAt, extentAt, toldExtent, shifted, CharSays, CharMet, lastForm, headForm, prefixed, chunked, HeadSays, HeadMet, ChunkSays, ChunkMet}
+use Rattle.scalar.specs.TextAnswers.{sized, measuredAt, extentAt, toldExtent, shifted, CharSays, CharMet, lastForm, headForm, prefixed, chunked, HeadSays, HeadMet, ChunkSays, ChunkMet, Joining}
 use Rattle.scalar.specs.TextAt.{Opens, basic, supplementary, opens-units, continued-size, characters-ends, characters-other, characters-half, characters-fault, characters-next, octets-done, octets-fault, body-there, body-fault, head-small, string-ends, string-none, string-cut, string-there, measured-as}
 use Rattle.scalar.proofs.Rows.{Row, row, chosen, nth, apart, Outside, chosen-at, chosen-none}
 
@@ -66,7 +66,7 @@ module _ {whole rest : Answer ℕ} {m : List ℕ} {at here : ℕ} (R : Along who
       let d : here + j - at ≡ here - at + j = omega (arith, R .onward) in
       record { says = rw d (sym (shifted-twice (here - at) j left) ∙ ap (shifted (here - at)) (sym e) ∙ R .says); onward = omega (arith, R .onward); inside = l }
 
--- ---- a character's first byte: the table of specs/Texts.antt
+-- ---- a character's first byte: the table of specs/Scalars.antt
 abbrev leadRows : List (Row CharLead)
 leadRows =
     row 0x00 0x80 (λ b. Basic 0 0 0)
@@ -233,15 +233,6 @@ pub chunk-says : {k : Kind} {m : List ℕ} {p : ℕ} {x y : ChunkRead} → Chunk
 chunk-says {k} {m} {p} t e = subst (ChunkSays k m p) e (t .says)
 
 -- ---- the loop over the chunks: what is left reads as the whole does, but for the content and the bytes so far
-pub record Joining (k : Kind) (m : List ℕ) (at here total bytes : ℕ) : Type 0 where
-  pub front : List ℕ
-  pub says : prefixed (here - at) front (stringAt k m here) ≡ stringAt k m at
-  pub units-are : units k front ≡ total
-  pub bytes-are : length front ≡ bytes
-  pub few : total ≤ bytes
-  pub onward : at + bytes ≤ here
-  pub inside : here ≤ length m
-
 prefixed-none : (r : Answer (List ℕ)) → prefixed 0 [] r ≡ r
 prefixed-none (Done n cs es c) = let e : 0 + n ≡ n = omega arith in rw e refl
 prefixed-none (Fault x o) = refl

@@ -12,8 +12,8 @@ use lib.ListN.{length, drop, set, length-set}
 use mir.Syntax.{w64}
 use mir.Val.{Fits}
 use borrow.Author.Tests.{lt-ltb, le-ltb, lt-leb, eq-eqb, ne-eqb}
-use Rattle.flow.specs.Tests.{and-left, and-right, pick, pick-true, pick-false}
-use Rattle.flow.specs.Overlay.{stored}
+use Rattle.flow.specs.Tests.{and-left, and-right, pick-true, pick-false}
+use Rattle.flow.specs.Flow.{pick, stored, Report}
 use Rattle.flow.specs.OverlayLaws.{stored-out, stored-sets, stored-seam}
 use Rattle.wire.specs.BigEndian.{be, high, wider}
 use Rattle.wire.specs.Laws.{be-length, be-bytes, joined-be, joined-below}
@@ -24,9 +24,10 @@ use Rattle.scalar.specs.declared.numbers.Rule.the-variants.{Plain}
 use Rattle.scalar.specs.declared.numbers.Spelling.{Spelling}
 use Rattle.scalar.specs.declared.numbers.Spelling.the-variants as answer
 use Rattle.scalar.specs.DoubleLaws.{powers}
-use Rattle.scalar.specs.Numbers.{value, guess, Form, form, formsOf, spelling, fits, tried, shortest}
-use Rattle.scalar.specs.NumberLaws.{EachForm, IsNumber, number-fact, shortest-is}
-use Rattle.scalar.specs.Answers.{Takes, Good, spelled, orElse, some as isSome, Report, reported, reportOf, outputOf, lengthOf}
+use Rattle.scalar.specs.Scalars.{value, Form, form, formsOf, spelling, fits, shortest}
+use Rattle.scalar.specs.Guesses.{guess}
+use Rattle.scalar.specs.NumberLaws.{tried, EachForm, IsNumber, number-fact, shortest-is}
+use Rattle.scalar.specs.Answers.{Takes, Good, spelled, orElse, some as isSome, reported, reportOf, outputOf, lengthOf}
 
 -- ---- one form
 -- what stands before the k lowest bytes is the quotient
@@ -53,6 +54,14 @@ module _ (head codes more : ℕ) (rule : Rule) (v u : ℕ) (g : u ≡ guess rule
 
     pub tried-yes : (r : ℕ) → r ≡ value rule u → r ≡ v → some ((head + u / 2 ^ (8 * more)) ∷ be more u) ≡ tried (form head codes more rule) v none
     tried-yes r e n = rw (← g, lt-ltb (high more u) codes (rw high-is l), ← e, eq-eqb r v n, high-is more u)
+
+-- a form with one first byte, where u is its number for v and r the value of u
+module _ (head more : ℕ) (rule : Rule) (v u r : ℕ) (g : u ≡ guess rule v) (e : r ≡ value rule u) (l : u / 2 ^ (8 * more) < 1) where
+  pub held-yes : r ≡ v → some (head ∷ be more u) ≡ tried (form head 1 more rule) v none
+  held-yes n = let z : head + u / 2 ^ (8 * more) ≡ head = omega arith in rw (ap (λ (x : ℕ). some (x ∷ be more u)) z) at (tried-yes head 1 more rule v u g l r e n)
+
+  pub held-not : (r ≡ v → ⊥) → none ≡ tried (form head 1 more rule) v none
+  held-not n = tried-not head 1 more rule v u g l r e n
 
 -- ---- one form after the other
 found-stays : (o x : Option (List ℕ)) → isSome o ≡ true → o ≡ orElse o x

@@ -3,13 +3,13 @@ use mathlib.Core.Bool.{Bool, true, false}
 use mathlib.Core.List.{List, [], _∷_}
 use mathlib.Core.Option.{Option, none}
 use mathlib.Core.Option as option
-use Prim.Native.Nat.{ℕ, _+_, _-_, _^_, _≤_, _<_}
+use Prim.Native.Nat.{ℕ, _+_, _*_, _-_, _^_, _≤_, _<_}
 use lib.Dec.{leb}
 use lib.ListN.{length, take, drop}
-use Rattle.flow.specs.Tests.{pick}
-use Rattle.flow.specs.Flow.{Answer, Done, Fault}
-use Rattle.flow.specs.Overlay.{stored}
+use Rattle.flow.specs.Flow.{pick, Done, Fault, byteAt, stored, Report}
+use Rattle.flow.specs.Steps.{Answer, alone}
 use Rattle.wire.specs.BigEndian.{joined, be, wider}
+use Rattle.scalar.specs.declared.numbers.Sort.{Sort}
 use Rattle.scalar.specs.declared.numbers.Rule.{Rule}
 use Rattle.scalar.specs.declared.numbers.Rule.the-variants.{Exactly, Plain, Offset, Signed, Minutes, WholeByte, WholePair, Float}
 use Rattle.scalar.specs.declared.numbers.NumberRead.{NumberRead}
@@ -18,19 +18,25 @@ use Rattle.scalar.specs.declared.numbers.Spelling.{Spelling}
 use Rattle.scalar.specs.declared.numbers.Spelling.the-variants as spelling
 use Rattle.scalar.specs.declared.Written.{Written}
 use Rattle.scalar.specs.declared.Written.the-variants.{Stored, NoRoom, NotSuch}
-use Rattle.scalar.specs.Numbers.{value, Form, form}
+use Rattle.scalar.specs.Scalars.{value, Form, form, formsOf, numberFrom, ranges, rangeOf, leadOf, kindOf}
+
+-- how many bytes follow a first byte before any content; and its entry in the table: ten times the kind, and the bytes that follow
+unfoldable pub followOf : ℕ → ℕ
+followOf b = rangeOf ranges b .follow
+
+unfoldable pub entry : ℕ → ℕ
+entry b = 10 * kindOf (leadOf b) + followOf b
+
+-- what stands at the place p of the message m, read as a value of this kind
+unfoldable pub numberAt : Sort → List ℕ → ℕ → Answer ℕ
+numberAt s m p = alone (byteAt (numberFrom (formsOf s))) m p
 
 -- a value read, and the bytes it takes; or a refusal's number and place
 abbrev pub told : NumberRead → Answer ℕ
 told (Value v n) = Done n v [] tt
 told (Refused x o) = Fault x o
 
--- a refusal's number, 0 where accepted; the bytes stored or needed; the place
-pub record Report : Type 0 where
-  pub number : ℕ
-  pub count : ℕ
-  pub place : ℕ
-
+-- a refusal's number, 0 where accepted; the bytes stored or needed; the place is 0
 abbrev pub reported : ℕ → ℕ → Report
 reported number count = record { number = number; count = count; place = 0 }
 

@@ -13,9 +13,9 @@ use Rattle.scalar.specs.declared.numbers.Rule.the-variants.{Offset, Sign
 use Rattle.scalar.specs.declared.texts.Kind.{Kind}
 use Rattle.scalar.specs.Signed.{minus-fits, fits-32, widen-fits, mul-fits}
 use Rattle.scalar.specs.DoubleLaws.{whole-lt, widened-lt}
-use Rattle.scalar.specs.Numbers.{value, formsOf, Number}
+use Rattle.scalar.specs.Scalars.{value, formsOf, units}
+use Rattle.scalar.specs.Grammar.{Number, String, last-chunk, chunk-before}
 use Rattle.scalar.specs.NumberLaws.{EachForm, number-fact}
-use Rattle.scalar.specs.Texts.{units, String, last-chunk, chunk-before}
 use Rattle.scalar.specs.TextUnits.{weight-few}
 
 offset-bits : (k u : ℕ) → u < 2 ^ 63 → k < 2 ^ 63 → value (Offset k) u < 2 ^ 64

@@ -6,7 +6,8 @@ use Prim.Native.Nat.{ℕ, suc, _+_, _-_, _/_, _%_, _≤_, _<_}
 use native.Mathlib.Omega.{arith}
 use lib.Dec.{T, T-not, eqb, leb, eqb→eq, eqb-refl, leb→le}
 use lib.ListN.{getD}
-use Rattle.flow.specs.Tests.{pick, every, every-at, and-left, and-right}
+use Rattle.flow.specs.Flow.{pick}
+use Rattle.flow.specs.Tests.{every, every-at, and-left, and-right}
 use Rattle.scalar.specs.declared.numbers.Sort.{Sort}
 use Rattle.scalar.specs.declared.numbers.Sort.the-variants.{Null, False, True, Int, Long, Double, Date}
 use Rattle.scalar.specs.declared.numbers.Rule.{Rule}
@@ -14,8 +15,8 @@ use Rattle.scalar.specs.declared.numbers.Begun.{Begun}
 use Rattle.scalar.specs.declared.numbers.Begun.the-variants.{Starts, NoForm}
 use Rattle.scalar.specs.declared.chart.Lead.{Lead}
 use Rattle.scalar.specs.declared.chart.Lead.the-variants as lead
-use Rattle.scalar.specs.Numbers.{formsOf, formAt}
-use Rattle.scalar.specs.Chart.{ranges, rangeOf, leadOf, followOf, kindOf, entry}
+use Rattle.scalar.specs.Scalars.{formsOf, formAt, ranges, rangeOf, leadOf, kindOf}
+use Rattle.scalar.specs.Answers.{followOf, entry}
 
 -- ---- a kind's number says the kind
 abbrev leads : List Lead

@@ -14,7 +14,8 @@ use mir.Syntax.{Width, w8, w16, w32}
 use mir.Val.{SFits, bits, hbits, toZ, ofZ}
 use mir.ValLaws.{bits-suc, pow-bits, toZ-pos, toZ-ofZ}
 use Rattle.flow.specs.Tests.{by-cases, split}
-use Rattle.scalar.specs.Doubles.{scaled, whole, magnitude, widened, unscaled, wholeSize, wholeGuess, narrowMagnitude, narrowed}
+use Rattle.scalar.specs.Scalars.{scaled, whole, magnitude, widened}
+use Rattle.scalar.specs.Guesses.{unscaled, wholeSize, wholeGuess, narrowMagnitude, narrowed}
 
 -- ---- m shifted so that its first one bit is bit 52
 

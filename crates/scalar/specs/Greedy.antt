@@ -8,7 +8,7 @@ use lib.Dec.{T, ltb}
 use lib.ListN.{length, take, drop, length-drop}
 use lib.Seq.{drop-drop}
 use Rattle.flow.specs.Tests.{by-test, tests}
-use Rattle.scalar.specs.Texts.{total, span}
+use Rattle.scalar.specs.Scalars.{total, span}
 
 abbrev pub Chars : List ℕ → Type 0
 Chars [] = Unit {0}

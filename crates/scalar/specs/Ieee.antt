@@ -16,7 +16,7 @@ use lib.Pow.{pow-add, pow-mono, shl-lt, shl-shr}
 use lib.Signed.{mag}
 use borrow.Author.Tests.{leb-true, leb-false, eqb-true, eq-eqb, ne-eqb}
 use Rattle.flow.specs.Tests.{by-cases, split}
-use Rattle.scalar.specs.Doubles.{scaled, whole, magnitude, widened}
+use Rattle.scalar.specs.Scalars.{scaled, whole, magnitude, widened}
 use Rattle.scalar.specs.DoubleLaws.{powers, by-magnitude}
 
 -- ---- an integer's float is no NaN

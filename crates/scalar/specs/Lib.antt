@@ -1,8 +1,6 @@
-pub mod Chart
-pub mod Doubles
-pub mod Numbers
-pub mod Texts
+pub mod Guesses
 pub mod Scalars
+pub mod Grammar
 pub mod Answers
 pub mod TextAnswers
 pub mod TextWriting

@@ -6,14 +6,17 @@ use native.Mathlib.Nat.{min-eq-left, min-eq-right, add-zero}
 use native.Mathlib.Omega.{arith}
 use lib.ListN.{length, take, drop, getD, length-drop, drop-of-length-le}
 use lib.Seq.{drop-cons}
-use Rattle.flow.specs.Flow.{Outcome, Done, Fault, One, stepped, byteAt, alone}
+use Rattle.flow.specs.Flow.{Outcome, Done, Fault, One, byteAt}
+use Rattle.flow.specs.Steps.{stepped, alone}
 use Rattle.flow.specs.Lifts.{Lifts, give-lifts, fail-lifts, byte-lifts, map-lifts}
 use Rattle.wire.specs.BigEndian.{joined}
 use Rattle.scalar.specs.declared.numbers.Sort.{Sort}
 use Rattle.scalar.specs.declared.numbers.Rule.{Rule}
 use Rattle.scalar.specs.declared.numbers.Begun.{Begun}
 use Rattle.scalar.specs.declared.numbers.Begun.the-variants.{Starts, NoForm}
-use Rattle.scalar.specs.Numbers.{value, Form, formsOf, formAt, bytesOf, numberBy, numberFrom, numberAt}
+use Rattle.scalar.specs.Scalars.{value, Form, formsOf, formAt, bytesOf, numberFrom}
+use Rattle.scalar.specs.NumberLaws.{numberBy}
+use Rattle.scalar.specs.Answers.{numberAt}
 
 -- ---- the bytes after the first: all there, or the message ends
 module _ {C I : Type 0} where

@@ -7,13 +7,23 @@ use Prim.Native.Nat.{ℕ, zero, suc, _+_, _*_, _-_, _≤_, _<_}
 use native.Mathlib.Omega.{arith}
 use lib.Dec.{T, ltb, leb, leb→le, eqb, eqb→eq, eqb-refl, ltb→lt}
 use lib.ListN.{length}
-use Rattle.flow.specs.Tests.{by-test, pass, and-left, and-right, and-both, pick, pick-true, pick-false, pick-either, within, within-yes, within-below, within-above, within-is, Bytes, First}
+use Rattle.flow.specs.Tests.{by-test, pass, and-left, and-right, and-both, pick-true, pick-false, pick-either, within-yes, within-below, within-above, within-is, First}
+use Rattle.flow.specs.Flow.{pick, within, Bytes, Read, fail, mapped}
 use Rattle.flow.specs.Laws.{Goal, Parsed, gives, takes, maps, Makes, byte-makes, map-makes, Quiet, quiet}
 use Rattle.wire.specs.BigEndian.{joined, be, high, wider}
 use Rattle.wire.specs.Laws.{be-length, be-bytes, joined-be, high-below, joined-below}
 use Rattle.scalar.specs.declared.numbers.Begun.{Begun}
-use Rattle.scalar.specs.declared.numbers.Begun.the-variants.{Starts}
-use Rattle.scalar.specs.Numbers.{value, Form, inside, formAt, bytesOf, numberBy, numberFrom, Held, held, Number, here, later, guess, spelling, fits, shortest}
+use Rattle.scalar.specs.declared.numbers.Begun.the-variants.{Starts, NoForm}
+use Rattle.scalar.specs.Scalars.{value, Form, inside, formAt, bytesOf, numberFrom, spelling, fits, shortest}
+use Rattle.scalar.specs.Grammar.{Held, held, Number, here, later}
+use Rattle.scalar.specs.Guesses.{guess}
+
+-- reading by what the first byte, at p, began; and a form tried, before the others: for proofs
+abbrev pub numberBy : {C I : Type 0} → Begun → ℕ → Read C I ℕ
+numberBy x p = elim x [ NoForm ↦ fail 3 p | Starts k u r ↦ mapped (value r) (bytesOf k u) ]
+
+abbrev pub tried : Form → ℕ → Option (List ℕ) → Option (List ℕ)
+tried w v other = cond (fits w v) (some (spelling w (guess (w .rule) v))) other
 
 -- how many numbers a form holds
 abbrev pub size : Form → ℕ

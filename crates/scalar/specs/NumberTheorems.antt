@@ -6,11 +6,14 @@ use Prim.Native.Nat.{ℕ, _+_, _-_, _≤_, _<_, min}
 use native.Mathlib.Omega.{arith}
 use lib.ListN.{length, take, drop, length-drop, length-take}
 use lib.Seq.{drop-append-seam, length-take-le}
-use Rattle.flow.specs.Tests.{Bytes, bytes-drop}
-use Rattle.flow.specs.Flow.{Entry, Answer, Done, One, items, byteAt}
+use Rattle.flow.specs.Flow.{Bytes, Entry, Done, One, items, byteAt}
+use Rattle.flow.specs.Steps.{Answer}
+use Rattle.flow.specs.Tests.{bytes-drop}
 use Rattle.flow.specs.Laws.{Parsed, takes, quietly, Makes, byte-makes}
 use Rattle.scalar.specs.declared.numbers.Sort.{Sort}
-use Rattle.scalar.specs.Numbers.{formsOf, numberFrom, numberAt, Number, shortest}
+use Rattle.scalar.specs.Scalars.{formsOf, numberFrom, shortest}
+use Rattle.scalar.specs.Grammar.{Number}
+use Rattle.scalar.specs.Answers.{numberAt}
 use Rattle.scalar.specs.NumberLaws.{number-scans, number-makes, NumberLed, number-some, shortest-is, IsNumber, Shorter}
 use Rattle.scalar.specs.Sorts.{properly, none-shorter}
 

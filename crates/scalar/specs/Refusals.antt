@@ -5,8 +5,7 @@ use mathlib.Core.Option.{Option, none, some}
 use Prim.Native.Nat.{ℕ, zero, suc, _+_, _*_, _≤_}
 use native.Mathlib.Omega.{arith}
 use lib.ListN.{length}
-use Rattle.flow.specs.Tests.{within}
-use Rattle.flow.specs.Flow.{Read, From, mapped, fail, bind}
+use Rattle.flow.specs.Flow.{within, Read, From, mapped, fail, bind}
 use Rattle.flow.specs.Refusals.{Tells, TellsFrom, cond-tells, byte-tells, mapped-tells, bind-tells}
 use Rattle.scalar.specs.declared.numbers.Sort.the-variants as sort
 use Rattle.scalar.specs.declared.numbers.Begun.{Begun}
@@ -17,10 +16,8 @@ use Rattle.scalar.specs.declared.texts.Kind.{Kind}
 use Rattle.scalar.specs.declared.texts.Kind.the-variants.{Utf8, Binary}
 use Rattle.scalar.specs.declared.texts.CharLead.{CharLead}
 use Rattle.scalar.specs.declared.texts.CharLead.the-variants.{Basic, Supplementary, NoChar}
-use Rattle.scalar.specs.Numbers.{Form, formsOf, formAt, inside, value, bytesOf, numberBy, numberFrom}
-use Rattle.scalar.specs.Texts.{partHead, lastHeads, charLead, continued, character, characters, octets, body, chunk, chunks, stringFrom}
-use Rattle.scalar.specs.Chart.{leadOf}
-use Rattle.scalar.specs.Scalars.{Num, Str, scalarBy, scalarFrom, intFrom, textFrom}
+use Rattle.scalar.specs.Scalars.{Form, formsOf, formAt, inside, value, bytesOf, numberFrom, leadOf, partHead, lastHeads, charLead, continued, character, characters, octets, body, chunk, chunks, stringFrom, Num, Str, scalarBy, scalarFrom, intFrom, textFrom}
+use Rattle.scalar.specs.NumberLaws.{numberBy}
 
 module _ (C I : Type 0) (P : ℕ → Type 0) (end : ℕ) (two : P 2) (three : P 3) (four : P 4) where
   -- ---- numbers

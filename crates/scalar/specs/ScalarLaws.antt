@@ -9,8 +9,8 @@ use lib.Dec.{T, ltb, eqb, eqb→eq}
 use lib.IntN.{pos}
 use borrow.Author.Tests.{le-leb}
 use lib.ListN.{length}
-use Rattle.flow.specs.Tests.{by-test, pick, pass, every, every-at, implies, implied, within-yes, Bytes, First}
-use Rattle.flow.specs.Flow.{From, Fault, mapped}
+use Rattle.flow.specs.Tests.{by-test, pass, every, every-at, implies, implied, within-yes, First}
+use Rattle.flow.specs.Flow.{pick, Bytes, From, Fault, mapped}
 use Rattle.flow.specs.Laws.{Parsed, maps, Quiet, quiet, quietly, map-makes, Leads}
 use Rattle.scalar.specs.declared.numbers.Sort.{Sort}
 use Rattle.scalar.specs.declared.numbers.Sort.the-variants as sort
@@ -18,15 +18,18 @@ use Rattle.scalar.specs.declared.texts.Kind.{Kind}
 use Rattle.scalar.specs.declared.texts.Kind.the-variants.{Utf8, Binary}
 use Rattle.scalar.specs.declared.chart.Lead.{Lead}
 use Rattle.scalar.specs.declared.chart.Lead.the-variants as lead
-use Rattle.scalar.specs.Chart.{ranges, rangeOf, leadOf, kindOf}
+use Rattle.scalar.specs.Scalars.{ranges, rangeOf, leadOf, kindOf, Form, compact, inside, formsOf, numberFrom, fits, shortest, partHead, lastHeads, stringFrom, shortestString, Scalar, Num, Str, isText, scalarBy, scalarFrom, intFrom, textFrom, shortestScalar, shortestInt, shortestText}
+use Rattle.scalar.specs.Grammar.{held, Number, here, later, String, last-chunk, chunk-before, Spelt, a-number, a-string, Int, Text}
 use Rattle.scalar.specs.ChartLaws.{kind-is}
-use Rattle.scalar.specs.Numbers.{Form, compact, inside, formsOf, numberFrom, held, Number, here, later, guess, fits, shortest}
+use Rattle.scalar.specs.Guesses.{guess}
 use Rattle.scalar.specs.NumberLaws.{number-bytes, number-some, number-scans, number-makes, NumberLed, shortest-is, IsNumber}
 use Rattle.scalar.specs.Sorts.{properly, none-shorter, int-ranges}
-use Rattle.scalar.specs.Texts.{partHead, lastHeads, stringFrom, String, last-chunk, chunk-before, shortestString}
 use Rattle.scalar.specs.TextLaws.{string-bytes, string-scans, string-makes, StringLed}
 use Rattle.scalar.specs.TextShort.{string-short, string-is, IsString}
-use Rattle.scalar.specs.Scalars.{Scalar, Num, Str, isScalar, isText, scalarBy, scalarFrom, intFrom, textFrom, Spelt, a-number, a-string, Int, Text, shortestScalar, shortestInt, shortestText}
+
+-- the byte opens a scalar
+abbrev pub isScalar : ℕ → Bool
+isScalar b = ltb (kindOf (leadOf b)) 9
 
 -- ---- the first byte says what the scalar is
 abbrev begins : List Form → ℕ → Bool

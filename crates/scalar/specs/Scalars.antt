@@ -1,32 +1,277 @@
--- A scalar: a single value, a text or a byte string. What the layer above sees of all their forms.
-use mathlib.Core.Bool.{Bool}
-use mathlib.Core.List.{List, [], _∷_}
-use mathlib.Core.Option.{Option}
-use Prim.Native.Nat.{ℕ}
-use lib.Dec.{ltb, eqb}
-use Rattle.flow.specs.Flow.{From, fail, mapped}
-use Rattle.scalar.specs.declared.numbers.Sort.{Sort}
-use Rattle.scalar.specs.declared.numbers.Sort.the-variants as sort
-use Rattle.scalar.specs.declared.texts.Kind.{Kind}
-use Rattle.scalar.specs.declared.texts.Kind.the-variants.{Utf8, Binary}
+-- Scalars: the chart of first bytes; single values, which are null, false, true, int, long, double, date; texts and byte strings.
+use mathlib.Core.{Bool.Bool, Bool.false, Bool.cond, Bool._&&_, List.List, List.[], List._∷_, List._++_, List.map, Option.Option, Option.none, Option.some}
+use Prim.Native.Nat.{ℕ, zero, suc, _+_, _*_, _-_, _/_, _%_, _^_, min}
+use lib.{Dec.ltb, Dec.eqb, ListN.length, ListN.take, ListN.drop, Count.leadingZeros, Pow.areBytes, IntN.ℤ, IntN.pos, IntN.negsuc, IntN._-ℤ_, IntN._*ℤ_}
+use mir.{Syntax.w8, Syntax.w16, Syntax.w32, Syntax.w64, Val.ofZ, Val.toZ}
+use Rattle.flow.specs.Flow.{pick, within, Outcome, Done, Fault, Read, From, One, give, fail, byteAt, mapped, bind}
+use Rattle.wire.specs.BigEndian.{be, high, wider}
+use Rattle.scalar.specs.declared.numbers.{Sort.Sort, Rule.Rule, Begun.Begun, Begun.the-variants.Starts, Begun.the-variants.NoForm}
+use Rattle.scalar.specs.declared.numbers.Sort.the-variants.{Null, False, True, Int, Long, Double, Date}
+use Rattle.scalar.specs.declared.numbers.Rule.the-variants.{Exactly, Plain, Offset, Signed, Minutes, WholeByte, WholePair, Float}
+use Rattle.scalar.specs.declared.texts.Kind.{Kind, the-variants.Utf8, the-variants.Binary}
+use Rattle.scalar.specs.declared.texts.CharLead.{CharLead, the-variants.Basic, the-variants.Supplementary, the-variants.NoChar}
 use Rattle.scalar.specs.declared.chart.Lead.{Lead}
 use Rattle.scalar.specs.declared.chart.Lead.the-variants as lead
-use Rattle.scalar.specs.Chart.{leadOf, kindOf}
-use Rattle.scalar.specs.Numbers.{formsOf, numberFrom, Number, shortest}
-use Rattle.scalar.specs.Texts.{stringFrom, String, shortestString}
+use Rattle.scalar.specs.Guesses.{guess}
 
-pub data Scalar : Type 0 where
+-- ---- the chart: what each byte opens, and how many bytes follow before any content
+pub record Range : Type 0 where  -- the bytes from one to another
+  pub from : ℕ
+  pub to : ℕ
+  pub opens : Lead
+  pub follow : ℕ
+
+abbrev pub range : ℕ → ℕ → Lead → ℕ → Range
+range from to opens follow = record { from = from; to = to; opens = opens; follow = follow }
+
+abbrev pub only : ℕ → Lead → ℕ → Range
+only b opens follow = range b b opens follow
+
+-- the rows of 01's table of first bytes, in its order; 5a, which only closes, and the reserved bytes at the end
+unfoldable pub ranges : List Range
+ranges =
+    range 0x00 0x1f lead.Text 0 ∷ range 0x30 0x33 lead.Text 1 ∷ only 0x53 lead.Text 2
+    ∷ only 0x52 lead.Text 2
+    ∷ range 0x20 0x2f lead.Bytes 0 ∷ range 0x34 0x37 lead.Bytes 1 ∷ only 0x42 lead.Bytes 2
+    ∷ only 0x41 lead.Bytes 2
+    ∷ range 0x80 0xbf (lead.Number Int) 0 ∷ range 0xc0 0xcf (lead.Number Int) 1 ∷ range 0xd0 0xd7 (lead.Number Int) 2 ∷ only 0x49 (lead.Number Int) 4
+    ∷ range 0xd8 0xef (lead.Number Long) 0 ∷ range 0xf0 0xff (lead.Number Long) 1 ∷ range 0x38 0x3f (lead.Number Long) 2 ∷ only 0x59 (lead.Number Long) 4 ∷ only 0x4c (lead.Number Long) 8
+    ∷ only 0x4a (lead.Number Date) 8 ∷ only 0x4b (lead.Number Date) 4
+    ∷ range 0x5b 0x5c (lead.Number Double) 0 ∷ only 0x5d (lead.Number Double) 1 ∷ only 0x5e (lead.Number Double) 2 ∷ only 0x5f (lead.Number Double) 4 ∷ only 0x44 (lead.Number Double) 8
+    ∷ only 0x4e (lead.Number Null) 0 ∷ only 0x46 (lead.Number False) 0 ∷ only 0x54 (lead.Number True) 0
+    ∷ range 0x70 0x77 lead.TypedList 0 ∷ range 0x55 0x56 lead.TypedList 0
+    ∷ range 0x78 0x7f lead.List 0 ∷ range 0x57 0x58 lead.List 0
+    ∷ only 0x4d lead.TypedMap 0 ∷ only 0x48 lead.Map 0
+    ∷ only 0x43 lead.Definition 0
+    ∷ range 0x60 0x6f lead.Object 0 ∷ only 0x4f lead.Object 0
+    ∷ only 0x51 lead.Reference 0
+    ∷ only 0x5a lead.Close 0
+    ∷ only 0x40 lead.Reserved 0 ∷ only 0x45 lead.Reserved 0 ∷ only 0x47 lead.Reserved 0 ∷ only 0x50 lead.Reserved 0 ∷ []
+
+unfoldable pub rangeOf : List Range → ℕ → Range
+rangeOf [] b = only b lead.Reserved 0
+rangeOf (r ∷ rs) b = pick (within (r .from) (suc (r .to)) b) r (rangeOf rs b)
+
+unfoldable pub leadOf : ℕ → Lead  -- what the byte opens
+leadOf b = rangeOf ranges b .opens
+
+abbrev pub sortKind : Sort → ℕ
+sortKind Null = 0
+sortKind False = 1
+sortKind True = 2
+sortKind Int = 3
+sortKind Long = 4
+sortKind Double = 5
+sortKind Date = 6
+
+unfoldable pub kindOf : Lead → ℕ  -- the kind of the row that it opens; 20 only closes, 21 opens nothing
+kindOf (lead.Number s) = sortKind s
+kindOf lead.Text = 7
+kindOf lead.Bytes = 8
+kindOf lead.List = 9
+kindOf lead.TypedList = 10
+kindOf lead.Map = 11
+kindOf lead.TypedMap = 12
+kindOf lead.Object = 13
+kindOf lead.Reference = 14
+kindOf lead.Definition = 15
+kindOf lead.Close = 20
+kindOf lead.Reserved = 21
+
+-- ---- doubles by their 64 bits: a sign, 11 bits of exponent, 52 of fraction
+-- the bits of the double m · 2 ^ (c − 1074), for an m of 1 to 32 bits: its leading zeros say how far to shift, so that its
+-- first one bit, which adds one to the exponent, is bit 52
+unfoldable pub scaled : ℕ → ℕ → ℕ
+scaled c m = (c - 21 - leadingZeros 32 m) * 2 ^ 52 + m * 2 ^ (21 + leadingZeros 32 m)
+
+unfoldable pub whole : ℤ → ℕ  -- 5d, 5e: the double whose exact worth is the whole number; 0 is +0.0
+whole (pos zero) = 0
+whole (pos (suc n)) = scaled 1074 (suc n)
+whole (negsuc n) = 2 ^ 63 + scaled 1074 (suc n)
+
+-- a float's exponent x and fraction t: infinities and NaNs keep their fraction · 2 ^ 29; normal numbers; zero; those below the normal range
+unfoldable pub magnitude : ℕ → ℕ → ℕ
+magnitude x t =
+    cond (eqb x 255) (2047 * 2 ^ 52 + t * 2 ^ 29)
+    (cond (ltb 0 x) ((x + 896) * 2 ^ 52 + t * 2 ^ 29)
+    (cond (eqb t 0) 0
+    (scaled 925 t)))
+
+unfoldable pub widened : ℕ → ℕ  -- 5f: the double that a float of 32 bits is, widened bit by bit
+widened u = u / 2 ^ 31 * 2 ^ 63 + magnitude (u / 2 ^ 23 % 2 ^ 8) (u % 2 ^ 23)
+
+-- ---- the value that a form stands for, by the number u that its bytes hold
+unfoldable pub value : Rule → ℕ → ℕ
+value (Exactly v) u = v
+value Plain u = u
+value (Offset k) u = ofZ w64 (pos u -ℤ pos k)
+value Signed u = ofZ w64 (toZ w32 u)
+value Minutes u = ofZ w64 (toZ w32 u *ℤ pos 60_000)
+value WholeByte u = whole (toZ w8 u)
+value WholePair u = whole (toZ w16 u)
+value Float u = widened u
+
+-- `codes` first bytes from `head` on, and `extra` bytes more. They hold (code − head) · 256 ^ extra + the bytes, highest first
+pub record Form : Type 0 where
+  pub head : ℕ
+  pub codes : ℕ
+  pub extra : ℕ
+  pub rule : Rule
+
+abbrev pub form : ℕ → ℕ → ℕ → Rule → Form
+form head codes extra rule = record { head = head; codes = codes; extra = extra; rule = rule }
+
+abbrev pub compact : ℕ → ℕ → ℕ → ℕ → Form  -- ints and longs of one to three bytes: (code − zero) · 256 ^ extra + the bytes
+compact head codes extra zero-code = form head codes extra (Offset (wider extra (zero-code - head)))
+
+unfoldable pub formsOf : Sort → List Form  -- the forms of each kind of value, the shorter first
+formsOf Null = form 0x4e 1 0 (Exactly 0) ∷ []
+formsOf False = form 0x46 1 0 (Exactly 0) ∷ []
+formsOf True = form 0x54 1 0 (Exactly 0) ∷ []
+formsOf Int = compact 0x80 64 0 0x90 ∷ compact 0xc0 16 1 0xc8 ∷ compact 0xd0 8 2 0xd4 ∷ form 0x49 1 4 Signed ∷ []
+formsOf Long = compact 0xd8 24 0 0xe0 ∷ compact 0xf0 16 1 0xf8 ∷ compact 0x38 8 2 0x3c ∷ form 0x59 1 4 Signed ∷ form 0x4c 1 8 Plain ∷ []
+formsOf Double =
+    form 0x5b 1 0 (Exactly 0) ∷ form 0x5c 1 0 (Exactly 0x3ff0_0000_0000_0000) ∷ form 0x5d 1 1 WholeByte ∷ form 0x5e 1 2 WholePair
+    ∷ form 0x5f 1 4 Float ∷ form 0x44 1 8 Plain ∷ []
+formsOf Date = form 0x4b 1 4 Minutes ∷ form 0x4a 1 8 Plain ∷ []
+
+abbrev pub inside : Form → ℕ → Bool  -- the byte b is one of the form's first bytes
+inside w b = within (w .head) (w .head + w .codes) b
+
+unfoldable pub formAt : List Form → ℕ → Begun  -- what the byte b begins
+formAt [] b = NoForm
+formAt (w ∷ ws) b = pick (inside w b) (Starts (w .extra) (b - w .head) (w .rule)) (formAt ws b)
+
+module _ {C I : Type 0} where
+  abbrev pub bytesOf : ℕ → ℕ → Read C I ℕ  -- k bytes more, the highest first, after u
+  bytesOf zero u c at s = give u c at s
+  bytesOf (suc k) u c at s = byteAt (λ p b. bytesOf k (256 * u + b)) c at s
+
+  abbrev pub numberFrom : List Form → From C I ℕ  -- a value of one of these forms, whose first byte is b, at p; any other byte is refusal 3
+  numberFrom ws p b = elim (formAt ws b) [ NoForm ↦ fail 3 p | Starts k u r ↦ mapped (value r) (bytesOf k u) ]
+
+-- ---- spelling: the first form that holds the value. `guess` is a candidate for what it holds, right where it stands for v
+abbrev pub spelling : Form → ℕ → List ℕ  -- the bytes of a form that holds u
+spelling w u = (w .head + high (w .extra) u) ∷ be (w .extra) u
+
+abbrev pub fits : Form → ℕ → Bool  -- the form holds the value
+fits w v = ltb (high (w .extra) (guess (w .rule) v)) (w .codes) && eqb (value (w .rule) (guess (w .rule) v)) v
+
+unfoldable pub shortest : List Form → ℕ → Option (List ℕ)
+shortest [] v = none
+shortest (w ∷ ws) v = cond (fits w v) (some (spelling w (guess (w .rule) v))) (shortest ws v)
+
+-- ---- texts and byte strings: chunks, each with its length before it. A text's length counts UTF-16 units, a byte string's bytes
+unfoldable pub partHead : Kind → Form  -- the head of a chunk that is not the last: its code and length
+partHead Utf8 = form 0x52 1 2 Plain
+partHead Binary = form 0x41 1 2 Plain
+
+unfoldable pub lastHeads : Kind → List Form  -- the heads of the last chunk, the shorter first
+lastHeads Utf8 = form 0x00 32 0 Plain ∷ form 0x30 4 1 Plain ∷ form 0x53 1 2 Plain ∷ []
+lastHeads Binary = form 0x20 16 0 Plain ∷ form 0x34 4 1 Plain ∷ form 0x42 1 2 Plain ∷ []
+
+-- well-formed UTF-8, by the first byte: Unicode's table of byte sequences, row by row
+unfoldable pub charLead : ℕ → CharLead
+charLead b =
+    pick (within 0x00 0x80 b) (Basic 0 0 0)
+    (pick (within 0xc2 0xe0 b) (Basic 1 0x80 0xc0)
+    (pick (within 0xe0 0xe1 b) (Basic 2 0xa0 0xc0)
+    (pick (within 0xe1 0xed b) (Basic 2 0x80 0xc0)
+    (pick (within 0xed 0xee b) (Basic 2 0x80 0xa0)
+    (pick (within 0xee 0xf0 b) (Basic 2 0x80 0xc0)
+    (pick (within 0xf0 0xf1 b) (Supplementary 0x90 0xc0)
+    (pick (within 0xf1 0xf4 b) (Supplementary 0x80 0xc0)
+    (pick (within 0xf4 0xf5 b) (Supplementary 0x80 0x90)
+    NoChar))))))))
+
+-- what a content's byte adds to its length: in a text a character's first byte one unit, or two for a supplementary one; in a byte string one
+abbrev pub weight : Kind → ℕ → ℕ
+weight Binary b = 1
+weight Utf8 b = cond (within 0x80 0xc0 b) 0 (cond (ltb b 0xf0) 1 2)
+
+abbrev pub total : List ℕ → ℕ
+total [] = 0
+total (u ∷ us) = u + total us
+
+abbrev pub units : Kind → List ℕ → ℕ  -- a content's length, as its head counts it
+units k cs = total (map (weight k) cs)
+
+-- ---- reading: the result is the content, the chunks joined
+module _ {C I : Type 0} where
+  abbrev pub continued : ℕ → ℕ → ℕ → ℕ → Read C I (List ℕ)  -- n bytes more of the character at o, the first from lo to below hi; else refusal 4 at o
+  continued o zero lo hi c at s = give [] c at s
+  continued o (suc n) lo hi c at s = byteAt (λ p b. cond (within lo hi b) (mapped (λ cs. b ∷ cs) (continued o n 0x80 0xc0)) (fail 4 o)) c at s
+
+  -- a character after its first byte b, at p, and then f where it counts one unit, g where it counts two; no g: one unit is left
+  abbrev pub character : CharLead → Read C I (List ℕ) → Option (Read C I (List ℕ)) → From C I (List ℕ)
+  character (Basic k lo hi) f g p b c at s = bind (continued p k lo hi) (λ cs. mapped (λ ds. b ∷ (cs ++ ds)) f) c at s
+  character (Supplementary lo hi) f none p b c at s = fail 4 p c at s
+  character (Supplementary lo hi) f (some g) p b c at s = bind (continued p 3 lo hi) (λ cs. mapped (λ ds. b ∷ (cs ++ ds)) g) c at s
+  character NoChar f g p b c at s = fail 4 p c at s
+
+  abbrev pub characters : ℕ → Read C I (List ℕ)  -- characters of n units
+  characters zero c at s = give [] c at s
+  characters (suc zero) c at s = byteAt (λ p b. character (charLead b) (characters zero) none p b) c at s
+  characters (suc (suc n)) c at s = byteAt (λ p b. character (charLead b) (characters (suc n)) (some (characters n)) p b) c at s
+
+  abbrev pub octets : ℕ → Read C I (List ℕ)  -- n bytes
+  octets zero c at s = give [] c at s
+  octets (suc n) c at s = byteAt (λ p b. mapped (λ cs. b ∷ cs) (octets n)) c at s
+
+  abbrev pub body : Kind → ℕ → Read C I (List ℕ)
+  body Binary n = octets n
+  body Utf8 n = characters n
+
+  abbrev pub chunk : Kind → Read C I (List ℕ) → From C I (List ℕ)  -- after its first byte b, at p; `next` reads the chunks after it, if it is not the last
+  chunk k next p b = cond (inside (partHead k) b)
+      (bind (numberFrom (partHead k ∷ []) p b) (λ n. bind (body k n) (λ cs. mapped (λ ds. cs ++ ds) next)))
+      (bind (numberFrom (lastHeads k) p b) (body k))
+
+  abbrev pub chunks : Kind → ℕ → Read C I (List ℕ)  -- the number only bounds the recursion
+  chunks k zero c at s = Fault 2 at
+  chunks k (suc j) c at s = byteAt (chunk k (chunks k j)) c at s
+
+  unfoldable pub stringFrom : Kind → From C I (List ℕ)  -- a text or byte string, whose first byte is b, at p
+  stringFrom k p b c at s = chunk k (chunks k (length s)) p b c at s
+
+-- what stands at the place p of the message m, read as a text or as a byte string: its content. A place past the end is the end
+unfoldable pub stringAt : Kind → List ℕ → ℕ → Outcome One One (List ℕ)
+stringAt k m p = byteAt (stringFrom k) tt (min p (length m)) (drop p m)
+
+-- ---- spelling: chunks as long as may be, the rest last in its shortest form
+unfoldable pub longest : ℕ  -- the longest chunk
+longest = 65_535
+
+-- how many bytes of these weights fit cap units: whole characters, since the bytes after a character's first weigh nothing
+abbrev pub span : ℕ → List ℕ → ℕ
+span cap [] = 0
+span cap (u ∷ us) = cond (ltb cap u) 0 (suc (span (cap - u) us))
+
+abbrev pub shortestHead : List Form → ℕ → List ℕ
+shortestHead ws n = elim (shortest ws n) [ none ↦ [] | some w ↦ w ]
+
+-- while more than the longest chunk is left, what fits one; then the rest. The number only bounds the recursion
+abbrev pub spelled : Kind → ℕ → List ℕ → List ℕ
+spelled k zero cs = []
+spelled k (suc f) cs =
+    let n = span longest (map (weight k) cs) in
+    cond (ltb longest (units k cs))
+    (shortestHead (partHead k ∷ []) (units k (take n cs)) ++ (take n cs ++ spelled k f (drop n cs)))
+    (shortestHead (lastHeads k) (units k cs) ++ cs)
+
+unfoldable pub content : Kind → List ℕ → Bool  -- cs is a content: bytes, which are characters in a text
+content k cs = areBytes cs && elim (body {C = One} {I = One} k (units k cs) tt 0 cs) [ Done m ds es c ↦ eqb m (length cs) | Fault y o ↦ false ]
+
+unfoldable pub shortestString : Kind → List ℕ → Option (List ℕ)  -- the shortest form of a content, or none
+shortestString k cs = cond (content k cs) (some (spelled k (suc (length cs)) cs)) none
+
+pub data Scalar : Type 0 where  -- a single value, a text or a byte string: what the layer above sees of all their forms
   Num : Sort → ℕ → Scalar
   Str : Kind → List ℕ → Scalar
 
--- the byte opens a scalar; a text
-abbrev pub isScalar : ℕ → Bool
-isScalar b = ltb (kindOf (leadOf b)) 9
-
-abbrev pub isText : ℕ → Bool
+abbrev pub isText : ℕ → Bool  -- the byte opens a text
 isText b = eqb (kindOf (leadOf b)) 7
 
--- ---- reading
 module _ {C I : Type 0} where
   abbrev pub scalarBy : Lead → From C I Scalar
   scalarBy (lead.Number s) p b = mapped (Num s) (numberFrom (formsOf s) p b)
@@ -42,35 +287,21 @@ module _ {C I : Type 0} where
   scalarBy lead.Close p b = fail 3 p
   scalarBy lead.Reserved p b = fail 3 p
 
-  -- a scalar whose first byte is b, at p
-  unfoldable pub scalarFrom : From C I Scalar
+  unfoldable pub scalarFrom : From C I Scalar  -- a scalar whose first byte is b, at p
   scalarFrom p b = scalarBy (leadOf b) p b
 
-  -- an int, and a text: for counts, numbers and names
-  unfoldable pub intFrom : From C I ℕ
-  intFrom p b = numberFrom (formsOf sort.Int) p b
+  unfoldable pub intFrom : From C I ℕ  -- an int: for counts and numbers
+  intFrom p b = numberFrom (formsOf Int) p b
 
-  unfoldable pub textFrom : From C I (List ℕ)
+  unfoldable pub textFrom : From C I (List ℕ)  -- a text: for names
   textFrom p b = stringFrom Utf8 p b
 
--- ---- the grammar
-pub data Spelt : List ℕ → Scalar → Type 0 where
-  a-number : {s : Sort} {w : List ℕ} {v : ℕ} → Number (formsOf s) w v → Spelt w (Num s v)
-  a-string : {k : Kind} {w cs : List ℕ} → String k w cs → Spelt w (Str k cs)
-
-abbrev pub Int : List ℕ → ℕ → Type 0
-Int w v = Number (formsOf sort.Int) w v
-
-abbrev pub Text : List ℕ → List ℕ → Type 0
-Text w cs = String Utf8 w cs
-
--- ---- the shortest forms
-unfoldable pub shortestScalar : Scalar → Option (List ℕ)
+unfoldable pub shortestScalar : Scalar → Option (List ℕ)  -- the shortest forms
 shortestScalar (Num s v) = shortest (formsOf s) v
 shortestScalar (Str k cs) = shortestString k cs
 
 abbrev pub shortestInt : ℕ → Option (List ℕ)
-shortestInt v = shortest (formsOf sort.Int) v
+shortestInt v = shortest (formsOf Int) v
 
 abbrev pub shortestText : List ℕ → Option (List ℕ)
 shortestText cs = shortestString Utf8 cs

@@ -19,7 +19,9 @@ use Rattle.scalar.specs.declared.numbers.Sort.the-variants.{Null, False,
 use Rattle.scalar.specs.declared.numbers.Rule.the-variants.{Exactly, Plain, Offset, Signed, Minutes, WholeByte, WholePair, Float}
 use Rattle.scalar.specs.Signed.{minus-bits, signed-back, minutes-back}
 use Rattle.scalar.specs.DoubleLaws.{byte-back, pair-back, float-back}
-use Rattle.scalar.specs.Numbers.{value, guess, Form, form, compact, formsOf, Number, fits, shortest}
+use Rattle.scalar.specs.Scalars.{value, Form, form, compact, formsOf, fits, shortest}
+use Rattle.scalar.specs.Grammar.{Number}
+use Rattle.scalar.specs.Guesses.{guess}
 use Rattle.scalar.specs.NumberLaws.{size, proper, Sane, Sanes, Shorter, number-short}
 
 pub properly : (s : Sort) → T (proper (formsOf s))

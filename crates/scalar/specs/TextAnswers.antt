@@ -4,8 +4,8 @@ use mathlib.Core.Bool.{Bool, true, false}
 use mathlib.Core.List.{List, [], _++_}
 use Prim.Native.Nat.{ℕ, _+_, _-_, _≤_, _<_}
 use lib.ListN.{length, take, drop}
-use Rattle.flow.specs.Flow.{Read, One, Answer, Done, Fault, renamed}
-use Rattle.flow.specs.Tests.{pick}
+use Rattle.flow.specs.Flow.{Read, One, Done, Fault, pick}
+use Rattle.flow.specs.Steps.{Answer, renamed}
 use Rattle.scalar.specs.declared.numbers.Begun.{Begun}
 use Rattle.scalar.specs.declared.numbers.Begun.the-variants as begun
 use Rattle.scalar.specs.declared.texts.Kind.{Kind}
@@ -21,8 +21,7 @@ use Rattle.scalar.specs.declared.texts.ChunkRead.{ChunkRead}
 use Rattle.scalar.specs.declared.texts.ChunkRead.the-variants as chunk
 use Rattle.scalar.specs.declared.texts.StringRead.{StringRead}
 use Rattle.scalar.specs.declared.texts.StringRead.the-variants.{Content, Refused}
-use Rattle.scalar.specs.Numbers.{formAt, inside}
-use Rattle.scalar.specs.Texts.{partHead, lastHeads, units, characters, body, stringAt}
+use Rattle.scalar.specs.Scalars.{formAt, inside, partHead, lastHeads, units, characters, body, stringAt}
 
 -- ---- a text or byte string: its units, and its content's bytes
 pub record Sizes : Type 0 where
@@ -99,3 +98,13 @@ ChunkSays k m p (chunk.Refused x o) = stringAt k m p ≡ Fault x o
 
 pub record ChunkMet (k : Kind) (m : List ℕ) (p : ℕ) (r : ChunkRead) : Type 0 where
   pub says : ChunkSays k m p r
+
+-- the chunks before `here` are read: what is left reads as the whole does, but for the content and the bytes so far
+pub record Joining (k : Kind) (m : List ℕ) (at here total bytes : ℕ) : Type 0 where
+  pub front : List ℕ
+  pub says : prefixed (here - at) front (stringAt k m here) ≡ stringAt k m at
+  pub units-are : units k front ≡ total
+  pub bytes-are : length front ≡ bytes
+  pub few : total ≤ bytes
+  pub onward : at + bytes ≤ here
+  pub inside : here ≤ length m

@@ -9,8 +9,9 @@ use native.Mathlib.Numerals.{add-one}
 use native.Mathlib.Omega.{arith}
 use lib.ListN.{length, take, drop, getD, length-append, length-take, length-drop, drop-of-length-le}
 use lib.Seq.{drop-cons, drop-drop}
-use Rattle.flow.specs.Tests.{by-test, split, pick, pick-either, within, within-yes, within-is, Bytes, bytes-drop}
-use Rattle.flow.specs.Flow.{Entry, Read, From, One, Done, Fault, Answer, then, before, stepped, renamed, fail, byteAt, mapped, bind}
+use Rattle.flow.specs.Tests.{by-test, split, pick-either, within-yes, within-is, bytes-drop}
+use Rattle.flow.specs.Flow.{pick, within, Bytes, Entry, Read, From, One, Done, Fault, then, fail, byteAt, mapped, bind}
+use Rattle.flow.specs.Steps.{Answer, before, stepped, renamed}
 use Rattle.flow.specs.Laws.{Parsed, quiet}
 use Rattle.wire.specs.BigEndian.{joined}
 use Rattle.scalar.specs.declared.numbers.Rule.the-variants.{Plain}
@@ -22,10 +23,10 @@ use Rattle.scalar.specs.declared.texts.CharLead.{CharLead}
 use Rattle.scalar.specs.declared.texts.CharLead.the-variants.{Basic, Supplementary, NoChar}
 use Rattle.scalar.specs.declared.texts.HeadForm.{HeadForm}
 use Rattle.scalar.specs.declared.texts.HeadForm.the-variants.{Starts, NoHead}
-use Rattle.scalar.specs.Numbers.{value, Form, formAt, inside, bytesOf, numberBy, numberFrom}
-use Rattle.scalar.specs.NumberLaws.{form-here}
+use Rattle.scalar.specs.Scalars.{value, Form, formAt, inside, bytesOf, numberFrom, partHead, lastHeads, charLead, units, continued, character, characters, octets, body, chunk, chunks, stringFrom, stringAt}
+use Rattle.scalar.specs.NumberLaws.{numberBy, form-here}
 use Rattle.scalar.specs.NumberAt.{bytes-there, bytes-cut}
-use Rattle.scalar.specs.Texts.{partHead, lastHeads, charLead, units, continued, character, characters, octets, body, chunk, chunks, stringFrom, stringAt, Continued, no-more, follows, Char, one-unit, two-units, Body, empty, with-char}
+use Rattle.scalar.specs.Grammar.{Continued, no-more, follows, Char, one-unit, two-units, Body, empty, with-char}
 use Rattle.scalar.specs.TextUnits.{body-units}
 use Rattle.scalar.specs.TextLaws.{body-read, Whole}
 use Rattle.scalar.specs.TextAnswers.{sizes, measuredAt, extentAt, shifted, lastForm, headForm, prefixed, chunked}
@@ -438,7 +439,7 @@ chunk-form k next p b at s = go (inside (partHead k) b) refl
 
     go : (t : Bool) → inside (partHead k) b ≡ t
         → cond t (partly k p b next) (lastly k p b) tt at s ≡ byForm k next (pick t (Starts 2 0 false) (lastForm (formAt (lastHeads k) b))) p tt at s
-    go true e = rw (part-form k e) (plain 2 0 (contents k next false))
+    go true e = ap (λ (x : Begun). bind (numberBy x p) (contents k next false) tt at s) (part-form k e) ∙ plain 2 0 (contents k next false)
     go false e = last (formAt (lastHeads k) b) (last-head k b)
 
 -- ---- a text or byte string, at a place

@@ -7,14 +7,14 @@ use native.Mathlib.Omega.{arith}
 use lib.ListN.{length, take, drop, getD, length-append, length-drop}
 use lib.Seq.{take-add, drop-drop, drop-cons, length-take-le, take-append-seam, drop-append-seam}
 use borrow.Author.Tests.{lt-ltb, le-ltb}
-use Rattle.flow.specs.Flow.{Answer, Done, Fault}
-use Rattle.flow.specs.Overlay.{stored}
+use Rattle.flow.specs.Steps.{Answer}
+use Rattle.flow.specs.Flow.{Done, Fault, stored}
 use Rattle.flow.specs.OverlayLaws.{stored-sets, stored-seam, length-stored}
 use Rattle.scalar.specs.declared.texts.Kind.{Kind}
 use Rattle.scalar.specs.declared.texts.ChunkRead.the-variants as chunk
 use Rattle.scalar.specs.declared.text_writer.Cursor.{Cursor}
-use Rattle.scalar.specs.Texts.{weight, weights, units, span, stringAt}
-use Rattle.scalar.specs.TextUnits.{units-append}
+use Rattle.scalar.specs.Scalars.{weight, units, span, stringAt}
+use Rattle.scalar.specs.TextUnits.{weights, units-append}
 use Rattle.scalar.specs.TextAnswers.{prefixed, ChunkSays}
 use Rattle.scalar.specs.TextWriting.{contentOf, IsDone, rest, Going, Opens, Spans, Copies}
 

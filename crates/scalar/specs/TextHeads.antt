@@ -1,6 +1,7 @@
 -- The shortest head of a chunk is a number of one to three bytes: a code, and the units that it counts.
 use mathlib.Core.Path.{_≡_, refl, sym, _∙_, ap}
 use mathlib.Core.List.{List, [], _∷_}
+use mathlib.Core.Option.{Option, some}
 use Prim.Native.Nat.{ℕ, zero, suc, _+_, _*_, _/_, _%_, _≤_, _<_}
 use native.Mathlib.Nat.{mod-eq-of-lt}
 use native.Mathlib.Omega.{arith}
@@ -9,8 +10,9 @@ use Rattle.wire.specs.BigEndian.{be, high, wider}
 use Rattle.scalar.specs.declared.numbers.Rule.the-variants.{Plain}
 use Rattle.scalar.specs.declared.texts.Kind.{Kind}
 use Rattle.scalar.specs.declared.text_writer.Heads.{Heads}
-use Rattle.scalar.specs.Numbers.{value, guess, Form, form, shortest}
-use Rattle.scalar.specs.Texts.{partHead, lastHeads, shortestHead}
+use Rattle.scalar.specs.Scalars.{value, Form, form, shortest, partHead, lastHeads, shortestHead}
+use Rattle.scalar.specs.Guesses.{guess}
+use Rattle.scalar.specs.TextShort.{orEmpty}
 use Rattle.scalar.specs.TextWriting.{HeadsOf}
 
 -- a number whose highest byte is a and what u has above its k lowest bytes
@@ -25,11 +27,17 @@ be-under (suc k) a u l =
 module _ (a codes k u : ℕ) (ws : List Form) where
   held-here : high k u < codes → a + codes ≤ 256 → shortestHead (form a codes k Plain ∷ ws) u ≡ be (suc k) (wider k a + u)
   unfolding shortest guess value
-  held-here l h = rw (lt-ltb (high k u) codes l, eq-eqb u u refl) (sym (be-under k a u (omega arith)))
+  held-here l h = ap orEmpty found
+    where
+      found : shortest (form a codes k Plain ∷ ws) u ≡ some (be (suc k) (wider k a + u))
+      found = rw (lt-ltb (high k u) codes l, eq-eqb u u refl) (ap {B = Option (List ℕ)} some (sym (be-under k a u (omega arith))))
 
   held-later : codes ≤ high k u → shortestHead (form a codes k Plain ∷ ws) u ≡ shortestHead ws u
   unfolding shortest guess value
-  held-later l = rw (le-ltb (high k u) codes l) refl
+  held-later l = ap orEmpty past
+    where
+      past : shortest (form a codes k Plain ∷ ws) u ≡ shortest ws u
+      past = rw (le-ltb (high k u) codes l) refl
 
 module _ {k : Kind} {r : Heads} (h : HeadsOf k r) (u : ℕ) where
   pub last-one : u < r .few → shortestHead (lastHeads k) u ≡ be 1 (r .one + u)

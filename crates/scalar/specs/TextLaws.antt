@@ -7,19 +7,20 @@ use Prim.Native.Nat.{ℕ, zero, suc, _+_, _≤_, _<_}
 use native.Mathlib.Omega.{arith}
 use lib.Dec.{T}
 use lib.ListN.{length, length-append}
-use Rattle.flow.specs.Tests.{by-test, within, within-yes, within-is, Bytes, bytes-append, First}
-use Rattle.flow.specs.Flow.{Read, From, One, then, before, give, fail, mapped, bind}
+use Rattle.flow.specs.Tests.{by-test, within-yes, within-is, bytes-append, First}
+use Rattle.flow.specs.Flow.{within, Bytes, Read, From, One, then, give, fail, mapped, bind}
+use Rattle.flow.specs.Steps.{before}
 use Rattle.flow.specs.Lifts.{Lifts, give-lifts, fail-lifts, byte-lifts, map-lifts, bind-lifts, test-lifts}
 use Rattle.flow.specs.Laws.{Goal, Parsed, gives, takes, maps, Quiet, quiet, quietly, binds-quiet, Makes, byte-makes, bind-makes, map-makes, pass-makes, skip-makes, bound-makes, Leads}
 use Rattle.scalar.specs.declared.texts.Kind.{Kind}
 use Rattle.scalar.specs.declared.texts.Kind.the-variants.{Utf8, Binary}
 use Rattle.scalar.specs.declared.texts.CharLead.{CharLead}
 use Rattle.scalar.specs.declared.texts.CharLead.the-variants.{Basic, Supplementary, NoChar}
-use Rattle.scalar.specs.Numbers.{Form, inside, numberFrom, Number, here, held}
+use Rattle.scalar.specs.Scalars.{Form, inside, numberFrom, partHead, lastHeads, charLead, continued, character, characters, octets, body, chunk, chunks, stringFrom}
+use Rattle.scalar.specs.Grammar.{Number, here, held, Continued, no-more, follows, Char, one-byte, one-unit, two-units, Body, empty, with-char, String, last-chunk, chunk-before}
 use Rattle.scalar.specs.NumberLaws.{proper, clear, number-apart, number-scans, NumberLed, number-makes, number-bytes, number-some}
 use Rattle.scalar.specs.NumberAt.{number-lifts}
 use Rattle.scalar.specs.TextUnits.{body-bytes}
-use Rattle.scalar.specs.Texts.{partHead, lastHeads, charLead, continued, character, characters, octets, body, chunk, chunks, stringFrom, Continued, no-more, follows, Char, one-byte, one-unit, two-units, Body, empty, with-char, String, last-chunk, chunk-before}
 
 -- ---- heads: no first byte is of two of them, and all are bytes
 pub heads-proper : (k : Kind) → T (proper (lastHeads k)) × T (proper (partHead k ∷ []))

@@ -8,16 +8,16 @@ use lib.Seq.{length-take-le, take-length}
 use mir.Syntax.{w64}
 use mir.Val.{Fits}
 use borrow.Author.Tests.{lt-ltb, le-ltb}
-use Rattle.flow.specs.Overlay.{stored}
+use Rattle.flow.specs.Flow.{stored}
 use Rattle.flow.specs.OverlayLaws.{stored-sets, stored-seam, length-stored}
 use Rattle.scalar.specs.declared.texts.Kind.{Kind}
 use Rattle.scalar.specs.declared.text_writer.Cursor.{Cursor}
 use Rattle.scalar.specs.declared.text_writer.Span.{Span}
-use Rattle.scalar.specs.Texts.{partHead, lastHeads, weights, units, span, shortestHead, spelled, stringAt}
+use Rattle.scalar.specs.Scalars.{partHead, lastHeads, units, span, shortestHead, spelled, stringAt}
+use Rattle.scalar.specs.TextUnits.{weights, units-append}
 use Rattle.scalar.specs.TextShort.{longest-is, front-fits, rest-shorter}
-use Rattle.scalar.specs.TextUnits.{units-append}
 use Rattle.scalar.specs.Greedy.{span-fits}
-use Rattle.scalar.specs.TextWriting.{contentOf, rest, Going, Opens, Spans, Copies, laid, Item, Lays}
+use Rattle.scalar.specs.TextWriting.{contentOf, rest, Going, Spans, Copies, laid, Item, Lays}
 
 -- ---- the form of a content: of one that is longer than a chunk, and of another
 module _ (k : Kind) (cs : List ℕ) where
@@ -43,22 +43,32 @@ pub record Laying (k : Kind) (m : List ℕ) (p : ℕ) (l : List ℕ) (to : ℕ) 
   pub same : length l′ ≡ length l
   pub holds : to + length (laid k m p) ≤ length l → l′ ≡ stored l to front
 
-pub laying-start : (k : Kind) (m : List ℕ) (p u b to : ℕ) → Item k m p u b to → (r : Cursor) → Opens k m p r → (l : List ℕ) → Laying k m p l to r u b to l
-unfolding laid
-laying-start k m p u b to i r o l =
-    let q = o .opens (i .done) in
-    record {
-      going = q .0;
-      units-are = rw (q .1) (i .units-are);
-      bytes-are = rw (q .1) (i .bytes-are);
-      fuel = suc (length (contentOf (stringAt k m p)));
-      enough = rw (q .1) (omega arith);
-      front = [];
-      joins = rw (q .1) refl;
-      placed = omega arith;
-      same = refl;
-      holds = λ h. sym (stored-sets l to [] (omega arith));
-    }
+module _ (k : Kind) (m : List ℕ) (p : ℕ) (c : Cursor) (u b : ℕ) (i : Item k m p c u b) where
+  pub laying-start : (to : ℕ) (l : List ℕ) → Laying k m p l to c u b to l
+  unfolding laid
+  laying-start to l = record {
+    going = i .going;
+    units-are = rw (i .content-is) (i .units-are);
+    bytes-are = rw (i .content-is) (i .bytes-are);
+    fuel = suc (length (contentOf (stringAt k m p)));
+    enough = rw (i .content-is) (omega arith);
+    front = [];
+    joins = rw (i .content-is) refl;
+    placed = omega arith;
+    same = refl;
+    holds = λ h. sym (stored-sets l to [] (omega arith));
+  }
+
+  -- a form of one chunk: its head, of j bytes, and the content
+  pub laid-one : u ≤ 65535 → (j : ℕ) → j ≡ length (shortestHead (lastHeads k) u) → j + b ≡ length (laid k m p)
+  unfolding laid
+  laid-one h j e =
+      let cs = contentOf (stringAt k m p) in
+      let s = ap length (spelled-last k cs (omega (arith, i .units-are)) (suc (length cs)) (omega arith)) ∙ length-append (shortestHead (lastHeads k) (units k cs)) cs in
+      omega (arith, s, i .bytes-are, e ∙ ap (λ (n : ℕ). length (shortestHead (lastHeads k) n)) (i .units-are))
+
+  pub laid-fits : u ≤ 65535 → (j : ℕ) → j ≡ length (shortestHead (lastHeads k) u) → length (laid k m p) < 2 ^ 64 → Fits w64 (j + b)
+  laid-fits h j e f = record { fits = omega (arith, laid-one h j e) }
 
 -- a head and a content stored after what is stored
 stored-both : (l : List ℕ) (to : ℕ) (front h s tail l₁ l₂ : List ℕ) → to + length (front ++ (h ++ (s ++ tail))) ≤ length l → l₁ ≡ stored (stored l to front) (to + length front) h
@@ -180,3 +190,18 @@ module _ {k : Kind} {m : List ℕ} {p : ℕ} {l : List ℕ} {to : ℕ} {c : Curs
       where
         all : take n (rest k m c) ≡ rest k m c
         all = ap (λ (z : ℕ). take z (rest k m c)) (R .bytes-are) ∙ take-length (rest k m c)
+
+-- ---- a form of one chunk: a head of i bytes, and the content
+module _ {k : Kind} {m : List ℕ} {p : ℕ} {c : Cursor} {u b : ℕ} (x : Item k m p c u b) (h : u ≤ 65535) (i : ℕ) (j : i ≡ length (shortestHead (lastHeads k) u)) (to : ℕ) where
+  module _ (few : to + length (laid k m p) < 2 ^ 64) where
+    pub one-start : Fits w64 (to + i)
+    one-start = last-start (laying-start k m p c u b x to []) h i j few
+
+    pub one-copies : Going k m c × (b ≤ length (rest k m c)) × (to + i + b < 2 ^ 64)
+    one-copies = (x .going, omega (arith, laying-start k m p c u b x to [] .bytes-are), last-below (laying-start k m p c u b x to []) h i j few)
+
+    pub one-fits : Fits w64 (i + b)
+    one-fits = record { fits = omega (arith, one-copies .2) }
+
+  pub laying-one : (l l₁ : List ℕ) → l₁ ≡ stored l to (shortestHead (lastHeads k) u) → (l₂ : List ℕ) (r : Cursor) → Copies k m c b l₁ (to + i) l₂ r → Lays k m p l to l₂ (i + b)
+  laying-one l l₁ e l₂ r y = let z : to + i + b - to ≡ i + b = omega arith in rw z at (laying-last (laying-start k m p c u b x to l) h i j l₁ e l₂ r y)

@@ -4,23 +4,33 @@ use mathlib.Core.List.{List, [], _∷_, _++_, append-assoc, append-nil}
 use mathlib.Core.Option.{Option, none, some}
 use Prim.Native.Nat.{ℕ, zero, suc, _+_, _-_, _≤_, _<_, min}
 use native.Mathlib.Omega.{arith}
+use mathlib.Core.Bool.{Bool, false}
 use lib.Dec.{T, ltb, eqb, eqb→eq, eqb-refl, ltb→lt, nltb→le, lt→ltb}
 use lib.Pow.{areBytes}
 use lib.ListN.{length, take, drop, length-append, length-drop, take-append-drop, length-map}
 use lib.Seq.{take-append-seam, drop-append-seam, take-length}
-use Rattle.flow.specs.Tests.{by-test, pass, skip, tests, split, and-left, and-right, and-both, Bytes}
-use Rattle.flow.specs.Flow.{One, Answer, Done, Fault, items}
+use Rattle.flow.specs.Tests.{by-test, pass, skip, tests, split, and-left, and-right, and-both}
+use Rattle.flow.specs.Flow.{Bytes, One, Done, Fault, items}
+use Rattle.flow.specs.Steps.{Answer}
 use Rattle.flow.specs.Laws.{Parsed, quiet}
 use Rattle.wire.specs.BigEndian.{high}
 use Rattle.scalar.specs.declared.numbers.Rule.the-variants.{Plain}
 use Rattle.scalar.specs.declared.texts.Kind.{Kind}
 use Rattle.scalar.specs.declared.texts.Kind.the-variants.{Utf8, Binary}
-use Rattle.scalar.specs.Numbers.{value, guess, Form, form, Held, Number, here, later, shortest}
+use Rattle.scalar.specs.Scalars.{value, Form, form, shortest, partHead, lastHeads, weight, units, body, longest, span, shortestHead, spelled, content, shortestString}
+use Rattle.scalar.specs.Grammar.{Held, Number, here, later, Body, empty, with-char, String, last-chunk, chunk-before}
+use Rattle.scalar.specs.Guesses.{guess}
 use Rattle.scalar.specs.NumberLaws.{number-fact, Sane, Sanes, number-short, shortest-is, IsNumber, held-by, spelling-length}
-use Rattle.scalar.specs.Texts.{partHead, lastHeads, weight, weights, units, body, Body, empty, with-char, String, last-chunk, chunk-before, longest, span, orEmpty, shortestHead, spelled, allOf, content, shortestString}
-use Rattle.scalar.specs.TextUnits.{weights-chars, weights-append, body-units, body-bytes, body-cut}
+use Rattle.scalar.specs.TextUnits.{weights, weights-chars, weights-append, body-units, body-bytes, body-cut}
 use Rattle.scalar.specs.TextLaws.{body-read, body-make, Whole}
 use Rattle.scalar.specs.Greedy.{best, chunk-more, shorter, span-fits}
+
+abbrev pub orEmpty : Option (List ℕ) → List ℕ
+orEmpty o = elim o [ none ↦ [] | some w ↦ w ]
+
+-- all of n bytes are read
+abbrev pub allOf : ℕ → Answer (List ℕ) → Bool
+allOf n x = elim x [ Done m ds es c ↦ eqb m n | Fault y o ↦ false ]
 
 -- ---- heads: the last chunk's takes one byte up to `shortTo` units, two up to 1,023, three up to 65,535; another's takes three
 abbrev shortTo : Kind → ℕ

@@ -6,12 +6,14 @@ use Prim.Native.Nat.{ℕ, _+_, _≤_, _<_, min}
 use native.Mathlib.Omega.{arith}
 use lib.ListN.{length, take, drop, length-drop, length-take}
 use lib.Seq.{drop-append-seam, length-take-le, take-add}
-use Rattle.flow.specs.Tests.{Bytes, bytes-drop}
-use Rattle.flow.specs.Flow.{Entry, Answer, Done, One}
+use Rattle.flow.specs.Flow.{Bytes, Entry, Done, One}
+use Rattle.flow.specs.Steps.{Answer}
+use Rattle.flow.specs.Tests.{bytes-drop}
 use Rattle.flow.specs.Laws.{Parsed, takes, quietly, leads-byte}
 use Rattle.scalar.specs.declared.texts.Kind.{Kind}
 use Rattle.scalar.specs.NumberTheorems.{no-entries}
-use Rattle.scalar.specs.Texts.{stringFrom, stringAt, String, shortestString}
+use Rattle.scalar.specs.Scalars.{stringFrom, stringAt, shortestString}
+use Rattle.scalar.specs.Grammar.{String}
 use Rattle.scalar.specs.TextLaws.{string-scans, string-makes, string-some}
 use Rattle.scalar.specs.TextShort.{string-short, string-is, IsString}
 

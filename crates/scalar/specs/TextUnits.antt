@@ -1,20 +1,25 @@
 -- Characters and their units: what a first byte says, and where a content may be cut.
 use mathlib.Core.Path.{_≡_, refl, sym, _∙_, ap, subst}
 use mathlib.Core.Bool.{cond}
-use mathlib.Core.List.{List, [], _∷_, _++_}
+use mathlib.Core.List.{List, [], _∷_, _++_, map}
 use Prim.Native.Nat.{ℕ, suc, _+_, _-_, _≤_, _<_}
 use native.Mathlib.Omega.{arith}
 use lib.Dec.{ltb}
 use borrow.Author.Tests.{lt-ltb, le-ltb}
 use lib.ListN.{length, take, drop}
 use lib.Seq.{take-append-add, drop-append-add}
-use Rattle.flow.specs.Tests.{by-test, pick, pick-either, within, within-yes, within-below, within-above, within-is, Bytes, bytes-append}
+use Rattle.flow.specs.Tests.{by-test, pick-either, within-yes, within-below, within-above, within-is, bytes-append}
+use Rattle.flow.specs.Flow.{pick, within, Bytes}
 use Rattle.scalar.specs.declared.texts.Kind.{Kind}
 use Rattle.scalar.specs.declared.texts.Kind.the-variants.{Utf8, Binary}
 use Rattle.scalar.specs.declared.texts.CharLead.{CharLead}
 use Rattle.scalar.specs.declared.texts.CharLead.the-variants.{Basic, Supplementary, NoChar}
-use Rattle.scalar.specs.Texts.{charLead, weight, weights, total, units, span, Continued, no-more, follows, Char, one-byte, one-unit, two-units, Body, empty, with-char}
+use Rattle.scalar.specs.Scalars.{charLead, weight, total, units, span}
+use Rattle.scalar.specs.Grammar.{Continued, no-more, follows, Char, one-byte, one-unit, two-units, Body, empty, with-char}
 use Rattle.scalar.specs.Greedy.{Chars}
+
+abbrev pub weights : Kind → List ℕ → List ℕ
+weights k cs = map (weight k) cs
 
 -- ---- what a byte of a text weighs
 pub light : (b : ℕ) → 0x80 ≤ b → b < 0xc0 → weight Utf8 b ≡ 0

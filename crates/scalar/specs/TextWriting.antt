@@ -1,19 +1,22 @@
 -- What the answers of the code that writes texts and byte strings say.
 use mathlib.Core.Path.{_≡_}
-use mathlib.Core.Bool.{false, cond}
+use mathlib.Core.Bool.{false, cond, _&&_}
 use mathlib.Core.List.{List, [], _∷_, _++_}
 use mathlib.Core.Option.{Option, none}
-use Prim.Native.Nat.{ℕ, suc, _+_, _^_, _≤_, _<_}
+use Prim.Native.Nat.{ℕ, suc, _+_, _≤_, _<_}
+use lib.Dec.{eqb}
 use lib.ListN.{length, take, drop}
-use Rattle.flow.specs.Flow.{Answer, Done, Fault}
-use Rattle.flow.specs.Overlay.{stored}
+use Rattle.flow.specs.Steps.{Answer}
+use Rattle.flow.specs.Flow.{Done, Fault, stored, pick}
 use Rattle.scalar.specs.declared.numbers.Rule.the-variants.{Plain}
 use Rattle.scalar.specs.declared.texts.Kind.{Kind}
 use Rattle.scalar.specs.declared.text_writer.Cursor.{Cursor}
 use Rattle.scalar.specs.declared.text_writer.Heads.{Heads}
 use Rattle.scalar.specs.declared.text_writer.Span.{Span}
-use Rattle.scalar.specs.Numbers.{form}
-use Rattle.scalar.specs.Texts.{partHead, lastHeads, weights, units, span, stringAt, spelled, shortestString}
+use Rattle.scalar.specs.declared.text_writer.Found.{Found}
+use Rattle.scalar.specs.declared.text_writer.Found.the-variants.{There, Nothing}
+use Rattle.scalar.specs.Scalars.{form, partHead, lastHeads, units, span, stringAt, spelled, shortestString}
+use Rattle.scalar.specs.TextUnits.{weights}
 
 -- ---- the shortest form of the text or byte string at the place p of the message m, if one stands there
 abbrev pub formOf : Kind → Answer (List ℕ) → Option (List ℕ)
@@ -22,6 +25,14 @@ formOf k (Fault x o) = none
 
 unfoldable pub itemForm : Kind → List ℕ → ℕ → Option (List ℕ)
 itemForm k m p = formOf k (stringAt k m p)
+
+-- the same, if its content has u units and b bytes
+abbrev pub sizedOf : Kind → ℕ → ℕ → Answer (List ℕ) → Option (List ℕ)
+sizedOf k u b (Done n cs es c) = pick (eqb (units k cs) u && eqb (length cs) b) (shortestString k cs) none
+sizedOf k u b (Fault x o) = none
+
+unfoldable pub sizedForm : Kind → List ℕ → ℕ → ℕ → ℕ → Option (List ℕ)
+sizedForm k m p u b = sizedOf k u b (stringAt k m p)
 
 -- ---- inside the code
 abbrev pub contentOf : Answer (List ℕ) → List ℕ
@@ -67,13 +78,20 @@ pub record HeadsOf (k : Kind) (r : Heads) : Type 0 where
 unfoldable pub laid : Kind → List ℕ → ℕ → List ℕ
 laid k m p = spelled k (suc (length (contentOf (stringAt k m p)))) (contentOf (stringAt k m p))
 
--- a string of so many units and bytes stands at p, and its shortest form from `to` on ends at a number of 64 bits
-pub record Item (k : Kind) (m : List ℕ) (p u b to : ℕ) : Type 0 where
+-- a string of so many units and bytes stands at p, and its content begins at the cursor c
+pub record Item (k : Kind) (m : List ℕ) (p : ℕ) (c : Cursor) (u b : ℕ) : Type 0 where
   pub done : IsDone (stringAt k m p)
+  pub going : Going k m c
+  pub content-is : rest k m c ≡ contentOf (stringAt k m p)
   pub units-are : u ≡ units k (contentOf (stringAt k m p))
   pub bytes-are : b ≡ length (contentOf (stringAt k m p))
-  pub few : to + length (laid k m p) < 2 ^ 64
-  pub within : p ≤ length m
+
+abbrev pub FoundSays : Kind → List ℕ → ℕ → Found → Type 0
+FoundSays k m p (There c u b) = Item k m p c u b
+FoundSays k m p Nothing = IsDone (stringAt k m p) → ⊥
+
+pub record FoundMet (k : Kind) (m : List ℕ) (p : ℕ) (r : Found) : Type 0 where
+  pub says : FoundSays k m p r
 
 -- its shortest form is in the list, where it fits; r is how long it is
 pub record Lays (k : Kind) (m : List ℕ) (p : ℕ) (l : List ℕ) (to : ℕ) (l′ : List ℕ) (r : ℕ) : Type 0 where

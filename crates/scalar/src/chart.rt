@@ -1,7 +1,8 @@
-// What the first byte of an item says. The definitions are in specs/Chart.antt.
+// What the first byte of an item says. The definitions are in specs/Scalars.antt.
 use crate::numbers::Sort;
 ghost use mathlib.Core.Path.{_≡_};
-ghost use Rattle.scalar.specs.Chart.{entry as entryOf, followOf, leadOf};
+ghost use Rattle.scalar.specs.Answers.{entry as entryOf, followOf};
+ghost use Rattle.scalar.specs.Scalars.{leadOf};
 
 // What a first byte opens; 5a only closes, and four bytes open nothing.
 pub enum Lead {

@@ -9,8 +9,7 @@ ghost use lib.ListN.{length, take, drop};
 ghost use Rattle.wire.specs.BigEndian.{joined};
 ghost use Rattle.scalar.specs.declared.numbers.Sort.the-variants as sort;
 ghost use Rattle.scalar.specs.declared.numbers.Rule.the-variants as rule;
-ghost use Rattle.scalar.specs.Numbers.{numberAt};
-ghost use Rattle.scalar.specs.Answers.{told, formRead};
+ghost use Rattle.scalar.specs.Answers.{numberAt, told, formRead};
 
 // ---- bytes, the highest first
 
@@ -20,31 +19,6 @@ fn after(held: u64, b: u8) -> u64
     ensures { λ r. ⌜ (r ≡ 256 * held + b) × (r < 256 * held + 256) ⌝ }
 {
     held * 256 + wire::wide(b)
-}
-
-fn four(a: u8, b: u8, c: u8, d: u8) -> u64
-    ensures { λ r. ⌜ (r ≡ 256 * (256 * (256 * a + b) + c) + d) × (r < 2 ^ 32) ⌝ }
-{
-    ((wire::wide(a) * 256 + wire::wide(b)) * 256 + wire::wide(c)) * 256 + wire::wide(d)
-}
-
-fn four_at(message: &[u8], at: usize) -> u64
-    requires { ⌜ at + 4 ≤ length (now message) ⌝ }
-    ensures { λ r. ⌜ (r ≡ joined 0 (take 4 (drop at (now (message .entry))))) × (r < 2 ^ 32) ⌝ }
-{
-    four(
-        message[at],
-        message[at + 1],
-        message[at + 2],
-        message[at + 3],
-    )
-}
-
-fn eight_at(message: &[u8], at: usize) -> u64
-    requires { ⌜ at + 8 ≤ length (now message) ⌝ }
-    ensures { λ r. ⌜ r ≡ joined 0 (take 8 (drop at (now (message .entry)))) ⌝ }
-{
-    four_at(message, at) * 0x1_0000_0000 + four_at(message, at + 4)
 }
 
 // What a form's first byte holds, where `code` is the lowest.
@@ -118,7 +92,7 @@ fn five_bytes(message: &[u8], at: usize) -> NumberRead
             place: len,
         };
     }
-    let u = four_at(message, at + 1);
+    let u = wire::four_at(message, at + 1);
     NumberRead::Value {
         value: signed::bits_of(signed::signed_32(u)),
         size: 5,
@@ -137,7 +111,7 @@ fn float(message: &[u8], at: usize) -> NumberRead
             place: len,
         };
     }
-    let u = four_at(message, at + 1);
+    let u = wire::four_at(message, at + 1);
     NumberRead::Value {
         value: doubles::widened(u as u32),
         size: 5,
@@ -157,7 +131,7 @@ fn nine_bytes(message: &[u8], at: usize) -> NumberRead
         };
     }
     NumberRead::Value {
-        value: eight_at(message, at + 1),
+        value: wire::eight_at(message, at + 1),
         size: 9,
     }
 }

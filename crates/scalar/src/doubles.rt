@@ -1,9 +1,10 @@
-// Doubles by their bits. The definitions are in specs/Doubles.antt.
+// Doubles by their bits. The definitions are in specs/Scalars.antt.
 ghost use mathlib.Core.Path.{_≡_};
 ghost use Prim.Native.Nat.{_+_, _^_, _≤_, _<_};
 ghost use mir.Syntax.{w8, w16};
 ghost use mir.Val.{toZ};
-ghost use Rattle.scalar.specs.Doubles.{scaled as scaledOf, whole as wholeOf, widened as widenedOf, narrowMagnitude, narrowed as narrowedOf, wholeSize, wholeGuess};
+ghost use Rattle.scalar.specs.Scalars.{scaled as scaledOf, whole as wholeOf, widened as widenedOf};
+ghost use Rattle.scalar.specs.Guesses.{narrowMagnitude, narrowed as narrowedOf, wholeSize, wholeGuess};
 
 // The bits of the double m * 2 ^ (c - 1074).
 fn scaled(c: u64, m: u32) -> u64

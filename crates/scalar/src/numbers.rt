@@ -1,4 +1,4 @@
-// Single values: reading one at a place, and the shortest form of each. The definitions are in specs/Numbers.antt.
+// Single values: reading one at a place, and the shortest form of each. The definitions are in specs/Scalars.antt.
 use crate::Written;
 use crate::doubles;
 use crate::signed;
@@ -8,10 +8,12 @@ ghost use mathlib.Core.Option.{none};
 ghost use Prim.Native.Nat.{suc, _+_, _≤_};
 ghost use lib.Dec.{leb};
 ghost use lib.ListN.{length};
-ghost use Rattle.flow.specs.Overlay.{stored};
+ghost use Rattle.flow.specs.Flow.{stored};
 ghost use Rattle.wire.specs.BigEndian.{be};
-ghost use Rattle.scalar.specs.Numbers.{value as valueOf, guess as guessOf, form, formsOf, formAt, numberAt, tried, shortest};
-ghost use Rattle.scalar.specs.Answers.{Takes, Good, told, spelled, orElse, some as isSome, wholeForms, lengthOf, report, reportOf, outputOf};
+ghost use Rattle.scalar.specs.Scalars.{value as valueOf, form, formsOf, formAt, shortest};
+ghost use Rattle.scalar.specs.Guesses.{guess as guessOf};
+ghost use Rattle.scalar.specs.Answers.{numberAt, Takes, Good, told, spelled, orElse, some as isSome, wholeForms, lengthOf, report, reportOf, outputOf};
+ghost use Rattle.scalar.specs.NumberLaws.{tried};
 
 // A kind of single value.
 pub enum Sort {
@@ -301,6 +303,85 @@ fn try_form(head: u8, codes: u64, more: usize, rule: Rule, v: u64) -> Spelling
     }
 }
 
+// ---- forms with one first byte and no number in it, each where it holds v
+
+// The value x by this byte.
+fn try_exactly(head: u8, x: u64, v: u64) -> Spelling
+    ensures { λ r. ⌜ spelled r ≡ tried (form head 1 0 (Rule.Exactly x)) v none ⌝ }
+{
+    if x == v {
+        Spelling::Form {
+            code: head,
+            more: 0,
+            rest: 0,
+        }
+    } else {
+        Spelling::Absent
+    }
+}
+
+fn try_byte(v: u64) -> Spelling
+    ensures { λ r. ⌜ spelled r ≡ tried (form 0x5d 1 1 Rule.WholeByte) v none ⌝ }
+{
+    let u = doubles::whole_guess(0x100, v);
+    if doubles::whole_byte(u) == v {
+        Spelling::Form {
+            code: 0x5d,
+            more: 1,
+            rest: u,
+        }
+    } else {
+        Spelling::Absent
+    }
+}
+
+fn try_pair(v: u64) -> Spelling
+    ensures { λ r. ⌜ spelled r ≡ tried (form 0x5e 1 2 Rule.WholePair) v none ⌝ }
+{
+    let u = doubles::whole_guess(0x1_0000, v);
+    if doubles::whole_pair(u) == v {
+        Spelling::Form {
+            code: 0x5e,
+            more: 2,
+            rest: u,
+        }
+    } else {
+        Spelling::Absent
+    }
+}
+
+fn try_float(v: u64) -> Spelling
+    ensures { λ r. ⌜ spelled r ≡ tried (form 0x5f 1 4 Rule.Float) v none ⌝ }
+{
+    let u = doubles::narrowed(v);
+    if doubles::widened(u as u32) == v {
+        Spelling::Form {
+            code: 0x5f,
+            more: 4,
+            rest: u,
+        }
+    } else {
+        Spelling::Absent
+    }
+}
+
+fn try_minutes(v: u64) -> Spelling
+    ensures { λ r. ⌜ spelled r ≡ tried (form 0x4b 1 4 Rule.Minutes) v none ⌝ }
+{
+    let u = signed::minutes(v);
+    if signed::milliseconds(u) == v {
+        Spelling::Form {
+            code: 0x4b,
+            more: 4,
+            rest: u,
+        }
+    } else {
+        Spelling::Absent
+    }
+}
+
+// ---- the forms of a kind in turn
+
 fn found(s: Spelling) -> bool
     ensures { λ r. ⌜ r ≡ isSome (spelled s) ⌝ }
 {
@@ -363,29 +444,29 @@ fn spell_long(v: u64) -> Spelling
 fn spell_double(v: u64) -> Spelling
     ensures { λ r. ⌜ spelled r ≡ shortest (formsOf Sort.Double) v ⌝ }
 {
-    let zero = try_form(0x5b, 1, 0, Rule::Exactly(0), v);
+    let zero = try_exactly(0x5b, 0, v);
     if found(zero) {
         return zero;
     }
-    let one = try_form(0x5c, 1, 0, Rule::Exactly(0x3ff0_0000_0000_0000), v);
+    let one = try_exactly(0x5c, 0x3ff0_0000_0000_0000, v);
     if found(one) {
         return one;
     }
-    let two = try_form(0x5d, 1, 1, Rule::WholeByte, v);
+    let two = try_byte(v);
     if found(two) {
         return two;
     }
-    let three = try_form(0x5e, 1, 2, Rule::WholePair, v);
+    let three = try_pair(v);
     if found(three) {
         return three;
     }
-    or_plain(try_form(0x5f, 1, 4, Rule::Float, v), 0x44, v)
+    or_plain(try_float(v), 0x44, v)
 }
 
 fn spell_date(v: u64) -> Spelling
     ensures { λ r. ⌜ spelled r ≡ shortest (formsOf Sort.Date) v ⌝ }
 {
-    or_plain(try_form(0x4b, 1, 4, Rule::Minutes, v), 0x4a, v)
+    or_plain(try_minutes(v), 0x4a, v)
 }
 
 // The shortest form of the value v of this kind.
@@ -393,9 +474,9 @@ fn spell(sort: Sort, v: u64) -> Spelling
     ensures { λ r. ⌜ spelled r ≡ shortest (formsOf sort) v ⌝ }
 {
     match sort {
-        Sort::Null => try_form(0x4e, 1, 0, Rule::Exactly(0), v),
-        Sort::False => try_form(0x46, 1, 0, Rule::Exactly(0), v),
-        Sort::True => try_form(0x54, 1, 0, Rule::Exactly(0), v),
+        Sort::Null => try_exactly(0x4e, 0, v),
+        Sort::False => try_exactly(0x46, 0, v),
+        Sort::True => try_exactly(0x54, 0, v),
         Sort::Int => spell_int(v),
         Sort::Long => spell_long(v),
         Sort::Double => spell_double(v),

@@ -8,10 +8,11 @@ ghost use mathlib.Core.Path.{_≡_};
 ghost use mathlib.Core.List.{[], _∷_};
 ghost use Prim.Native.Nat.{_+_, _^_, _≤_, _<_, min};
 ghost use lib.ListN.{length, take, drop};
-ghost use Rattle.flow.specs.Overlay.{stored};
-ghost use Rattle.scalar.specs.Texts.{weight as weightOf, partHead, lastHeads, shortestHead};
+ghost use Rattle.flow.specs.Flow.{stored};
+ghost use Rattle.scalar.specs.Scalars.{weight as weightOf, partHead, lastHeads, shortestHead};
 ghost use Rattle.scalar.specs.Answers.{report, reportOf, outputOf, lengthOf};
-ghost use Rattle.scalar.specs.TextWriting.{itemForm, Opens, Going, rest as restOf, Spans, Copies, HeadsOf, Item, Lays};
+ghost use Rattle.scalar.specs.TextAnswers.{Joining};
+ghost use Rattle.scalar.specs.TextWriting.{itemForm, sizedForm, Opens, Going, rest as restOf, Spans, Copies, HeadsOf, laid as laidOf, Item, FoundMet, Lays};
 
 // Where the content of a text or byte string goes on: the place of its next byte, the bytes left in that chunk, and whether the
 // chunk is the last.
@@ -34,6 +35,16 @@ pub struct Heads {
 pub struct Span {
     pub bytes: usize,
     pub units: usize,
+}
+
+// A text or byte string at a place: where its content begins, its units and its bytes; or there is none.
+pub enum Found {
+    There {
+        first: Cursor,
+        units: usize,
+        bytes: usize,
+    },
+    Nothing,
 }
 
 // The units that a byte of a content adds to its length.
@@ -111,7 +122,7 @@ fn span_of(kind: Kind, source: &[u8], from: Cursor, cap: usize) -> Span
 }
 
 // `count` bytes of the source from `from` on, in `out` from `to` on, where all of them fit.
-fn copy_run(source: &[u8], from: usize, count: usize, out: &mut [u8], to: usize)
+fn copy_bytes(source: &[u8], from: usize, count: usize, out: &mut [u8], to: usize)
     requires { ⌜ from + count ≤ length (now source) ⌝ }
     ensures { λ r. ⌜ now (out .exit) ≡ stored (now (out .entry)) to (take count (drop from (now (source .entry)))) ⌝ }
 {
@@ -127,6 +138,63 @@ fn copy_run(source: &[u8], from: usize, count: usize, out: &mut [u8], to: usize)
         out[to + i] = source[from + i];
         i += 1;
     }
+}
+
+// The block of the source from `from` on.
+fn block_at(source: &[u8], from: usize) -> [u8; 4096]
+    requires { ⌜ from + 4096 ≤ length (now source) ⌝ }
+    ensures { λ r. ⌜ (length r ≡ 4096) × (r ≡ take (length r) (drop from (now (source .entry)))) ⌝ }
+{
+    let mut block: [u8; 4096] = [0; 4096];
+    let mut i: usize = 0;
+    while i < 4096 {
+        block[i] = source[from + i];
+        i += 1;
+    }
+    block
+}
+
+// The block, in `out` from `to` on.
+fn put_block(block: [u8; 4096], out: &mut [u8], to: usize)
+    requires { ⌜ (length block ≡ 4096) × (to + 4096 ≤ length (now out)) ⌝ }
+    ensures { λ r. ⌜ now (out .exit) ≡ stored (now (out .entry)) to block ⌝ }
+{
+    let mut i: usize = 0;
+    while i < 4096 {
+        out[to + i] = block[i];
+        i += 1;
+    }
+}
+
+// The whole blocks of `count` bytes of the source from `from` on, in `out` from `to` on. How many bytes they are. A block goes
+// through an array of its own, which overlaps nothing, so that the compiler makes one move of it.
+fn copy_blocks(source: &[u8], from: usize, count: usize, out: &mut [u8], to: usize) -> usize
+    requires { ⌜ (from + count ≤ length (now source)) × (to + count ≤ length (now out)) ⌝ }
+    ensures { λ r. ⌜ (r ≤ count) × (now (out .exit) ≡ stored (now (out .entry)) to (take r (drop from (now (source .entry))))) ⌝ }
+{
+    let mut i: usize = 0;
+    while 4096 <= count - i {
+        let block = block_at(source, from + i);
+        put_block(block, out, to + i);
+        i += 4096;
+    }
+    i
+}
+
+// The same as copy_bytes, by blocks where there are many bytes.
+fn copy_run(source: &[u8], from: usize, count: usize, out: &mut [u8], to: usize)
+    requires { ⌜ from + count ≤ length (now source) ⌝ }
+    ensures { λ r. ⌜ now (out .exit) ≡ stored (now (out .entry)) to (take count (drop from (now (source .entry)))) ⌝ }
+{
+    let len = out.len();
+    if len < to {
+        return;
+    }
+    if len - to < count {
+        return;
+    }
+    let n = copy_blocks(source, from, count, out, to);
+    copy_bytes(source, from + n, count - n, out, to + n);
 }
 
 // The smaller of two numbers.
@@ -215,20 +283,36 @@ fn put_part_head(kind: Kind, units: usize, out: &mut [u8], to: usize)
     wire::store_number(out, to, 3, h.part * 0x1_0000 + (units as u64));
 }
 
+// How many bytes the head of a last chunk of so many units takes.
+fn last_head_size(kind: Kind, units: usize) -> usize
+    requires { ⌜ units < 65536 ⌝ }
+    ensures { λ r. ⌜ r ≡ length (shortestHead (lastHeads kind) units) ⌝ }
+{
+    let h = heads_of(kind);
+    if units < h.few {
+        return 1;
+    }
+    if units < 1024 {
+        return 2;
+    }
+    3
+}
+
 // The shortest form of the string at `at`, of so many units and bytes, in `out` from `to` on, where it fits. How many bytes it takes.
 fn lay(
     kind: Kind,
     source: &[u8],
     at: usize,
+    first: Cursor,
     units: usize,
     bytes: usize,
     out: &mut [u8],
     to: usize,
 ) -> usize
-    requires { ⌜ Item kind (now source) at units bytes to ⌝ }
+    requires { ⌜ Item kind (now source) at first units bytes × (to + length (laidOf kind (now source) at) < 2 ^ 64) ⌝ }
     ensures { λ r. ⌜ Lays kind (now (source .entry)) at (now (out .entry)) to (now (out .exit)) r ⌝ }
 {
-    let mut c = open(kind, source, at);
+    let mut c = first;
     let mut rest = units;
     let mut content = bytes;
     let mut place = to;
@@ -249,23 +333,149 @@ fn lay(
     start + content - to
 }
 
-// How many bytes the shortest form of the string at `at` takes; 0 where none stands there.
-pub fn string_length(kind: Kind, source: &[u8], at: usize) -> usize
-    ensures { λ r. ⌜ r ≡ lengthOf (itemForm kind (now (source .entry)) at) ⌝ }
+// The string at `at`, whose content begins at the cursor: the chunks up to `from` are read, of u units and b bytes, and more follow.
+fn find_more(
+    kind: Kind,
+    source: &[u8],
+    at: usize,
+    first: Cursor,
+    from: usize,
+    u: usize,
+    b: usize,
+) -> Found
+    requires { ⌜ Opens kind (now source) at first × Joining kind (now source) at from u b ⌝ }
+    ensures { λ r. ⌜ FoundMet kind (now (source .entry)) at r ⌝ }
 {
-    match texts::read_string(kind, source, at) {
+    match texts::read_on(kind, source, at, from, u, b) {
         StringRead::Refused {
             number: _,
             place: _,
-        } => 0,
+        } => Found::Nothing,
         StringRead::Content {
             units,
             bytes,
             size: _,
+        } => Found::There {
+            first,
+            units,
+            bytes,
+        },
+    }
+}
+
+// The string at `at`: where its content begins, and its sizes.
+fn find(kind: Kind, source: &[u8], at: usize) -> Found
+    ensures { λ r. ⌜ FoundMet kind (now (source .entry)) at r ⌝ }
+{
+    if source.len() <= at {
+        return Found::Nothing;
+    }
+    match texts::first_chunk(kind, source, at) {
+        ChunkRead::Refused {
+            number: _,
+            place: _,
+        } => Found::Nothing,
+        ChunkRead::Chunk {
+            head: h,
+            size,
+            units,
+            last,
         } => {
-            let mut none: [u8; 0] = [];
-            lay(kind, source, at, units, bytes, &mut none, 0)
+            let first = Cursor {
+                here: at + h,
+                left: size,
+                last,
+            };
+            if last {
+                return Found::There {
+                    first,
+                    units,
+                    bytes: size,
+                };
+            }
+            find_more(kind, source, at, first, at + (h + size), units, size)
         }
+    }
+}
+
+// The same as lay, straight where the form has one chunk.
+fn store(
+    kind: Kind,
+    source: &[u8],
+    at: usize,
+    first: Cursor,
+    units: usize,
+    bytes: usize,
+    out: &mut [u8],
+    to: usize,
+) -> usize
+    requires { ⌜ Item kind (now source) at first units bytes × (to + length (laidOf kind (now source) at) < 2 ^ 64) ⌝ }
+    ensures { λ r. ⌜ Lays kind (now (source .entry)) at (now (out .entry)) to (now (out .exit)) r ⌝ }
+{
+    if 65535 < units {
+        return lay(kind, source, at, first, units, bytes, out, to);
+    }
+    let h = put_last_head(kind, units, out, to);
+    copy(kind, source, first, bytes, out, to + h);
+    h + bytes
+}
+
+// How many bytes the shortest form of the string at `at` takes. It is laid only where it has more than one chunk.
+fn form_size(
+    kind: Kind,
+    source: &[u8],
+    at: usize,
+    first: Cursor,
+    units: usize,
+    bytes: usize,
+) -> usize
+    requires { ⌜ Item kind (now source) at first units bytes × (length (laidOf kind (now source) at) < 2 ^ 64) ⌝ }
+    ensures { λ r. ⌜ r ≡ length (laidOf kind (now (source .entry)) at) ⌝ }
+{
+    if units <= 65535 {
+        return last_head_size(kind, units) + bytes;
+    }
+    let mut none: [u8; 0] = [];
+    lay(kind, source, at, first, units, bytes, &mut none, 0)
+}
+
+// The shortest form of the string found at `at`, in `out` from `to` on: stored whole or not at all.
+fn write_found(
+    kind: Kind,
+    source: &[u8],
+    at: usize,
+    first: Cursor,
+    units: usize,
+    bytes: usize,
+    out: &mut [u8],
+    to: usize,
+) -> Written
+    requires { ⌜ Item kind (now source) at first units bytes ⌝ }
+    ensures { λ r. ⌜ (report r ≡ reportOf (itemForm kind (now (source .entry)) at) (length (now (out .entry))) to) × (now (out .exit) ≡ outputOf (itemForm kind (now (source .entry)) at) (now (out .entry)) to) ⌝ }
+{
+    let needed = form_size(kind, source, at, first, units, bytes);
+    let len = out.len();
+    if len < to {
+        return Written::NoRoom { needed };
+    }
+    if len - to < needed {
+        return Written::NoRoom { needed };
+    }
+    store(kind, source, at, first, units, bytes, out, to);
+    Written::Stored { size: needed }
+}
+
+// How many bytes the shortest form of the string at `at` takes; 0 where none stands there.
+pub fn string_length(kind: Kind, source: &[u8], at: usize) -> usize
+    ensures { λ r. ⌜ r ≡ lengthOf (itemForm kind (now (source .entry)) at) ⌝ }
+{
+    match find(kind, source, at) {
+        Found::Nothing => 0,
+        Found::There {
+            first,
+            units,
+            bytes,
+        } => form_size(kind, source, at, first, units, bytes),
     }
 }
 
@@ -273,27 +483,42 @@ pub fn string_length(kind: Kind, source: &[u8], at: usize) -> usize
 pub fn write_string(kind: Kind, source: &[u8], at: usize, out: &mut [u8], to: usize) -> Written
     ensures { λ r. ⌜ (report r ≡ reportOf (itemForm kind (now (source .entry)) at) (length (now (out .entry))) to) × (now (out .exit) ≡ outputOf (itemForm kind (now (source .entry)) at) (now (out .entry)) to) ⌝ }
 {
-    match texts::read_string(kind, source, at) {
-        StringRead::Refused {
-            number: _,
-            place: _,
-        } => Written::NotSuch,
-        StringRead::Content {
+    match find(kind, source, at) {
+        Found::Nothing => Written::NotSuch,
+        Found::There {
+            first,
             units,
             bytes,
-            size: _,
+        } => write_found(kind, source, at, first, units, bytes, out, to),
+    }
+}
+
+// The same, if the string has so many units and bytes.
+pub fn write_sized(
+    kind: Kind,
+    source: &[u8],
+    at: usize,
+    units: usize,
+    bytes: usize,
+    out: &mut [u8],
+    to: usize,
+) -> Written
+    ensures { λ r. ⌜ (report r ≡ reportOf (sizedForm kind (now (source .entry)) at units bytes) (length (now (out .entry))) to) × (now (out .exit) ≡ outputOf (sizedForm kind (now (source .entry)) at units bytes) (now (out .entry)) to) ⌝ }
+{
+    match find(kind, source, at) {
+        Found::Nothing => Written::NotSuch,
+        Found::There {
+            first,
+            units: u,
+            bytes: b,
         } => {
-            let mut none: [u8; 0] = [];
-            let needed = lay(kind, source, at, units, bytes, &mut none, 0);
-            let len = out.len();
-            if len < to {
-                return Written::NoRoom { needed };
+            if u != units {
+                return Written::NotSuch;
             }
-            if len - to < needed {
-                return Written::NoRoom { needed };
+            if b != bytes {
+                return Written::NotSuch;
             }
-            lay(kind, source, at, units, bytes, out, to);
-            Written::Stored { size: needed }
+            write_found(kind, source, at, first, u, b, out, to)
         }
     }
 }

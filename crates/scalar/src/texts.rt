@@ -1,10 +1,10 @@
-// Texts and byte strings: reading one at a place. The definitions are in specs/Texts.antt.
+// Texts and byte strings: reading one at a place. The definitions are in specs/Scalars.antt.
 ghost use mathlib.Core.Path.{_≡_};
 ghost use mathlib.Core.Bool.{true};
 ghost use Prim.Native.Nat.{ℕ, _+_, _-_, _*_, _^_, _≤_, _<_};
 ghost use lib.ListN.{length, getD};
-ghost use Rattle.scalar.specs.Texts.{charLead, continued as continuedBy, characters as charactersOf, body as bodyOf};
-ghost use Rattle.scalar.specs.TextAnswers.{extentAt, toldExtent, CharMet, headForm, HeadMet, ChunkMet, measuredAt, toldString};
+ghost use Rattle.scalar.specs.Scalars.{charLead, continued as continuedBy, characters as charactersOf, body as bodyOf};
+ghost use Rattle.scalar.specs.TextAnswers.{extentAt, toldExtent, CharMet, headForm, HeadMet, ChunkMet, measuredAt, toldString, Joining};
 ghost use Rattle.scalar.specs.TextAt.{Opens, Ascii};
 
 // What a string holds: characters in UTF-8, or bytes.
@@ -223,6 +223,20 @@ fn four(a: u8, b: u8, c: u8, d: u8) -> u64
     ensures { λ r. ⌜ (r < 2 ^ 32) × (r ≡ ((d * 256 + c) * 256 + b) * 256 + a) ⌝ }
 {
     ((wire::wide(d) * 256 + wire::wide(c)) * 256 + wire::wide(b)) * 256 + wire::wide(a)
+}
+
+// Whether the four bytes from `at` on are ASCII.
+fn four_ascii(message: &[u8], at: usize) -> bool
+    requires { ⌜ at + 4 ≤ length (now message) ⌝ }
+    ensures { λ r. ⌜ (r ≡ true → Ascii (now (message .entry)) at 4) ⌝ }
+{
+    let word = four(
+        message[at],
+        message[at + 1],
+        message[at + 2],
+        message[at + 3],
+    );
+    word & 0x8080_8080 == 0
 }
 
 // Whether the eight bytes from `at` on are ASCII.
@@ -444,6 +458,28 @@ fn head(kind: Kind, message: &[u8], at: usize) -> HeadRead
     }
 }
 
+// Whether the n bytes from `at` on are ASCII. Up to sixteen are told by the first and the last eight or four of them.
+fn short_ascii(message: &[u8], at: usize, n: usize) -> bool
+    requires { ⌜ at + n ≤ length (now message) ⌝ }
+    ensures { λ r. ⌜ (r ≡ true → Ascii (now (message .entry)) at n) ⌝ }
+{
+    if 4 <= n {
+        if n <= 8 {
+            if !four_ascii(message, at) {
+                return false;
+            }
+            return four_ascii(message, at + n - 4);
+        }
+        if n <= 16 {
+            if !eight_ascii(message, at) {
+                return false;
+            }
+            return eight_ascii(message, at + n - 8);
+        }
+    }
+    n <= ascii_bytes(message, at, n)
+}
+
 // The bytes of the short text at `at` where all its characters are ASCII: of the byte that counts them, and theirs. Else 0.
 fn short_text(message: &[u8], at: usize) -> usize
     ensures { λ r. ⌜ (0 < r → (r ≡ getD (now (message .entry)) at 0 + 1) × (r ≤ 0x20) × (at + r ≤ length (now (message .entry))) × Ascii (now (message .entry)) (at + 1) (r - 1)) ⌝ }
@@ -459,14 +495,14 @@ fn short_text(message: &[u8], at: usize) -> usize
     if len - at <= n {
         return 0;
     }
-    if ascii_bytes(message, at + 1, n) < n {
+    if !short_ascii(message, at + 1, n) {
         return 0;
     }
     n + 1
 }
 
 // The chunk at `at`, by its head and then its content.
-fn long_chunk(kind: Kind, message: &[u8], at: usize) -> ChunkRead
+pub(crate) fn chunk(kind: Kind, message: &[u8], at: usize) -> ChunkRead
     requires { ⌜ at ≤ length (now message) ⌝ }
     ensures { λ r. ⌜ ChunkMet kind (now (message .entry)) at r ⌝ }
 {
@@ -491,7 +527,7 @@ fn long_chunk(kind: Kind, message: &[u8], at: usize) -> ChunkRead
 }
 
 // The chunk at `at`. A short text of ASCII is tried first.
-pub(crate) fn chunk(kind: Kind, message: &[u8], at: usize) -> ChunkRead
+pub(crate) fn first_chunk(kind: Kind, message: &[u8], at: usize) -> ChunkRead
     requires { ⌜ at ≤ length (now message) ⌝ }
     ensures { λ r. ⌜ ChunkMet kind (now (message .entry)) at r ⌝ }
 {
@@ -506,23 +542,24 @@ pub(crate) fn chunk(kind: Kind, message: &[u8], at: usize) -> ChunkRead
             };
         }
     }
-    long_chunk(kind, message, at)
+    chunk(kind, message, at)
 }
 
-// The text or byte string at the place `at` of the message.
-pub fn read_string(kind: Kind, message: &[u8], at: usize) -> StringRead
+// The text or byte string at `at`: the chunks up to `from` are read, of u units and b bytes, and more follow.
+pub(crate) fn read_on(
+    kind: Kind,
+    message: &[u8],
+    at: usize,
+    from: usize,
+    u: usize,
+    b: usize,
+) -> StringRead
+    requires { ⌜ Joining kind (now message) at from u b ⌝ }
     ensures { λ r. ⌜ toldString r ≡ measuredAt kind (now (message .entry)) at ⌝ }
 {
-    let len = message.len();
-    if len <= at {
-        return StringRead::Refused {
-            number: 2,
-            place: len,
-        };
-    }
-    let mut here = at;
-    let mut total: usize = 0;
-    let mut bytes: usize = 0;
+    let mut here = from;
+    let mut total = u;
+    let mut bytes = b;
     loop {
         match chunk(kind, message, here) {
             ChunkRead::Refused { number, place } => {
@@ -547,4 +584,33 @@ pub fn read_string(kind: Kind, message: &[u8], at: usize) -> StringRead
             }
         }
     }
+}
+
+// The text or byte string at the place `at` of the message.
+pub fn read_string(kind: Kind, message: &[u8], at: usize) -> StringRead
+    ensures { λ r. ⌜ toldString r ≡ measuredAt kind (now (message .entry)) at ⌝ }
+{
+    let len = message.len();
+    if len <= at {
+        return StringRead::Refused {
+            number: 2,
+            place: len,
+        };
+    }
+    read_on(kind, message, at, at, 0, 0)
+}
+
+// The text at the place `at` of the message. A short one of ASCII is tried first.
+pub fn read_text(message: &[u8], at: usize) -> StringRead
+    ensures { λ r. ⌜ toldString r ≡ measuredAt Kind.Utf8 (now (message .entry)) at ⌝ }
+{
+    let s = short_text(message, at);
+    if 0 < s {
+        return StringRead::Content {
+            units: s - 1,
+            bytes: s - 1,
+            size: s,
+        };
+    }
+    read_string(Kind::Utf8, message, at)
 }

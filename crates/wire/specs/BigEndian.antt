@@ -2,22 +2,18 @@
 use mathlib.Core.List.{List, [], _∷_, _++_}
 use Prim.Native.Nat.{ℕ, zero, suc, _+_, _*_, _/_, _%_}
 
--- the number that the bytes s go on with, where those before them are u
-abbrev pub joined : ℕ → List ℕ → ℕ
+abbrev pub joined : ℕ → List ℕ → ℕ  -- the number that the bytes s go on with, where those before them are u
 joined u [] = u
 joined u (b ∷ s) = joined (256 * u + b) s
 
--- the k lowest bytes of u
-abbrev pub be : ℕ → ℕ → List ℕ
+abbrev pub be : ℕ → ℕ → List ℕ  -- the k lowest bytes of u
 be zero u = []
 be (suc k) u = be k (u / 256) ++ ((u % 256) ∷ [])
 
--- what is left of u without its k lowest bytes
-abbrev pub high : ℕ → ℕ → ℕ
+abbrev pub high : ℕ → ℕ → ℕ  -- what is left of u without its k lowest bytes
 high zero u = u
 high (suc k) u = high k (u / 256)
 
--- how many numbers k bytes make after one of c
-abbrev pub wider : ℕ → ℕ → ℕ
+abbrev pub wider : ℕ → ℕ → ℕ  -- how many numbers k bytes make after one of c
 wider zero c = c
 wider (suc k) c = 256 * wider k c

@@ -2,12 +2,15 @@
 use mathlib.Core.Path.{_≡_, refl, _∙_, ap}
 use mathlib.Core.List.{List, [], _∷_, _++_}
 use Prim.Native.Nat.{ℕ, zero, suc, _+_, _-_, _*_, _/_, _%_, _^_, _≤_, _<_}
-use native.Mathlib.Nat.{add-zero}
+use native.Mathlib.Nat.{add-zero, mod-eq-of-lt}
 use native.Mathlib.Numerals.{add-one}
 use native.Mathlib.Omega.{arith}
 use lib.ListN.{length, take, drop, getD, set, length-append, drop-of-length-le}
 use lib.Seq.{drop-cons, take-nil, set-comm, sets}
-use Rattle.flow.specs.Tests.{Bytes, bytes-append}
+use mir.Syntax.{w8}
+use mir.Val.{Fits}
+use Rattle.flow.specs.Flow.{Bytes}
+use Rattle.flow.specs.Tests.{bytes-append, bytes-drop, bytes-all}
 use Rattle.wire.specs.BigEndian.{joined, be, high, wider}
 
 -- ---- the lowest bytes
@@ -63,6 +66,53 @@ joined-past s i n a h = rw (drop-of-length-le s h, take-nil n)
 pub joined-next : (s : List ℕ) (i n a : ℕ) → i < length s → 0 < n → joined (256 * a + getD s i 0) (take (n - 1) (drop (i + 1) s)) ≡ joined a (take n (drop i s))
 joined-next s i zero a h p = absurd (omega arith)
 joined-next s i (suc n) a h p = let e : suc n - 1 ≡ n = omega arith in rw (drop-cons s i 0 h, add-one, e)
+
+-- ---- up to k bytes are a number of k bytes
+wider-up : (k c : ℕ) → c ≤ wider k c
+wider-up zero c = omega arith
+wider-up (suc k) c = omega (arith, wider-up k c)
+
+joined-few : (k : ℕ) (t : List ℕ) (a c : ℕ) → Bytes t → a < c → joined a (take k t) < wider k c
+joined-few zero t a c b h = h
+joined-few (suc k) [] a c b h = omega (arith, wider-up k c)
+joined-few (suc k) (x ∷ t) a c b h = rw (wider-more k c) at (joined-few k t (256 * a + x) (256 * c) (b .1) (omega arith))
+
+module _ (s : List ℕ) (i v : ℕ) (bytes : (i : ℕ) → Fits w8 (getD s i 0)) where
+  few : (k : ℕ) → joined 0 (take k (drop i s)) < wider k 1
+  few k = joined-few k (drop i s) 0 1 (bytes-drop i s (bytes-all s (λ i. bytes i .fits))) (omega arith)
+
+  pub four-few : v ≡ joined 0 (take 4 (drop i s)) % 2 ^ 64 → (v ≡ joined 0 (take 4 (drop i s))) × (v < 2 ^ 32)
+  four-few e = let b = few 4 in (omega (arith, e), omega (arith, e))
+
+  pub eight-few : v ≡ joined 0 (take 8 (drop i s)) % 2 ^ 64 → v ≡ joined 0 (take 8 (drop i s))
+  eight-few e = let b = few 8 in omega (arith, e)
+
+-- ---- one byte more; four, and eight
+pub joined-one : (s : List ℕ) (i n a : ℕ) → i < length s → joined a (take (suc n) (drop i s)) ≡ joined (256 * a + getD s i 0) (take n (drop (suc i) s))
+joined-one s i n a h = rw (drop-cons s i 0 h) refl
+
+four-more : (m : List ℕ) (i n a : ℕ) → i + 4 ≤ length m
+    → joined a (take (suc (suc (suc (suc n)))) (drop i m)) ≡ joined (256 * (256 * (256 * (256 * a + getD m i 0) + getD m (i + 1) 0) + getD m (i + 2) 0) + getD m (i + 3) 0) (take n (drop (i + 4) m))
+four-more m i n a h =
+    let e : i + 1 ≡ suc i = omega arith in
+    let f : i + 2 ≡ suc (suc i) = omega arith in
+    let g : i + 3 ≡ suc (suc (suc i)) = omega arith in
+    let k : i + 4 ≡ suc (suc (suc (suc i))) = omega arith in
+    rw (e, f, g, k)
+    (joined-one m i (suc (suc (suc n))) a (omega arith)
+    ∙ joined-one m (suc i) (suc (suc n)) (256 * a + getD m i 0) (omega arith)
+    ∙ joined-one m (suc (suc i)) (suc n) (256 * (256 * a + getD m i 0) + getD m (suc i) 0) (omega arith)
+    ∙ joined-one m (suc (suc (suc i))) n (256 * (256 * (256 * a + getD m i 0) + getD m (suc i) 0) + getD m (suc (suc i)) 0) (omega arith))
+
+pub four-is : (m : List ℕ) (i v : ℕ) → v ≡ 256 * (256 * (256 * getD m i 0 + getD m (i + 1) 0) + getD m (i + 2) 0) + getD m (i + 3) 0 → i + 4 ≤ length m → v ≡ joined 0 (take 4 (drop i m))
+four-is m i v e h = omega (arith, e, four-more m i 0 0 h)
+
+pub eight-is : (m : List ℕ) (i a b : ℕ) → i + 8 ≤ length m → a ≡ joined 0 (take 4 (drop i m)) → b ≡ joined 0 (take 4 (drop (i + 4) m)) → a * 0x1_0000_0000 + b ≡ joined 0 (take 8 (drop i m))
+eight-is m i a b h ea eb =
+    let x = four-more m i 0 0 (omega arith) in
+    let y = four-more m (i + 4) 0 0 (omega arith) in
+    let w : ℕ = 256 * (256 * (256 * (256 * 0 + getD m i 0) + getD m (i + 1) 0) + getD m (i + 2) 0) + getD m (i + 3) 0 in
+    omega (arith, ea, eb, x, y, four-more m i 4 0 (omega arith), four-more m (i + 4) 0 w (omega arith))
 
 -- ---- bytes stored one by one: the last of a run first
 pub sets-snoc : (s l : List ℕ) (i b : ℕ) → sets (set l (i + length s) b) i s ≡ sets l i (s ++ (b ∷ []))

@@ -1,9 +1,9 @@
 // Numbers in byte slices, the highest byte first.
 ghost use mathlib.Core.Path.{_≡_};
-ghost use Prim.Native.Nat.{_+_, _%_, _^_};
+ghost use Prim.Native.Nat.{_+_, _*_, _%_, _^_, _≤_, _<_};
 ghost use lib.Dec.{leb};
 ghost use lib.ListN.{length, take, drop};
-ghost use Rattle.flow.specs.Overlay.{stored};
+ghost use Rattle.flow.specs.Flow.{stored};
 ghost use Rattle.wire.specs.BigEndian.{joined, be};
 
 // A byte as a number of 64 bits.
@@ -28,6 +28,52 @@ pub fn number_at(bytes: &[u8], at: usize, count: usize, held: u64) -> u64
     }
     v
 }
+
+// ---- by plain loads, where all the bytes are there
+
+// Four bytes as a number.
+fn four(a: u8, b: u8, c: u8, d: u8) -> u64
+    ensures { λ r. ⌜ (r ≡ 256 * (256 * (256 * a + b) + c) + d) × (r < 2 ^ 32) ⌝ }
+{
+    ((wide(a) * 256 + wide(b)) * 256 + wide(c)) * 256 + wide(d)
+}
+
+fn four_in(bytes: &[u8], at: usize) -> u64
+    requires { ⌜ at + 4 ≤ length (now bytes) ⌝ }
+    ensures { λ r. ⌜ (r ≡ joined 0 (take 4 (drop at (now (bytes .entry))))) × (r < 2 ^ 32) ⌝ }
+{
+    four(bytes[at], bytes[at + 1], bytes[at + 2], bytes[at + 3])
+}
+
+// The number of up to four bytes from `at` on.
+pub fn four_at(bytes: &[u8], at: usize) -> u64
+    ensures { λ r. ⌜ (r ≡ joined 0 (take 4 (drop at (now (bytes .entry))))) × (r < 2 ^ 32) ⌝ }
+{
+    let len = bytes.len();
+    if len < 4 {
+        return number_at(bytes, at, 4, 0);
+    }
+    if len - 4 < at {
+        return number_at(bytes, at, 4, 0);
+    }
+    four_in(bytes, at)
+}
+
+// The number of up to eight bytes from `at` on.
+pub fn eight_at(bytes: &[u8], at: usize) -> u64
+    ensures { λ r. ⌜ r ≡ joined 0 (take 8 (drop at (now (bytes .entry)))) ⌝ }
+{
+    let len = bytes.len();
+    if len < 8 {
+        return number_at(bytes, at, 8, 0);
+    }
+    if len - 8 < at {
+        return number_at(bytes, at, 8, 0);
+    }
+    four_in(bytes, at) * 0x1_0000_0000 + four_in(bytes, at + 4)
+}
+
+// ---- storing
 
 // The `count` lowest bytes of `value` in `bytes` from `at` on, where all of them fit. Whether they do.
 pub fn store_number(bytes: &mut [u8], at: usize, count: usize, value: u64) -> bool

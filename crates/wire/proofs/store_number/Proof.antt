@@ -9,7 +9,7 @@ use borrow.Author.Tests.{le-leb, lt-leb}
 use lib.Dec.{leb}
 use lib.ListN.{length, length-set}
 use lib.Seq.{sets}
-use Rattle.flow.specs.Overlay.{stored}
+use Rattle.flow.specs.Flow.{stored}
 use Rattle.flow.specs.OverlayLaws.{stored-sets, stored-out}
 use Rattle.wire.specs.BigEndian.{be}
 use Rattle.wire.specs.Laws.{be-length, sets-be, sets-none}

@@ -9,11 +9,12 @@ use lib.Dec.{T}
 use mir.Facts.{or-yes}
 use mir.Val.{hasKey}
 use types.Run.{OneOf, hit}
-use Rattle.flow.specs.Tests.{pick, split, every, every-at}
+use Rattle.flow.specs.Flow.{pick}
+use Rattle.flow.specs.Tests.{split, every, every-at}
 use Rattle.scalar.specs.declared.numbers.Sort.the-variants.{Null, False, True, Int, Long, Double, Date}
 use Rattle.scalar.specs.declared.chart.Lead.{Lead}
 use Rattle.scalar.specs.declared.chart.Lead.the-variants as lead
-use Rattle.scalar.specs.Chart.{ranges, rangeOf, leadOf, kindOf}
+use Rattle.scalar.specs.Scalars.{ranges, rangeOf, leadOf, kindOf}
 use Rattle.scalar.specs.ChartLaws.{allOpen, lead-in}
 use Rattle.scalar.proofs.chart.classify.Statement.{statement}
 use Rattle.scalar.proofs.chart.classify.Tie as tie

@@ -1,7 +1,8 @@
 -- Each of the table's 256 entries is what `entry` computes to.
 use borrow.Author.Needs.{needs}
-use Rattle.flow.specs.Tests.{pick}
-use Rattle.scalar.specs.Chart.{ranges, rangeOf, leadOf, followOf, kindOf, entry}
+use Rattle.flow.specs.Flow.{pick}
+use Rattle.scalar.specs.Scalars.{ranges, rangeOf, leadOf, kindOf}
+use Rattle.scalar.specs.Answers.{followOf, entry}
 use Rattle.scalar.proofs.Table.{at}
 use Rattle.scalar.proofs.chart.entry.Statement.{statement}
 use Rattle.scalar.proofs.chart.entry.Tie as tie

@@ -2,7 +2,7 @@
 use native.Mathlib.Omega.{arith}
 use borrow.Author.Needs.{needs}
 use Rattle.scalar.specs.declared.numbers.Sort.the-variants.{Int}
-use Rattle.scalar.specs.Numbers.{formsOf}
+use Rattle.scalar.specs.Scalars.{formsOf}
 use Rattle.scalar.proofs.Reading.{begins}
 use Rattle.scalar.proofs.Loads.{formed}
 use Rattle.scalar.proofs.direct.read_wide_int.Statement.{statement}

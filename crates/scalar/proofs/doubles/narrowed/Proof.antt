@@ -1,7 +1,7 @@
 -- `doubles::narrowed` meets its contract.
 use native.Mathlib.Omega.{arith}
 use borrow.Author.Needs.{needs}
-use Rattle.scalar.specs.Doubles.{narrowed}
+use Rattle.scalar.specs.Guesses.{narrowed}
 use Rattle.scalar.proofs.doubles.narrowed.Statement.{statement}
 use Rattle.scalar.proofs.doubles.narrowed.Tie as tie
 

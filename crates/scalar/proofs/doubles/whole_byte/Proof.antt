@@ -5,7 +5,7 @@ use mir.Syntax.{w8, w16}
 use mir.ValLaws.{toZ-pos}
 use borrow.Author.Needs.{needs}
 use Rattle.scalar.specs.DoubleLaws.{lowered}
-use Rattle.scalar.specs.Doubles.{whole}
+use Rattle.scalar.specs.Scalars.{whole}
 use Rattle.scalar.proofs.doubles.whole_byte.Statement.{statement}
 use Rattle.scalar.proofs.doubles.whole_byte.Tie as tie
 

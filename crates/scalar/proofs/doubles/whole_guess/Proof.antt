@@ -4,7 +4,7 @@ use native.Mathlib.Nat.{mod-lt}
 use native.Mathlib.Omega.{arith}
 use borrow.Author.Needs.{needs}
 use borrow.Author.Tests.{lt-ltb, le-ltb}
-use Rattle.scalar.specs.Doubles.{wholeGuess}
+use Rattle.scalar.specs.Guesses.{wholeGuess}
 use Rattle.scalar.proofs.doubles.whole_guess.Statement.{statement}
 use Rattle.scalar.proofs.doubles.whole_guess.Tie as tie
 

@@ -5,7 +5,7 @@ use mir.Syntax.{w16, w32}
 use mir.ValLaws.{toZ-fits, toZ-ofZ}
 use borrow.Author.Needs.{needs}
 use Rattle.scalar.specs.DoubleLaws.{lowered}
-use Rattle.scalar.specs.Doubles.{whole}
+use Rattle.scalar.specs.Scalars.{whole}
 use Rattle.scalar.proofs.doubles.whole_pair.Statement.{statement}
 use Rattle.scalar.proofs.doubles.whole_pair.Tie as tie
 

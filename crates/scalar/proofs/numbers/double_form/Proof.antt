@@ -2,7 +2,7 @@
 use native.Mathlib.Omega.{arith}
 use borrow.Author.Needs.{needs}
 use Rattle.scalar.specs.declared.numbers.Sort.the-variants.{Double}
-use Rattle.scalar.specs.Numbers.{formsOf}
+use Rattle.scalar.specs.Scalars.{formsOf}
 use Rattle.scalar.proofs.Reading.{begins, no-form}
 use Rattle.scalar.proofs.numbers.double_form.Statement.{statement}
 use Rattle.scalar.proofs.numbers.double_form.Tie as tie

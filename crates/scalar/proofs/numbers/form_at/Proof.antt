@@ -1,6 +1,6 @@
 -- Each arm's callee goes over the forms of its kind.
 use borrow.Author.Needs.{needs}
-use Rattle.scalar.specs.Numbers.{formsOf}
+use Rattle.scalar.specs.Scalars.{formsOf}
 use Rattle.scalar.proofs.numbers.form_at.Statement.{statement}
 use Rattle.scalar.proofs.numbers.form_at.Tie as tie
 

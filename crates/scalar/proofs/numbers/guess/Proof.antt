@@ -1,6 +1,6 @@
 -- `numbers::guess` meets its contract: rule by rule.
 use borrow.Author.Needs.{needs}
-use Rattle.scalar.specs.Numbers.{guess}
+use Rattle.scalar.specs.Guesses.{guess}
 use Rattle.scalar.proofs.numbers.guess.Statement.{statement}
 use Rattle.scalar.proofs.numbers.guess.Tie as tie
 

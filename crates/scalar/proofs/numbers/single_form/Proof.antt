@@ -4,7 +4,7 @@ use native.Mathlib.Omega.{arith}
 use borrow.Author.Needs.{needs}
 use Rattle.flow.specs.Tests.{took-in}
 use Rattle.scalar.specs.declared.numbers.Begun.the-variants.{NoForm}
-use Rattle.scalar.specs.Numbers.{formAt}
+use Rattle.scalar.specs.Scalars.{formAt}
 use Rattle.scalar.proofs.Reading.{starts, no-form}
 use Rattle.scalar.proofs.numbers.single_form.Statement.{statement}
 use Rattle.scalar.proofs.numbers.single_form.Tie as tie

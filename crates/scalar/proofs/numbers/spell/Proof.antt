@@ -1,21 +1,21 @@
 -- `numbers::spell` meets its contract: kind by kind.
 use borrow.Author.Needs.{needs}
-use Rattle.scalar.specs.Numbers.{formsOf}
+use Rattle.scalar.specs.Scalars.{formsOf}
 use Rattle.scalar.proofs.Writing.{last-found}
 use Rattle.scalar.proofs.numbers.spell.Statement.{statement}
 use Rattle.scalar.proofs.numbers.spell.Tie as tie
 
 returns : tie.Need-returns
 unfolding formsOf
-returns c = rw (c .before .enum-told .given .1) (last-found _ _ (c .try-form .ensures))
+returns c = rw (c .before .enum-told .given .1) (last-found _ _ (c .try-exactly .ensures))
 
 returns-2 : tie.Need-returns-2
 unfolding formsOf
-returns-2 c = rw (c .before .enum-told2 .given .1) (last-found _ _ (c .try-form2 .ensures))
+returns-2 c = rw (c .before .enum-told2 .given .1) (last-found _ _ (c .try-exactly2 .ensures))
 
 returns-3 : tie.Need-returns-3
 unfolding formsOf
-returns-3 c = rw (c .before .enum-told3 .given .1) (last-found _ _ (c .try-form3 .ensures))
+returns-3 c = rw (c .before .enum-told3 .given .1) (last-found _ _ (c .try-exactly3 .ensures))
 
 returns-4 : tie.Need-returns-4
 returns-4 c = rw (c .before .enum-told4 .given .1) (c .spell-int .ensures)

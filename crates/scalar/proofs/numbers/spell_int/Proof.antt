@@ -1,6 +1,6 @@
 -- The forms are those of ints.
 use borrow.Author.Needs.{needs}
-use Rattle.scalar.specs.Numbers.{formsOf}
+use Rattle.scalar.specs.Scalars.{formsOf}
 use Rattle.scalar.proofs.numbers.spell_int.Statement.{statement}
 use Rattle.scalar.proofs.numbers.spell_int.Tie as tie
 

@@ -1,6 +1,6 @@
 -- The forms are those of longs.
 use borrow.Author.Needs.{needs}
-use Rattle.scalar.specs.Numbers.{formsOf}
+use Rattle.scalar.specs.Scalars.{formsOf}
 use Rattle.scalar.proofs.Writing.{added}
 use Rattle.scalar.proofs.numbers.spell_long.Statement.{statement}
 use Rattle.scalar.proofs.numbers.spell_long.Tie as tie

@@ -2,7 +2,7 @@
 use mathlib.Core.Path.{_∙_}
 use mathlib.Core.List.{List}
 use borrow.Author.Needs.{needs}
-use Rattle.scalar.specs.Numbers.{Form}
+use Rattle.scalar.specs.Scalars.{Form}
 use Rattle.scalar.specs.Answers.{wholeForms}
 use Rattle.scalar.proofs.Writing.{first-found, not-found, last-found, Past}
 use Rattle.scalar.proofs.numbers.spell_whole.Statement.{statement}

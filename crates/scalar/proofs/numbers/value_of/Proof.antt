@@ -2,7 +2,7 @@
 use borrow.Author.Needs.{needs, sfits-of}
 use mir.Syntax.{w64}
 use mir.ValLaws.{toZ-ofZ}
-use Rattle.scalar.specs.Numbers.{value}
+use Rattle.scalar.specs.Scalars.{value}
 use Rattle.scalar.proofs.numbers.value_of.Statement.{statement}
 use Rattle.scalar.proofs.numbers.value_of.Tie as tie
 

@@ -1,73 +1,50 @@
--- The loop's invariant: the bytes so far are stored. The measure is how many are left.
-use mathlib.Core.Path.{_≡_, sym, ap, _∙_}
-use mathlib.Core.List.{[]}
-use Prim.Native.Nat.{_+_, _-_, _≤_}
+-- `text_writer::copy_run` meets its contract.
+use mathlib.Core.Path.{sym}
 use native.Mathlib.Omega.{arith}
-use lib.Seq.{getD-drop}
-use lib.ListN.{length, take, drop, length-take, length-drop}
-use Rattle.flow.specs.OverlayLaws.{stored-sets, stored-out, length-stored}
-use Rattle.flow.specs.Overlay.{stored}
-use Rattle.scalar.proofs.Laying.{stored-next}
+use borrow.Author.Needs.{needs}
+use lib.ListN.{length-take, length-drop}
+use Rattle.flow.specs.OverlayLaws.{stored-out}
+use Rattle.scalar.proofs.Laying.{run-whole}
 use Rattle.scalar.proofs.text_writer.copy_run.Statement.{statement}
 use Rattle.scalar.proofs.text_writer.copy_run.Tie as tie
 
-abbrev Inv-loop : tie.InvT-loop
-Inv-loop source from count out₀ to len i₀ out i = (i ≤ count) × (to + count ≤ length out₀) × (out ≡ stored out₀ to (take i (drop from source)))
-
-abbrev μ-loop : tie.MeasureT-loop
-μ-loop source from count out₀ to len i₀ out i = count - i
-
-returns : tie.Need-returns Inv-loop μ-loop
+returns : tie.Need-returns
 returns c = sym (stored-out _ _ _ (simp (length-take, length-drop) (omega arith)))
 
-returns-2 : tie.Need-returns-2 Inv-loop μ-loop
+returns-2 : tie.Need-returns-2
 returns-2 c = sym (stored-out _ _ _ (simp (length-take, length-drop) (omega arith)))
 
-loop-holds : tie.Need-loop-holds Inv-loop μ-loop
-loop-holds c = (omega arith, omega arith, sym (stored-sets _ _ [] (omega arith)))
+copy-blocks-requires : tie.Need-copy-blocks-requires
+copy-blocks-requires c κs = search needs
 
-add-out : tie.Need-add-out Inv-loop μ-loop
-add-out c = omega arith
+add-copy-bytes : tie.Need-add-copy-bytes
+add-copy-bytes c = search needs
 
-shared-slice-read-out : tie.Need-shared-slice-read-out Inv-loop μ-loop
-shared-slice-read-out c = omega arith
+sub-copy-bytes : tie.Need-sub-copy-bytes
+sub-copy-bytes c = search needs
 
-add-out-2 : tie.Need-add-out-2 Inv-loop μ-loop
-add-out-2 c = omega arith
+add-copy-bytes-2 : tie.Need-add-copy-bytes-2
+add-copy-bytes-2 c = search needs
 
-slice-write-out : tie.Need-slice-write-out Inv-loop μ-loop
-slice-write-out c = rw (c .before .before .loop .inv .2, length-stored) (omega arith)
+copy-bytes-requires : tie.Need-copy-bytes-requires
+copy-bytes-requires c κs = search needs
 
-add-i : tie.Need-add-i Inv-loop μ-loop
-add-i c = omega arith
+same-length : tie.Need-same-length
+same-length c = search needs
 
-loop-less : tie.Need-loop-less Inv-loop μ-loop
-loop-less c = omega arith
-
-loop-again : tie.Need-loop-again Inv-loop μ-loop
-loop-again c = let l = c .before .before .loop in let a = c .before .before .before .before .before .args in (omega arith, l .inv .1, rw (l .inv .2, ← getD-drop) (stored-next (a .out .now) (a .to) (drop (a .from) (a .source .now)) (l .i) (simp length-drop (omega arith)) (omega arith)))
-
-same-length : tie.Need-same-length Inv-loop μ-loop
-same-length c = ap length (c .before .loop .inv .2) ∙ length-stored _ _ _
-
-returns-3 : tie.Need-returns-3 Inv-loop μ-loop
-returns-3 c = let e : c .before .loop .i ≡ c .before .before .before .before .args .count = omega arith in rw e at (c .before .loop .inv .2)
+returns-3 : tie.Need-returns-3
+returns-3 c = run-whole _ _ _ _ _ _ (c .before .before .before .before .before .before .copy-blocks .ensures .0) (omega arith) (omega arith) _ _ (c .before .before .before .before .before .before .copy-blocks .ensures .1) (c .before .before .copy-bytes .ensures)
 
 pub copy-run-spec : {M : Type 1} → statement M
 copy-run-spec =
     tie.close
     (tie.spec
-    Inv-loop
-    μ-loop
     returns
     returns-2
-    loop-holds
-    add-out
-    shared-slice-read-out
-    add-out-2
-    slice-write-out
-    add-i
-    loop-less
-    loop-again
+    copy-blocks-requires
+    add-copy-bytes
+    sub-copy-bytes
+    add-copy-bytes-2
+    copy-bytes-requires
     same-length
     returns-3)

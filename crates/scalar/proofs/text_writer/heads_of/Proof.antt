@@ -1,7 +1,7 @@
 -- `text_writer::heads_of` meets its contract.
 use mathlib.Core.Path.{refl}
 use borrow.Author.Needs.{needs}
-use Rattle.scalar.specs.Texts.{lastHeads, partHead}
+use Rattle.scalar.specs.Scalars.{lastHeads, partHead}
 use Rattle.scalar.proofs.text_writer.heads_of.Statement.{statement}
 use Rattle.scalar.proofs.text_writer.heads_of.Tie as tie
 

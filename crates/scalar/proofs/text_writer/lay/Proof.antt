@@ -68,7 +68,6 @@ lay-spec =
     (tie.spec
     Inv-loop
     μ-loop
-    (λ c κs. search needs)
     loop-holds
     (λ c κs. search needs)
     put-part-head-requires

@@ -1,7 +1,7 @@
 -- The loop's invariant: what is left reads as the whole does, but for the bytes so far. The measure is how many units are left to read.
 use native.Mathlib.Omega.{arith}
 use borrow.Author.Needs.{needs}
-use Rattle.scalar.specs.Texts.{characters}
+use Rattle.scalar.specs.Scalars.{characters}
 use Rattle.scalar.specs.TextAnswers.{extentAt}
 use Rattle.scalar.specs.TextAt.{characters-none}
 use Rattle.scalar.proofs.Strings.{Along, along-start, along-end, along-fault, along-more, char-says}

@@ -4,7 +4,7 @@ use native.Mathlib.Omega.{arith}
 use borrow.Author.Tests.{leb-true}
 use borrow.Author.Needs.{needs}
 use Rattle.flow.specs.Tests.{within-below, within-above}
-use Rattle.scalar.specs.Texts.{continued}
+use Rattle.scalar.specs.Scalars.{continued}
 use Rattle.scalar.specs.TextAnswers.{extentAt}
 use Rattle.scalar.specs.TextAt.{continued-none, continued-ends, continued-out, continued-next}
 use Rattle.scalar.proofs.Strings.{Along, along-start, along-end, along-fault, along-more}

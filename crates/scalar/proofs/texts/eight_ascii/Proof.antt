@@ -6,7 +6,7 @@ use Rattle.scalar.proofs.texts.eight_ascii.Statement.{statement}
 use Rattle.scalar.proofs.texts.eight_ascii.Tie as tie
 
 returns : tie.Need-returns
-returns c = λ e. ascii-eight _ _ (c .before .shared-slice-known9 .given) _ _ (c .before .before .before .before .before .four .ensures .0) (c .before .before .before .before .before .four .ensures .1) (c .four2 .ensures .1) (eqb-true _ _ e)
+returns c = λ e. ascii-eight _ (c .before .shared-slice-known9 .given) _ _ _ (c .before .before .before .before .before .four .ensures .0) (c .before .before .before .before .before .four .ensures .1) (c .four2 .ensures .1) (eqb-true _ _ e)
 
 pub eight-ascii-spec : {M : Type 1} → statement M
 eight-ascii-spec =

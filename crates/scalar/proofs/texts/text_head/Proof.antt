@@ -3,7 +3,7 @@ use mathlib.Core.Path.{refl}
 use native.Mathlib.Omega.{arith}
 use borrow.Author.Needs.{needs}
 use Rattle.scalar.specs.declared.texts.Kind.the-variants.{Utf8}
-use Rattle.scalar.specs.Texts.{partHead, lastHeads}
+use Rattle.scalar.specs.Scalars.{partHead, lastHeads}
 use Rattle.scalar.proofs.Strings.{head-at, head-none, starts}
 use Rattle.scalar.proofs.texts.text_head.Statement.{statement}
 use Rattle.scalar.proofs.texts.text_head.Tie as tie
