@@ -1,7 +1,6 @@
 -- What the contracts on class definitions ask at each way out of the code.
 use mathlib.Core.Path.{_≡_, refl, sym, ap, subst, _∙_}
 use mathlib.Core.Logic.{inl, inr, ⊎-elim}
-use mathlib.Core.Bool.{Bool, true, false, not}
 use mathlib.Core.List.{List, [], _∷_, _++_, append-nil}
 use Prim.Native.Nat.{ℕ, suc, _+_, _^_, _≤_, _<_}
 use native.Mathlib.Omega.{arith}
@@ -9,21 +8,19 @@ use native.Mathlib.Numerals.{add-one}
 use lib.Dec.{eqb}
 use lib.ListN.{length, take, getD, set, length-append, length-set}
 use lib.Seq.{getD-set-same, getD-set-other, take-set-le, take-suc-set, length-take-le}
-use borrow.Author.Tests.{le-leb, lt-leb, eq-eqb, eqb-true, not-true, not-false}
-use Rattle.flow.specs.Tests.{pick, pick-true, pick-false, split}
-use Rattle.flow.specs.Flow.{Done, byteAt}
+use borrow.Author.Tests.{eq-eqb, eqb-true, eqb-false}
+use Rattle.flow.specs.Flow.{pick, Done, byteAt}
+use Rattle.flow.specs.Tests.{by-cases}
 use Rattle.scalar.specs.declared.chart.Lead.the-variants as lead
 use Rattle.scalar.specs.declared.texts.Kind.the-variants.{Utf8}
 use Rattle.scalar.specs.declared.texts.StringRead.{StringRead}
 use Rattle.scalar.specs.declared.texts.StringRead.the-variants.{Content, Refused}
-use Rattle.scalar.specs.Chart.{ranges, rangeOf, leadOf}
+use Rattle.scalar.specs.Scalars.{ranges, rangeOf, leadOf, kindOf}
 use Rattle.scalar.specs.TextAnswers.{sized, measuredAt, toldString}
-use Rattle.record.specs.Items.{Known, Definition, defined}
-use Rattle.record.specs.Reading.{definition, valueFrom}
+use Rattle.record.specs.Records.{Known, Definition, defined, definition, valueFrom, Row, row}
 use Rattle.record.specs.Answers.{base}
-use Rattle.record.specs.Rows.{Row, row}
-use Rattle.record.specs.Placed.{Placed, Got, run, front, on, topped, front-none, front-front}
-use Rattle.record.specs.Definitions.{namesLeft, names-stop, names-step, names-lost, definition-full, definition-nameless, definition-countless, definition-negative, definition-wide, names-in, value-plain, value-defined, value-undefined}
+use Rattle.record.specs.Placed.{Placed, Got, Lost, run, front, on, topped, front-none, front-front}
+use Rattle.record.specs.Definitions.{namesLeft, names-stop, names-step, names-lost, definition-full, definition-nameless, definition-countless, definition-negative, definition-wide, names-in, value-defined, value-undefined}
 use Rattle.reader.specs.declared.heads.Count.{Count}
 use Rattle.reader.specs.declared.heads.Count.the-variants as count
 use Rattle.reader.specs.declared.definitions.ClassRead.{ClassRead}
@@ -32,33 +29,16 @@ use Rattle.reader.specs.declared.definitions.Names.{Names}
 use Rattle.reader.specs.declared.definitions.Names.the-variants as names
 use Rattle.reader.specs.declared.definitions.Out.{Out}
 use Rattle.reader.specs.declared.definitions.Out.the-variants as out
-use Rattle.reader.specs.Inside.{knownIn, At, Kept, Ready, Led, Laid, Moved, Outcomes, defines, CountSays, CountMet, FieldsMet, ClassSays, ClassMet, NamesSay, NamesMet, Defined, DefinitionMet, DefinitionsMet}
+use Rattle.record.specs.KnownArray.{knownIn, Kept, definedIn, defined-room, known-defined, kept-defined, references-stay, classes-counted}
+use Rattle.reader.specs.Inside.{At, Ready, Led, Laid, Moved, Outcomes, CountSays, CountMet, FieldsMet, ClassSays, ClassMet, NamesSay, NamesMet, Defined, DefinitionMet}
 use Rattle.reader.proofs.Moves.{laid-none, laid-on, laid-top, laid-numbers, laid-bytes, moved-none, moved-on}
 use Rattle.reader.proofs.Sizes.{string-within}
+use Rattle.reader.proofs.Leaves.{byte-small}
+use Rattle.reader.proofs.Holders.{among-codes}
 
--- ---- the array of what is known
--- as many classes as it counts
-pub classes-counted : {ks : List ℕ} → Kept ks → length (knownIn ks .classes) ≡ getD ks 256 0
-classes-counted {ks} w = length-take-le (getD ks 256 0) ks (omega (arith, w .sized, w .classes-few))
-
--- one more class
-pub class-defined : (ks : List ℕ) (n : ℕ) → Kept ks → getD ks 256 0 < 256 → Defined ks n (set (set ks (getD ks 256 0) n) 256 (getD ks 256 0 + 1))
-class-defined ks n w l =
-    let g = getD ks 256 0 in
-    let other : (j : ℕ) → 256 < j → getD (set (set ks g n) 256 (g + 1)) j 0 ≡ getD ks j 0 = λ j h.
-    getD-set-other (set ks g n) 256 j (g + 1) 0 (λ e. omega arith) ∙ getD-set-other ks g j n 0 (λ e. omega arith) in
-    let given : getD (set (set ks g n) 256 (g + 1)) 256 0 ≡ g + 1 = getD-set-same (set ks g n) 256 (g + 1) 0 (rw length-set (omega (arith, w .sized))) in
-    let classes : take (getD (set (set ks g n) 256 (g + 1)) 256 0) (set (set ks g n) 256 (g + 1)) ≡ take g ks ++ (n ∷ []) =
-    ap (λ (k : ℕ). take k (set (set ks g n) 256 (g + 1))) (given ∙ add-one g)
-    ∙ take-set-le (suc g) (set ks g n) 256 (g + 1) (omega arith)
-    ∙ take-suc-set ks g n (omega (arith, w .sized)) in
-    let types = other 257 (omega arith) in
-    let references = other 258 (omega arith) in
-    record {
-      known = λ i. record { references = references i; types = types i; classes = classes i };
-      kept = record { sized = length-set (set ks g n) 256 (g + 1) ∙ length-set ks g n ∙ w .sized; classes-few = omega arith; types-few = omega (arith, w .types-few) };
-      references = references;
-    }
+-- ---- one more class
+pub class-defined : (ks : List ℕ) (n : ℕ) (ks′ : List ℕ) → Kept ks → getD ks 256 0 < 256 → ks′ ≡ definedIn ks n → Defined ks n ks′
+class-defined ks n ks′ w l e = subst (Defined ks n) (defined-room ks n l ∙ sym e) (record { known = known-defined ks w n l; kept = kept-defined ks w n l; references = references-stay ks w n l })
 
 -- ---- a class's field count
 pub count-says : {m : List ℕ} {p : ℕ} {x y : Count} → CountMet m p x → x ≡ y → CountSays m p y
@@ -264,54 +244,32 @@ defining-start m at rows ks t b w = record {
   same-bytes = refl;
 }
 
-opens-definition : leadOf 0x43 ≡ lead.Definition
-unfolding leadOf rangeOf ranges pick
-opens-definition = refl
+definition-code : (m : List ℕ) (p : ℕ) → Led m p lead.Definition → getD m p 0 ≡ 0x43
+unfolding leadOf kindOf rangeOf ranges pick
+definition-code m p h = by-cases (eqb (getD m p 0) 0x43)
+    (λ y. eqb-true (getD m p 0) 0x43 y)
+    (λ y. let z = eqb-false (getD m p 0) 0x43 y in
+    absurd (omega (arith, byte-small m p (h .bytes), among-codes lead.Definition 0x43 0x43 256 tt (getD m p 0) (byte-small m p (h .bytes)) (h .lead) z z)))
 
--- 43 stands here, or not
-abbrev Here : List ℕ → ℕ → Type 0
-Here m p = (p < length m) × (getD m p 0 ≡ 0x43)
+module _ {m : List ℕ} {at rows : ℕ} {ks₀ t₀ b₀ ks t b : List ℕ} {here row : ℕ} (R : Defining m at rows ks₀ t₀ b₀ ks t b here row) (l : Led m here lead.Definition)
+    {x : Out} {ks′ t′ b′ : List ℕ} (s : DefinitionMet m here row ks t b x ks′ t′ b′) where
+  pub defining-fault : (y o : ℕ) → x ≡ out.Fault y o → (d : ℕ) → run (byteAt (valueFrom base d)) (knownIn ks₀) m at ≡ Lost y o
+  defining-fault y o g d = sym (R .says d) ∙ ap (front (R .some)) (value-undefined base d (knownIn ks) m here (l .inside) (eq-eqb (getD m here 0) 0x43 (definition-code m here l)) y o (definition-says s g))
 
-defines-yes : (m : List ℕ) (p : ℕ) → defines m p ≡ true → Here m p
-defines-yes m p e = split p (length m)
-    (λ l. (l, eqb-true (getD m p 0) 0x43 (sym (pick-false _ _ (lt-leb (length m) p l)) ∙ e)))
-    (λ l. let z : false ≡ true = sym (pick-true _ _ (le-leb (length m) p l)) ∙ e in let y : _≡_ {A = ℕ} 0 1 = cc in absurd (omega arith))
+  pub defining-forward : (q k : ℕ) → x ≡ out.Done q k → (here < q) × (q ≤ length m)
+  defining-forward q k g = let v = definition-says s g in (v .forward, v .moved .ready .at .within)
 
-defines-no : (m : List ℕ) (p : ℕ) → defines m p ≡ false → p < length m → eqb (getD m p 0) 0x43 ≡ false
-defines-no m p e l = sym (pick-false _ _ (lt-leb (length m) p l)) ∙ e
-
-module _ {m : List ℕ} {at rows : ℕ} {ks₀ t₀ b₀ ks t b : List ℕ} {here row : ℕ} (R : Defining m at rows ks₀ t₀ b₀ ks t b here row) where
-  pub defining-end : (r : Bool) → r ≡ defines m here → not r ≡ true → DefinitionsMet m at rows ks₀ t₀ b₀ (out.Done here row) ks t b
-  defining-end r e f = record {
-    says = record {
-      rows = R .some;
-      says = λ d. sym (R .says d) ∙ ap (front (R .some)) (value-plain base d (knownIn ks) m here (defines-no m here (sym e ∙ not-true r f)));
-      moved = R .moved;
-    };
-  }
-
-  module _ (r : Bool) (e : r ≡ defines m here) (f : not r ≡ false) where
-    stands : Here m here
-    stands = defines-yes m here (sym e ∙ not-false r f)
-
-    pub defining-led : Led m here lead.Definition × Ready m ks here row
-    defining-led = (record { bytes = R .moved .ready .at .bytes; inside = stands .0; lead = ap leadOf (stands .1) ∙ opens-definition }, R .moved .ready)
-
-    module _ {x : Out} {ks′ t′ b′ : List ℕ} (s : DefinitionMet m here row ks t b x ks′ t′ b′) where
-      pub defining-fault : (y o : ℕ) → x ≡ out.Fault y o → DefinitionsMet m at rows ks₀ t₀ b₀ (out.Fault y o) ks′ t′ b′
-      defining-fault y o g = record { says = λ d. sym (R .says d) ∙ ap (front (R .some)) (value-undefined base d (knownIn ks) m here (stands .0) (eq-eqb (getD m here 0) 0x43 (stands .1)) y o (definition-says s g)) }
-
-      pub defining-more : (q k : ℕ) → x ≡ out.Done q k → Defining m at rows ks₀ t₀ b₀ ks′ t′ b′ q k
-      defining-more q k g =
-          let v = definition-says s g in
-          let both : Moved m at rows t₀ b₀ q k ks′ t′ b′ (R .some ++ v .rows) = moved-on (R .moved) (v .moved) in
-          record {
-            some = R .some ++ v .rows;
-            says = λ d.
-                sym (front-front (R .some) (v .rows) (run (byteAt (valueFrom base d)) (knownIn ks′) m q))
-                ∙ ap (front (R .some)) (sym (value-defined base d (knownIn ks) m here (stands .0) (eq-eqb (getD m here 0) 0x43 (stands .1)) q (v .rows) (knownIn ks′) (v .says)))
-                ∙ R .says d;
-            moved = both;
-            same-numbers = laid-numbers (both .laid);
-            same-bytes = laid-bytes (both .laid);
-          }
+  pub defining-more : (q k : ℕ) → x ≡ out.Done q k → Defining m at rows ks₀ t₀ b₀ ks′ t′ b′ q k
+  defining-more q k g =
+      let v = definition-says s g in
+      let both : Moved m at rows t₀ b₀ q k ks′ t′ b′ (R .some ++ v .rows) = moved-on (R .moved) (v .moved) in
+      record {
+        some = R .some ++ v .rows;
+        says = λ d.
+            sym (front-front (R .some) (v .rows) (run (byteAt (valueFrom base d)) (knownIn ks′) m q))
+            ∙ ap (front (R .some)) (sym (value-defined base d (knownIn ks) m here (l .inside) (eq-eqb (getD m here 0) 0x43 (definition-code m here l)) q (v .rows) (knownIn ks′) (v .says)))
+            ∙ R .says d;
+        moved = both;
+        same-numbers = laid-numbers (both .laid);
+        same-bytes = laid-bytes (both .laid);
+      }

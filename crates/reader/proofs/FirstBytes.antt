@@ -1,5 +1,5 @@
 -- A value's head by its first byte: what the contracts of `opening`, `high_head` and `head_at` ask at each way out, one law for each.
-use mathlib.Core.Path.{_≡_, refl, sym, subst, _∙_}
+use mathlib.Core.Path.{_≡_, refl, sym, ap, subst, _∙_}
 use mathlib.Core.Bool.{false}
 use mathlib.Core.List.{List, [], _∷_}
 use Prim.Native.Nat.{ℕ, _+_, _-_, _≤_, _<_}
@@ -7,18 +7,20 @@ use native.Mathlib.Omega.{arith}
 use lib.Dec.{T, eqb}
 use lib.ListN.{length, getD}
 use types.Run.{OneOf, miss}
+use borrow.Author.Tests.{ne-eqb}
 use denote.Enum.Declared.{tagOf}
-use Rattle.flow.specs.Tests.{pick, pick-either}
+use Rattle.flow.specs.Flow.{pick}
+use Rattle.flow.specs.Tests.{pick-either}
+use Rattle.scalar.specs.declared.numbers.Sort.{Sort}
 use Rattle.scalar.specs.declared.numbers.Sort.the-variants.{Int, Long}
 use Rattle.scalar.specs.declared.chart.Lead.{Lead}
 use Rattle.scalar.specs.declared.chart.Lead.the-variants as lead
-use Rattle.scalar.specs.Chart.{ranges, rangeOf, leadOf, kindOf}
+use Rattle.scalar.specs.Scalars.{ranges, rangeOf, leadOf, kindOf}
 use Rattle.scalar.specs.ChartLaws.{lead-in}
-use Rattle.scalar.specs.Scalars.{isScalar}
+use Rattle.scalar.specs.ScalarLaws.{isScalar}
 use Rattle.scalar.proofs.chart.Lead.{the-type}
-use Rattle.record.specs.declared.Group.the-variants.{Pairs}
-use Rattle.record.specs.Items.{Known}
-use Rattle.record.specs.Reading.{Form, leaf}
+use Rattle.record.specs.Records.{Known}
+use Rattle.record.specs.Forms.{Form, leaf}
 use Rattle.record.specs.Answers.{base}
 use Rattle.record.specs.Placed.{run-end}
 use Rattle.record.specs.Leads.{formBy}
@@ -27,7 +29,7 @@ use Rattle.record.specs.Definitions.{below, below-none, plain}
 use Rattle.reader.specs.declared.heads.TypeItem.the-variants.{Untyped}
 use Rattle.reader.specs.declared.heads.Head.{Head}
 use Rattle.reader.specs.declared.heads.Head.the-variants as head
-use Rattle.reader.specs.Inside.{At, Led, High, Holding, Heads, LeafMet, PlainMet, HolderMet}
+use Rattle.reader.specs.Inside.{plan as planOf, At, Led, High, Holding, Heads, Undefined, HeadMet, LeafMet, PlainMet, HolderMet}
 use Rattle.reader.proofs.Leaves.{byte-small, led-form, led-lost}
 use Rattle.reader.proofs.Holders.{map-is}
 
@@ -51,15 +53,15 @@ module _ (m : List ℕ) (p b : ℕ) (h : High m p b) where
   unfolding leadOf kindOf rangeOf ranges pick
   high-long l = record { bytes = h .bytes; inside = h .inside; lead = lead-in 0xd8 0xff (lead.Number Long) tt (getD m p 0) (omega (arith, h .is)) (omega (arith, byte-small m p (h .bytes))) }
 
--- ---- by the numbers of variants: those that hold values; those but for the four with arms of their own; those that open no value
+-- ---- by the numbers of variants: lists and maps; those but for the three with arms of their own; those that open nothing
 abbrev holders : List ℕ
-holders = 3 ∷ 4 ∷ 5 ∷ 6 ∷ 7 ∷ []
+holders = 3 ∷ 4 ∷ 5 ∷ 6 ∷ []
 
 abbrev others : List ℕ
-others = 0 ∷ 1 ∷ 2 ∷ 7 ∷ 8 ∷ 9 ∷ 10 ∷ 11 ∷ []
+others = 0 ∷ 1 ∷ 2 ∷ 6 ∷ 7 ∷ 8 ∷ 9 ∷ 10 ∷ 11 ∷ []
 
 abbrev valueless : List ℕ
-valueless = 9 ∷ 10 ∷ 11 ∷ []
+valueless = 10 ∷ 11 ∷ []
 
 pub held-left : (l : Lead) → OneOf holders (tagOf the-type l) → Holding l
 held-left (lead.Number s) t = miss holders 0 tt t
@@ -69,25 +71,25 @@ held-left lead.List t = tt
 held-left lead.TypedList t = tt
 held-left lead.Map t = tt
 held-left lead.TypedMap t = tt
-held-left lead.Object t = tt
+held-left lead.Object t = miss holders 7 tt t
 held-left lead.Reference t = miss holders 8 tt t
 held-left lead.Definition t = miss holders 9 tt t
 held-left lead.Close t = miss holders 10 tt t
 held-left lead.Reserved t = miss holders 11 tt t
 
-pub object-left : (m : List ℕ) (p : ℕ) (l : Lead) → Led m p l → Holding l → OneOf others (tagOf the-type l) → Led m p lead.Object
-object-left m p lead.List h i t = absurd (miss others 3 tt t)
-object-left m p lead.TypedList h i t = absurd (miss others 4 tt t)
-object-left m p lead.Map h i t = absurd (miss others 5 tt t)
-object-left m p lead.TypedMap h i t = absurd (miss others 6 tt t)
-object-left m p lead.Object h i t = h
-object-left m p (lead.Number s) h i t = absurd i
-object-left m p lead.Text h i t = absurd i
-object-left m p lead.Bytes h i t = absurd i
-object-left m p lead.Reference h i t = absurd i
-object-left m p lead.Definition h i t = absurd i
-object-left m p lead.Close h i t = absurd i
-object-left m p lead.Reserved h i t = absurd i
+pub map-left : (m : List ℕ) (p : ℕ) (l : Lead) → Led m p l → Holding l → OneOf others (tagOf the-type l) → Led m p lead.TypedMap
+map-left m p lead.List h i t = absurd (miss others 3 tt t)
+map-left m p lead.TypedList h i t = absurd (miss others 4 tt t)
+map-left m p lead.Map h i t = absurd (miss others 5 tt t)
+map-left m p lead.TypedMap h i t = h
+map-left m p lead.Object h i t = absurd i
+map-left m p (lead.Number s) h i t = absurd i
+map-left m p lead.Text h i t = absurd i
+map-left m p lead.Bytes h i t = absurd i
+map-left m p lead.Reference h i t = absurd i
+map-left m p lead.Definition h i t = absurd i
+map-left m p lead.Close h i t = absurd i
+map-left m p lead.Reserved h i t = absurd i
 
 -- ---- a list, map or object
 holding-form : (l : Lead) (b : ℕ) → Holding l → T (holds (formBy l b))
@@ -98,43 +100,121 @@ holding-form lead.List b i = pick-either (λ (f : Form). T (holds f)) (eqb b 0x5
 holding-form lead.TypedList b i = pick-either (λ (f : Form). T (holds f)) (eqb b 0x55) (λ y. tt) (λ y. pick-either (λ (f : Form). T (holds f)) (eqb b 0x56) (λ z. tt) (λ z. tt))
 holding-form lead.Map b i = tt
 holding-form lead.TypedMap b i = tt
-holding-form lead.Object b i = pick-either (λ (f : Form). T (holds f)) (eqb b 0x4f) (λ y. tt) (λ y. tt)
+holding-form lead.Object b i = absurd i
 holding-form lead.Reference b i = absurd i
 holding-form lead.Definition b i = absurd i
 holding-form lead.Close b i = absurd i
 holding-form lead.Reserved b i = absurd i
 
+-- ---- whatever opens a value is not 43
+abbrev Plain : Lead → Type 0
+Plain (lead.Number s) = Unit {0}
+Plain lead.Text = Unit {0}
+Plain lead.Bytes = Unit {0}
+Plain lead.List = Unit {0}
+Plain lead.TypedList = Unit {0}
+Plain lead.Map = Unit {0}
+Plain lead.TypedMap = Unit {0}
+Plain lead.Object = Unit {0}
+Plain lead.Reference = Unit {0}
+Plain lead.Definition = ⊥
+Plain lead.Close = Unit {0}
+Plain lead.Reserved = Unit {0}
+
+opens-definition : leadOf 0x43 ≡ lead.Definition
+unfolding leadOf rangeOf ranges pick
+opens-definition = refl
+
+undefined-led : (m : List ℕ) (p : ℕ) (x : Lead) → Led m p x → Plain x → Undefined m p
+undefined-led m p x h i l = ne-eqb (getD m p 0) 0x43 (λ e. subst Plain (sym (h .lead) ∙ ap leadOf e ∙ opens-definition) i)
+
+pub lead-short : (b : ℕ) → b < 0x20 → lead.Text ≡ leadOf b
+unfolding leadOf kindOf rangeOf ranges pick
+lead-short b l = sym (lead-in 0 0x1f lead.Text tt b (omega arith) (omega arith))
+
 module _ (d : ℕ) (m : List ℕ) (c : Known) (p : ℕ) where
+  full : (l : Lead) → Led m p l → T (holds (formBy l (getD m p 0))) → d ≡ 0 → Heads d m c p (head.Wrong 7 p)
+  full l h i e = led-lost m p l h d c 7 p (form-full base (below base d) c m p (h .inside) (formBy l (getD m p 0)) (led-form m p l h) i (below-none base d e))
+
   pub opens-none : (l : Lead) → Led m p l → Holding l → d ≡ 0 → Heads d m c p (head.Wrong 7 p)
-  opens-none l h i e =
-      led-lost m p l h d c 7 p (form-full base (below base d) c m p (h .inside) (formBy l (getD m p 0)) (led-form m p l h) (holding-form l (getD m p 0) i) (below-none base d e))
+  opens-none l h i e = full l h (holding-form l (getD m p 0) i) e
 
   pub opens-one : (r : Head) → HolderMet m c p r → (d ≡ 0 → ⊥) → Heads d m c p r
   opens-one r h z = h .heads d (omega arith)
 
-  pub opens-map : (l : Lead) → Led m p l → l ≡ lead.Map → (d ≡ 0 → ⊥) → Heads d m c p (head.Holder Pairs (p + 1) Untyped)
-  opens-map l h e z = opens-one (head.Holder Pairs (p + 1) Untyped) (map-is m c p (led-as m p l h lead.Map e)) z
+  pub opens-map : (l : Lead) → Led m p l → l ≡ lead.Map → (d ≡ 0 → ⊥) → Heads d m c p (head.Holder (planOf 3 0 0) (p + 1) Untyped)
+  opens-map l h e z = opens-one (head.Holder (planOf 3 0 0) (p + 1) Untyped) (map-is m c p (led-as m p l h lead.Map e)) z
 
-  -- ---- any value
-  pub head-off : length m ≤ p → Heads d m c p (head.Wrong 2 p)
-  head-off l = record { says = run-end (plain base d) c m p l; goes = tt }
+  -- ---- whatever stands at p
+  value : (r : Head) → Heads d m c p r → Undefined m p → HeadMet d m c p r
+  value (head.Leaf k x y q) h u = record { says = (h, u) }
+  value (head.Holder g q of) h u = record { says = (h, u) }
+  value head.Definition h u = absurd (h .goes)
+  value (head.Wrong x o) h u = record { says = (h, u) }
 
-  pub head-leaf : (r : Head) → LeafMet m p r → Heads d m c p r
-  head-leaf r h = h .heads d c
+  pub head-off : (r : Head) → r ≡ head.Wrong 2 p → length m ≤ p → HeadMet d m c p r
+  head-off r e l = rw e (record { says = (record { says = run-end (plain base d) c m p l; goes = tt }, λ i. absurd (omega arith)) })
 
-  pub head-plain : (r : Head) → PlainMet m c p r → Heads d m c p r
-  head-plain r h = h .heads d
+  pub head-high : (b : ℕ) → At m p → p < length m → b ≡ getD m p 0 → 0x80 ≤ b → (r : Head) → LeafMet m p r → HeadMet d m c p r
+  head-high b a i e u r h = value r (h .heads d c) (λ l. ne-eqb (getD m p 0) 0x43 (λ z. omega arith))
 
-  module _ (a : At m p) (i : p < length m) where
-    -- a byte that opens no value
-    pub head-none : (l : Lead) → l ≡ leadOf (getD m p 0) → OneOf valueless (tagOf the-type l) → Heads d m c p (head.Wrong 3 p)
-    unfolding kindOf
-    head-none l is t = go l (led-by m p a i l is l refl) t
+  module _ (a : At m p) (i : p < length m) (l : Lead) (is : l ≡ leadOf (getD m p 0)) where
+    led : (x : Lead) → l ≡ x → Led m p x
+    led x e = led-by m p a i l is x e
+
+    leaf-at : (x : Lead) → Plain x → l ≡ x → (r : Head) → LeafMet m p r → HeadMet d m c p r
+    leaf-at x t e r h = value r (h .heads d c) (undefined-led m p x (led x e) t)
+
+    pub head-number : (s : Sort) → l ≡ lead.Number s → (r : Head) → LeafMet m p r → HeadMet d m c p r
+    head-number s = leaf-at (lead.Number s) tt
+
+    pub head-text : l ≡ lead.Text → (r : Head) → LeafMet m p r → HeadMet d m c p r
+    head-text = leaf-at lead.Text tt
+
+    pub head-bytes : l ≡ lead.Bytes → (r : Head) → LeafMet m p r → HeadMet d m c p r
+    head-bytes = leaf-at lead.Bytes tt
+
+    pub head-reference : l ≡ lead.Reference → (r : Head) → PlainMet m c p r → HeadMet d m c p r
+    head-reference e r h = value r (h .heads d) (undefined-led m p lead.Reference (led lead.Reference e) tt)
+
+    pub head-definition : l ≡ lead.Definition → HeadMet d m c p head.Definition
+    head-definition e = record { says = led lead.Definition e }
+
+    pub head-full : l ≡ lead.Object → d ≡ 0 → (r : Head) → r ≡ head.Wrong 7 p → HeadMet d m c p r
+    head-full e z r s =
+        let h = led lead.Object e in
+        let t : T (holds (formBy lead.Object (getD m p 0))) = pick-either (λ (f : Form). T (holds f)) (eqb (getD m p 0) 0x4f) (λ y. tt) (λ y. tt) in
+        rw s (value (head.Wrong 7 p) (full lead.Object h t z) (undefined-led m p lead.Object h tt))
+
+    pub head-object : l ≡ lead.Object → (d ≡ 0 → ⊥) → (r : Head) → HolderMet m c p r → HeadMet d m c p r
+    head-object e z r h = value r (opens-one r h z) (undefined-led m p lead.Object (led lead.Object e) tt)
+
+    pub head-opening : OneOf holders (tagOf the-type l) → (r : Head) → Heads d m c p r → HeadMet d m c p r
+    head-opening t r h = value r h (undefined-led m p l (led l refl) (go l t))
       where
-        none : (l : Lead) (h : Led m p l) → formBy l (getD m p 0) ≡ leaf → isScalar (getD m p 0) ≡ false → Heads d m c p (head.Wrong 3 p)
-        none l h f s = led-lost m p l h d c 3 p (leaf-none base (below base d) c m p i (led-form m p l h ∙ f) s)
+        go : (l : Lead) → OneOf holders (tagOf the-type l) → Plain l
+        go (lead.Number s) t = tt
+        go lead.Text t = tt
+        go lead.Bytes t = tt
+        go lead.List t = tt
+        go lead.TypedList t = tt
+        go lead.Map t = tt
+        go lead.TypedMap t = tt
+        go lead.Object t = tt
+        go lead.Reference t = tt
+        go lead.Definition t = miss holders 9 tt t
+        go lead.Close t = tt
+        go lead.Reserved t = tt
 
-        go : (l : Lead) → Led m p l → OneOf valueless (tagOf the-type l) → Heads d m c p (head.Wrong 3 p)
+    -- a byte that opens nothing
+    pub head-none : OneOf valueless (tagOf the-type l) → (r : Head) → r ≡ head.Wrong 3 p → HeadMet d m c p r
+    unfolding kindOf
+    head-none t r e = rw e (go l (led l refl) t)
+      where
+        none : (l : Lead) (h : Led m p l) → Plain l → formBy l (getD m p 0) ≡ leaf → isScalar (getD m p 0) ≡ false → HeadMet d m c p (head.Wrong 3 p)
+        none l h u f s = value (head.Wrong 3 p) (led-lost m p l h d c 3 p (leaf-none base (below base d) c m p i (led-form m p l h ∙ f) s)) (undefined-led m p l h u)
+
+        go : (l : Lead) → Led m p l → OneOf valueless (tagOf the-type l) → HeadMet d m c p (head.Wrong 3 p)
         go (lead.Number s) h t = absurd (miss valueless 0 tt t)
         go lead.Text h t = absurd (miss valueless 1 tt t)
         go lead.Bytes h t = absurd (miss valueless 2 tt t)
@@ -144,6 +224,6 @@ module _ (d : ℕ) (m : List ℕ) (c : Known) (p : ℕ) where
         go lead.TypedMap h t = absurd (miss valueless 6 tt t)
         go lead.Object h t = absurd (miss valueless 7 tt t)
         go lead.Reference h t = absurd (miss valueless 8 tt t)
-        go lead.Definition h t = none lead.Definition h refl (rw (h .lead) refl)
-        go lead.Close h t = none lead.Close h refl (rw (h .lead) refl)
-        go lead.Reserved h t = none lead.Reserved h refl (rw (h .lead) refl)
+        go lead.Definition h t = absurd (miss valueless 9 tt t)
+        go lead.Close h t = none lead.Close h tt refl (rw (h .lead) refl)
+        go lead.Reserved h t = none lead.Reserved h tt refl (rw (h .lead) refl)

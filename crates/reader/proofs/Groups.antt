@@ -1,8 +1,9 @@
 -- What the contracts of the small functions in values.rt ask: where values stop, the rows of containers, and what is known when one opens.
-use mathlib.Core.Path.{_≡_, refl, sym, ap, _∙_}
+use mathlib.Core.Path.{_≡_, refl, sym, ap, subst, _∙_}
 use mathlib.Core.Bool.{Bool, false}
 use mathlib.Core.List.{List, [], _∷_}
-use Prim.Native.Nat.{ℕ, suc, _+_, _/_, _%_, _≤_, _<_}
+use mathlib.Core.Logic.{_⊎_, inl, inr}
+use Prim.Native.Nat.{ℕ, zero, suc, _+_, _/_, _%_, _^_, _≤_, _<_}
 use native.Mathlib.Numerals.{add-one}
 use native.Mathlib.Omega.{arith}
 use lib.Dec.{eqb}
@@ -11,17 +12,23 @@ use lib.Seq.{getD-set-same, getD-set-other, take-set-le}
 use mir.Syntax.{w64}
 use mir.Val.{Fits}
 use borrow.Author.Tests.{le-leb, lt-leb, eq-eqb, ne-eqb}
+use Rattle.flow.specs.Flow.{pick}
 use Rattle.flow.specs.Tests.{pick-true, pick-false}
 use Rattle.record.specs.declared.Group.{Group}
-use Rattle.record.specs.declared.Group.the-variants.{Counted, Fields, Open, Pairs}
-use Rattle.record.specs.Items.{opened, typed}
-use Rattle.record.specs.Rows.{row, itemRow}
+use Rattle.record.specs.declared.Group.the-variants.{Counted, Open, Pairs}
+use Rattle.record.specs.Records.{opened, typed, row, itemRow}
 use Rattle.record.specs.Runs.{closes, stops, past, parts}
 use Rattle.record.specs.Values.{heading}
 use Rattle.reader.specs.declared.heads.TypeItem.{TypeItem}
 use Rattle.reader.specs.declared.heads.TypeItem.the-variants.{Untyped, Named, Numbered}
+use Rattle.reader.specs.declared.heads.Plan.{Plan}
+use Rattle.reader.specs.declared.heads.Head.{Head}
+use Rattle.reader.specs.declared.heads.Head.the-variants as head
+use Rattle.reader.specs.declared.values.Begun.{Begun}
+use Rattle.reader.specs.declared.values.Begun.the-variants as begun
 use Rattle.reader.specs.declared.values.Numbers.{Numbers}
-use Rattle.reader.specs.Inside.{knownIn, Kept, Laid, typeOf, typeRows, typeTag, typeSecond, TypeRoom, Entered, HolderRow}
+use Rattle.record.specs.KnownArray.{one-reference, references-more, types-same, known-opened, kept-opened, one-type, references-same, known-typed, kept-typed, knownIn, Kept}
+use Rattle.reader.specs.Inside.{groupOf, plan, Laid, typeOf, typeRows, typeTag, typeSecond, TypeRoom, Entered, HolderRow, Opens, Opened, Fitting, HeadFits, BegunBy}
 use Rattle.reader.proofs.Moves.{laid-none}
 
 -- ---- where values stop
@@ -32,28 +39,56 @@ module _ (m : List ℕ) (p : ℕ) where
   pub closes-in : p < length m → eqb (getD m p 0) 0x5a ≡ closes m p
   closes-in l = sym (pick-false _ _ (lt-leb (length m) p l))
 
-  module _ (g : Group) (i : ℕ) where
-    pub stops-counted : (n : ℕ) → g ≡ Counted n → eqb i n ≡ stops m g i p
-    stops-counted n e = ap (λ (x : Group). stops m x i p) (sym e)
+  -- by the shape of a plan
+  module _ (n k i : ℕ) where
+    few : (s : ℕ) → s < 2 → eqb i n ≡ stops m (groupOf (plan s n k)) i p
+    few zero l = refl
+    few (suc zero) l = refl
+    few (suc (suc s)) l = absurd (omega arith)
 
-    pub stops-fields : (k n : ℕ) → g ≡ Fields k n → eqb i n ≡ stops m g i p
-    stops-fields k n e = ap (λ (x : Group). stops m x i p) (sym e)
+    ended : (s : ℕ) → 2 ≤ s → s < 3 → closes m p ≡ stops m (groupOf (plan s n k)) i p
+    ended zero l h = absurd (omega arith)
+    ended (suc zero) l h = absurd (omega arith)
+    ended (suc (suc zero)) l h = refl
+    ended (suc (suc (suc s))) l h = absurd (omega arith)
+
+    paired : (s : ℕ) → 3 ≤ s → pick (eqb (i % 2) 0) (closes m p) false ≡ stops m (groupOf (plan s n k)) i p
+    paired zero l = absurd (omega arith)
+    paired (suc zero) l = absurd (omega arith)
+    paired (suc (suc zero)) l = absurd (omega arith)
+    paired (suc (suc (suc s))) l = refl
+
+  module _ (g : Plan) (i : ℕ) where
+    pub stops-few : g .shape < 2 → eqb i (g .count) ≡ stops m (groupOf g) i p
+    stops-few l = few (g .count) (g .class) i (g .shape) l
 
     module _ (z : Bool) (is : z ≡ closes m p) where
-      pub stops-open : g ≡ Open → z ≡ stops m g i p
-      stops-open e = is ∙ ap (λ (x : Group). stops m x i p) (sym e)
+      pub stops-open : 2 ≤ g .shape → g .shape < 3 → z ≡ stops m (groupOf g) i p
+      stops-open l h = is ∙ ended (g .count) (g .class) i (g .shape) l h
 
-      pub stops-even : g ≡ Pairs → i % 2 ≡ 0 → z ≡ stops m g i p
-      stops-even e h = is ∙ sym (pick-true _ _ (eq-eqb (i % 2) 0 h)) ∙ ap (λ (x : Group). stops m x i p) (sym e)
+      pub stops-even : 3 ≤ g .shape → i % 2 ≡ 0 → z ≡ stops m (groupOf g) i p
+      stops-even l h = is ∙ sym (pick-true _ _ (eq-eqb (i % 2) 0 h)) ∙ paired (g .count) (g .class) i (g .shape) l
 
-    pub stops-odd : g ≡ Pairs → (i % 2 ≡ 0 → ⊥) → false ≡ stops m g i p
-    stops-odd e h = sym (pick-false _ _ (ne-eqb (i % 2) 0 h)) ∙ ap (λ (x : Group). stops m x i p) (sym e)
+    pub stops-odd : 3 ≤ g .shape → (i % 2 ≡ 0 → ⊥) → false ≡ stops m (groupOf g) i p
+    stops-odd l h = sym (pick-false _ _ (ne-eqb (i % 2) 0 h)) ∙ paired (g .count) (g .class) i (g .shape) l
 
-pub past-open : (g : Group) (p : ℕ) → g ≡ Open → p + 1 ≡ past g p
-past-open g p e = ap (λ (x : Group). past x p) (sym e)
+module _ (g : Plan) (p : ℕ) where
+  pub past-few : g .shape < 2 → p ≡ past (groupOf g) p
+  past-few = go (g .shape)
+    where
+      go : (s : ℕ) → s < 2 → p ≡ past (groupOf (plan s (g .count) (g .class))) p
+      go zero l = refl
+      go (suc zero) l = refl
+      go (suc (suc s)) l = absurd (omega arith)
 
-pub past-pairs : (g : Group) (p : ℕ) → g ≡ Pairs → p + 1 ≡ past g p
-past-pairs g p e = ap (λ (x : Group). past x p) (sym e)
+  pub past-end : 2 ≤ g .shape → p + 1 ≡ past (groupOf g) p
+  past-end = go (g .shape)
+    where
+      go : (s : ℕ) → 2 ≤ s → p + 1 ≡ past (groupOf (plan s (g .count) (g .class))) p
+      go zero l = absurd (omega arith)
+      go (suc zero) l = absurd (omega arith)
+      go (suc (suc zero)) l = refl
+      go (suc (suc (suc s))) l = refl
 
 -- ---- the rows of containers
 pub tag-small : (of : TypeItem) → typeTag of ≤ 1
@@ -61,37 +96,49 @@ tag-small Untyped = omega arith
 tag-small (Named u b) = omega arith
 tag-small (Numbered k) = omega arith
 
-module _ (g : Group) (of : TypeItem) (given i : ℕ) where
-  pub row-fields : (k n : ℕ) → g ≡ Fields k n → HolderRow g of given i (record { kind = 13; first = k; second = i })
-  row-fields k n e = record { is = λ p. ap (λ (x : Group). itemRow p (heading x (typeOf given of) (parts x i))) (sym e) }
+module _ (g : Plan) (of : TypeItem) (given i : ℕ) where
+  abbrev RowBy : ℕ → Numbers → Type 0
+  RowBy s r = HolderRow (groupOf (plan s (g .count) (g .class))) of given i r
+
+  pub row-fields : g .shape ≡ 1 → HolderRow (groupOf g) of given i (record { kind = 13; first = g .class; second = i })
+  row-fields = go (g .shape)
+    where
+      go : (s : ℕ) → s ≡ 1 → RowBy s (record { kind = 13; first = g .class; second = i })
+      go zero e = absurd (omega arith)
+      go (suc zero) e = record { is = λ p. refl }
+      go (suc (suc s)) e = absurd (omega arith)
 
   module _ (tag second : ℕ) (te : tag ≡ typeTag of) (se : second ≡ typeSecond given of) where
-    list-row : (p : ℕ) → row (9 + tag) p i second ≡ itemRow p (heading Open (typeOf given of) i)
-    list-row p = (λ j. row (9 + te j) p i (se j)) ∙ go of
+    pub row-list : (g .shape ≡ 1 → ⊥) → g .shape < 3 → HolderRow (groupOf g) of given i (record { kind = 9 + tag; first = i; second = second })
+    row-list = go (g .shape)
       where
-        go : (of : TypeItem) → row (9 + typeTag of) p i (typeSecond given of) ≡ itemRow p (heading Open (typeOf given of) i)
-        go Untyped = refl
-        go (Named u b) = refl
-        go (Numbered k) = refl
+        listed : (of : TypeItem) (h : Group) (p : ℕ) → (h ≡ Open) ⊎ (h ≡ Counted (g .count)) → row (9 + typeTag of) p i (typeSecond given of) ≡ itemRow p (heading h (typeOf given of) (parts h i))
+        listed Untyped h p (inl e) = rw e refl
+        listed Untyped h p (inr e) = rw e refl
+        listed (Named u b) h p (inl e) = rw e refl
+        listed (Named u b) h p (inr e) = rw e refl
+        listed (Numbered k) h p (inl e) = rw e refl
+        listed (Numbered k) h p (inr e) = rw e refl
 
-    pub row-open : g ≡ Open → HolderRow g of given i (record { kind = 9 + tag; first = i; second = second })
-    row-open e = record { is = λ p. list-row p ∙ ap (λ (x : Group). itemRow p (heading x (typeOf given of) (parts x i))) (sym e) }
+        go : (s : ℕ) → (s ≡ 1 → ⊥) → s < 3 → RowBy s (record { kind = 9 + tag; first = i; second = second })
+        go zero y l = record { is = λ p. (λ j. row (9 + te j) p i (se j)) ∙ listed of (Counted (g .count)) p (inr refl) }
+        go (suc zero) y l = absurd (y refl)
+        go (suc (suc zero)) y l = record { is = λ p. (λ j. row (9 + te j) p i (se j)) ∙ listed of Open p (inl refl) }
+        go (suc (suc (suc s))) y l = absurd (omega arith)
 
-    pub row-counted : (n : ℕ) → g ≡ Counted n → HolderRow g of given i (record { kind = 9 + tag; first = i; second = second })
-    row-counted n e = record { is = λ p. list-row p ∙ go of p ∙ ap (λ (x : Group). itemRow p (heading x (typeOf given of) (parts x i))) (sym e) }
+    pub row-pairs : 3 ≤ g .shape → HolderRow (groupOf g) of given i (record { kind = 11 + tag; first = i / 2; second = second })
+    row-pairs = go (g .shape)
       where
-        go : (of : TypeItem) (p : ℕ) → itemRow p (heading Open (typeOf given of) i) ≡ itemRow p (heading (Counted n) (typeOf given of) i)
-        go Untyped p = refl
-        go (Named u b) p = refl
-        go (Numbered k) p = refl
+        paired-row : (of : TypeItem) (p : ℕ) → row (11 + typeTag of) p (i / 2) (typeSecond given of) ≡ itemRow p (heading Pairs (typeOf given of) (i / 2))
+        paired-row Untyped p = refl
+        paired-row (Named u b) p = refl
+        paired-row (Numbered k) p = refl
 
-    pub row-pairs : g ≡ Pairs → HolderRow g of given i (record { kind = 11 + tag; first = i / 2; second = second })
-    row-pairs e = record { is = λ p. (λ j. row (11 + te j) p (i / 2) (se j)) ∙ go of p ∙ ap (λ (x : Group). itemRow p (heading x (typeOf given of) (parts x i))) (sym e) }
-      where
-        go : (of : TypeItem) (p : ℕ) → row (11 + typeTag of) p (i / 2) (typeSecond given of) ≡ itemRow p (heading Pairs (typeOf given of) (i / 2))
-        go Untyped p = refl
-        go (Named u b) p = refl
-        go (Numbered k) p = refl
+        go : (s : ℕ) → 3 ≤ s → RowBy s (record { kind = 11 + tag; first = i / 2; second = second })
+        go zero l = absurd (omega arith)
+        go (suc zero) l = absurd (omega arith)
+        go (suc (suc zero)) l = absurd (omega arith)
+        go (suc (suc (suc s))) l = record { is = λ p. (λ j. row (11 + te j) p (i / 2) (se j)) ∙ paired-row of p }
 
 pub laid-row : {t b t′ b′ : List ℕ} {k p : ℕ} (g : Group) (of : TypeItem) (given i : ℕ) (r : Numbers) → HolderRow g of given i r → Laid t b k (row (r .kind) p (r .first) (r .second) ∷ []) t′ b′
     → Laid t b k (itemRow p (heading g (typeOf given of) (parts g i)) ∷ []) t′ b′
@@ -110,66 +157,62 @@ module _ (t b : List ℕ) (k p : ℕ) (of : TypeItem) where
 
 -- ---- a container opens
 module _ (ks : List ℕ) (w : Kept ks) where
-  abbrev one-more : List ℕ
-  one-more = set ks 258 (getD ks 258 0 + 1)
-
-  more-references : getD one-more 258 0 ≡ getD ks 258 0 + 1
-  more-references = getD-set-same ks 258 (getD ks 258 0 + 1) 0 (omega (arith, w .sized))
-
-  same-types : getD one-more 257 0 ≡ getD ks 257 0
-  same-types = getD-set-other ks 258 257 (getD ks 258 0 + 1) 0 (λ e. omega arith)
-
-  same-classes : getD one-more 256 0 ≡ getD ks 256 0
-  same-classes = getD-set-other ks 258 256 (getD ks 258 0 + 1) 0 (λ e. omega arith)
-
-  knows-opened : knownIn one-more ≡ opened (knownIn ks)
-  knows-opened =
-      let a : getD one-more 258 0 ≡ suc (getD ks 258 0) = more-references ∙ add-one (getD ks 258 0) in
-      let c : take (getD one-more 256 0) one-more ≡ take (getD ks 256 0) ks = ap (λ (n : ℕ). take n one-more) same-classes ∙ take-set-le (getD ks 256 0) ks 258 (getD ks 258 0 + 1) (omega (arith, w .classes-few)) in
-      λ j. record { references = a j; types = same-types j; classes = c j }
-
-  kept-opened : Kept one-more
-  kept-opened = record {
-    sized = length-set ks 258 (getD ks 258 0 + 1) ∙ w .sized;
-    classes-few = omega (arith, same-classes, w .classes-few);
-    types-few = omega (arith, same-types, w .types-few);
-  }
-
   module _ (of : TypeItem) where
-    pub entered-untyped : of ≡ Untyped → Entered ks of one-more 0
-    entered-untyped e = rw e (record { known = knows-opened; rows = λ p. refl; kept = kept-opened; references = more-references })
+    pub entered-untyped : of ≡ Untyped → Entered ks of (one-reference ks w) 0
+    entered-untyped e = rw e (record { known = known-opened ks w; rows = λ p. refl; kept = kept-opened ks w; references = references-more ks w })
 
-    pub entered-numbered : (k : ℕ) → of ≡ Numbered k → Entered ks of one-more 1
-    entered-numbered k e = rw e (record { known = knows-opened; rows = λ p. refl; kept = kept-opened; references = more-references })
+    pub entered-numbered : (k : ℕ) → of ≡ Numbered k → Entered ks of (one-reference ks w) 1
+    entered-numbered k e = rw e (record { known = known-opened ks w; rows = λ p. refl; kept = kept-opened ks w; references = references-more ks w })
 
     module _ (u b : ℕ) (e : of ≡ Named u b) (r : TypeRoom of (getD ks 257 0)) where
-      type-room : getD ks 257 0 < 256
-      type-room = rw e at r
+      type-room : getD (one-reference ks w) 257 0 < 256
+      type-room = let l : getD ks 257 0 < 256 = rw e at r in omega (arith, types-same ks w)
 
-      types-few : getD one-more 257 0 + 1 ≤ 256
-      types-few = omega (arith, same-types, type-room)
+      pub type-fits : Fits w64 (getD (one-reference ks w) 257 0 + 1)
+      type-fits = omega (arith, type-room)
 
-      pub type-fits : Fits w64 (getD one-more 257 0 + 1)
-      type-fits = omega (arith, types-few)
-
-      pub entered-named : Entered ks of (set one-more 257 (getD one-more 257 0 + 1)) 1
+      pub entered-named : Entered ks of (one-type (one-reference ks w) (kept-opened ks w)) 1
       entered-named =
-          let v = getD one-more 257 0 + 1 in
-          let ks′ = set one-more 257 v in
-          let o = kept-opened in
-          let a : getD ks′ 258 0 ≡ getD one-more 258 0 = getD-set-other one-more 257 258 v 0 (λ e. omega arith) in
-          let n : getD ks′ 257 0 ≡ v = getD-set-same one-more 257 v 0 (omega (arith, o .sized)) in
-          let n′ : getD ks′ 257 0 ≡ suc (getD one-more 257 0) = n ∙ add-one (getD one-more 257 0) in
-          let s : getD ks′ 256 0 ≡ getD one-more 256 0 = getD-set-other one-more 257 256 v 0 (λ e. omega arith) in
-          let c : take (getD ks′ 256 0) ks′ ≡ take (getD one-more 256 0) one-more = ap (λ (n : ℕ). take n ks′) s ∙ take-set-le (getD one-more 256 0) one-more 257 v (omega (arith, o .classes-few)) in
-          let known : knownIn ks′ ≡ typed (knownIn one-more) = λ j. record { references = a j; types = n′ j; classes = c j } in
+          let ks₁ = one-reference ks w in
+          let o = kept-opened ks w in
           rw e (record {
-            known = known ∙ ap typed knows-opened;
+            known = known-typed ks₁ o ∙ ap typed (known-opened ks w);
             rows = λ p. refl;
-            kept = record {
-              sized = length-set one-more 257 v ∙ o .sized;
-              classes-few = omega (arith, s, o .classes-few);
-              types-few = omega (arith, n, types-few);
-            };
-            references = a ∙ more-references;
+            kept = kept-typed ks₁ o type-room;
+            references = references-same ks₁ o ∙ references-more ks w;
           })
+
+-- ---- `within`
+module _ (ks : List ℕ) (of : TypeItem) (p n q : ℕ) (w : Opens ks of p n q) where
+  pub row-fits : Fits w64 (n + 1)
+  row-fits = omega (arith, w .rows-few, w .longer, w .fits)
+
+  pub place-fits : Fits w64 (p + 1)
+  place-fits = omega (arith, w .longer, w .fits)
+
+  pub enter-fits : Kept ks × (getD ks 258 0 + 1 < 2 ^ 64) × TypeRoom of (getD ks 257 0)
+  enter-fits = (w .kept, omega (arith, w .references-few, w .longer, w .fits), w .room)
+
+  pub rows-fit : (ks′ : List ℕ) (more : ℕ) → Entered ks of ks′ more → Fits w64 (n + 1 + more)
+  rows-fit ks′ more e = omega (arith, w .rows-few, w .longer, w .fits, e .rows (p + 1))
+
+-- ---- `by_head`
+module _ (ks t b : List ℕ) (p n : ℕ) (h : Head) where
+  pub head-wrong : (x o : ℕ) → h ≡ head.Wrong x o → BegunBy ks t b p n h (begun.Fault x o) ks t b
+  head-wrong x o e = rw e (record { becomes = refl })
+
+  pub head-leaf : (s x y q : ℕ) → h ≡ head.Leaf s x y q → (t′ b′ : List ℕ) → Laid t b n (row s p x y ∷ []) t′ b′ → BegunBy ks t b p n h (begun.Past q (n + 1)) ks t′ b′
+  head-leaf s x y q e t′ b′ l = rw e (record { becomes = (refl, refl, l) })
+
+  pub head-holder : (g : Plan) (q : ℕ) (of : TypeItem) → h ≡ head.Holder g q of → (r : Begun) (ks′ t′ b′ : List ℕ) → Opened ks t b p n g q of r ks′ t′ b′ → BegunBy ks t b p n h r ks′ t′ b′
+  head-holder g q of e r ks′ t′ b′ w = rw e (record { becomes = w })
+
+  pub head-defined : h ≡ head.Definition → (r : Begun) → BegunBy ks t b p n h r ks t b
+  head-defined e r = rw e (record { becomes = tt })
+
+module _ (ks : List ℕ) (p n : ℕ) (h : Head) (w : HeadFits ks p n h) where
+  pub leaf-fits : (s x y q : ℕ) → h ≡ head.Leaf s x y q → Fits w64 (n + 1)
+  leaf-fits s x y q e = record { fits = subst (Fitting ks p n) e (w .fits) }
+
+  pub holder-fits : (g : Plan) (q : ℕ) (of : TypeItem) → h ≡ head.Holder g q of → Opens ks of p n q
+  holder-fits g q of e = subst (Fitting ks p n) e (w .fits)

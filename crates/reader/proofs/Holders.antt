@@ -12,21 +12,19 @@ use lib.Seq.{length-take-le, getD-take}
 use borrow.Author.Tests.{eq-eqb, ne-eqb, eqb-true, eqb-false, ltb-true, ltb-false}
 use mir.Syntax.{w64}
 use mir.Val.{Fits}
-use Rattle.flow.specs.Tests.{pick, pick-true, pick-false, pick-either, by-cases, implies, implied, neqb, every, every-at}
-use Rattle.flow.specs.Flow.{Done, Fault, One, byteAt}
+use Rattle.flow.specs.Flow.{pick, Done, Fault, One, byteAt}
+use Rattle.flow.specs.Tests.{pick-true, pick-false, pick-either, by-cases, implies, implied, neqb, every, every-at}
 use Rattle.scalar.specs.declared.numbers.Sort.the-variants.{Int}
 use Rattle.scalar.specs.declared.numbers.NumberRead.{NumberRead}
 use Rattle.scalar.specs.declared.numbers.NumberRead.the-variants as number
 use Rattle.scalar.specs.declared.chart.Lead.{Lead}
 use Rattle.scalar.specs.declared.chart.Lead.the-variants as lead
-use Rattle.scalar.specs.Chart.{ranges, rangeOf, leadOf, kindOf}
+use Rattle.scalar.specs.Scalars.{ranges, rangeOf, leadOf, kindOf}
 use Rattle.scalar.specs.ChartLaws.{opens}
-use Rattle.scalar.specs.Numbers.{numberAt}
-use Rattle.scalar.specs.Answers.{told}
-use Rattle.record.specs.declared.Group.{Group}
-use Rattle.record.specs.declared.Group.the-variants.{Counted, Fields, Open, Pairs}
-use Rattle.record.specs.Items.{Known, opened}
-use Rattle.record.specs.Reading.{Opening, Form, few, few-typed, few-object, counted, counted-typed, open-list, open-typed, object, formOf, typeFrom, plainFrom, valueFrom}
+use Rattle.scalar.specs.Answers.{numberAt, told}
+use Rattle.record.specs.declared.Group.the-variants.{Fields}
+use Rattle.record.specs.Records.{Known, opened, Opening, typeFrom, plainFrom, valueFrom}
+use Rattle.record.specs.Forms.{Form, few, few-typed, few-object, counted, counted-typed, open-list, open-typed, object, formOf}
 use Rattle.record.specs.Answers.{base}
 use Rattle.record.specs.Placed.{Placed, Got, Lost, run, front, topped, front-none}
 use Rattle.record.specs.Runs.{rest}
@@ -35,13 +33,15 @@ use Rattle.record.specs.Values.{heading, hasType, form-few, form-open, form-map
 use Rattle.record.specs.Definitions.{below, below-some}
 use Rattle.reader.specs.declared.heads.TypeItem.{TypeItem}
 use Rattle.reader.specs.declared.heads.TypeItem.the-variants.{Untyped}
+use Rattle.reader.specs.declared.heads.Plan.{Plan}
 use Rattle.reader.specs.declared.heads.Head.{Head}
 use Rattle.reader.specs.declared.heads.Head.the-variants as head
 use Rattle.reader.specs.declared.heads.Count.{Count}
 use Rattle.reader.specs.declared.heads.Count.the-variants as count
 use Rattle.reader.specs.declared.heads.TypeRead.{TypeRead}
 use Rattle.reader.specs.declared.heads.TypeRead.the-variants as type-read
-use Rattle.reader.specs.Inside.{Kept, Led, knownIn, CountSays, CountMet, CountFits, typeRows, typedBy, TypeIs, TypeSays, TypeMet, HolderMet, holderOf, ListAt, ListMet, instanceOf}
+use Rattle.record.specs.KnownArray.{Kept, knownIn}
+use Rattle.reader.specs.Inside.{groupOf, plan, Led, CountSays, CountMet, CountFits, typeRows, typedBy, TypeIs, TypeSays, TypeMet, HolderMet, holderOf, ListAt, ListMet, instanceOf}
 use Rattle.reader.proofs.Leaves.{byte-small, number-bad, number-is, number-room, led-form, led-run, led-lost}
 
 -- ---- a list of a count that was read
@@ -52,7 +52,7 @@ module _ (of : TypeItem) (p : ℕ) (n : Count) where
   pub counted-bad : (x o : ℕ) → n ≡ count.Wrong x o → head.Wrong x o ≡ holderOf of p n
   counted-bad x o e = ap (holderOf of p) (sym e)
 
-  pub counted-is : (v k : ℕ) → n ≡ count.Is v k → head.Holder (Counted v) (p + k) of ≡ holderOf of p n
+  pub counted-is : (v k : ℕ) → n ≡ count.Is v k → head.Holder (plan 0 v 0) (p + k) of ≡ holderOf of p n
   counted-is v k e = ap (holderOf of p) (sym e)
 
 pub count-room : (m : List ℕ) (p : ℕ) (n : Count) → Fits w64 (length m) → CountMet m p n → CountFits p n
@@ -63,23 +63,23 @@ count-room m p n f h = go n (h .says)
     go (count.Wrong x o) s = tt
 
 module _ (m : List ℕ) (b code least : ℕ) (of : TypeItem) (p : ℕ) where
-  pub list-opens : b ≡ code → ListMet m b code least of p (head.Holder Open p of)
+  pub list-opens : b ≡ code → ListMet m b code least of p (head.Holder (plan 2 0 0) p of)
   list-opens e = record { opens = λ q. refl; counts = λ q. absurd (omega arith); fews = λ q. absurd (q e) }
 
   pub list-counts : b ≡ code + 1 → (n : Count) → CountMet m p n → (r : Head) → r ≡ holderOf of p n → ListMet m b code least of p r
   list-counts e n h r q = record { opens = λ z. absurd (omega arith); counts = λ z. (n, h, q); fews = λ y z. absurd (z e) }
 
-  pub list-fews : (b ≡ code → ⊥) → (b ≡ code + 1 → ⊥) → (k : ℕ) → k ≡ b - least → ListMet m b code least of p (head.Holder (Counted k) p of)
-  list-fews y z k e = record { opens = λ q. absurd (y q); counts = λ q. absurd (z q); fews = λ u v. ap (λ (k : ℕ). head.Holder (Counted k) p of) e }
+  pub list-fews : (b ≡ code → ⊥) → (b ≡ code + 1 → ⊥) → (k : ℕ) → k ≡ b - least → ListMet m b code least of p (head.Holder (plan 0 k 0) p of)
+  list-fews y z k e = record { opens = λ q. absurd (y q); counts = λ q. absurd (z q); fews = λ u v. ap (λ (k : ℕ). head.Holder (plan 0 k 0) p of) e }
 
   pub list-few : ListAt m b code least p → (b ≡ code → ⊥) → (b ≡ code + 1 → ⊥) → least ≤ b
   list-few h y z = h .among y z
 
 -- ---- the codes that open x: two by themselves, the others from `least` on
-abbrev allAmong : Lead → ℕ → ℕ → ℕ → Bool
+abbrev pub allAmong : Lead → ℕ → ℕ → ℕ → Bool
 allAmong x k j least = every 256 (λ b. implies (opens x b) (implies (not (eqb b k)) (implies (not (eqb b j)) (leb least b))))
 
-among-codes : (x : Lead) (k j least : ℕ) → T (allAmong x k j least) → (b : ℕ) → b < 256 → leadOf b ≡ x → (b ≡ k → ⊥) → (b ≡ j → ⊥) → least ≤ b
+pub among-codes : (x : Lead) (k j least : ℕ) → T (allAmong x k j least) → (b : ℕ) → b < 256 → leadOf b ≡ x → (b ≡ k → ⊥) → (b ≡ j → ⊥) → least ≤ b
 among-codes x k j least t b l e y z =
     leb→le least b
     (implied (not (eqb b j)) (leb least b)
@@ -113,36 +113,36 @@ module _ (m : List ℕ) (c : Known) (p : ℕ) (x : Lead) (h : Led m p x) where
   lost : (y o : ℕ) → ((u : Option (Opening One)) (f : Opening One) → u ≡ some f → Here m c p u ≡ Lost y o) → HolderMet m c p (head.Wrong y o)
   lost y o s = record { heads = λ d l. led-lost m p x h d c y o (s (below base d) (valueFrom base (d - 1)) (below-some base d l)) }
 
-  untyped : (g : Group) (q : ℕ) → p + 1 ≤ q → q ≤ length m
-      → ((u : Option (Opening One)) (f : Opening One) → u ≡ some f → Here m c p u ≡ topped p (heading g none) (run (rest f g 0) (opened c) m q))
+  untyped : (g : Plan) (q : ℕ) → p + 1 ≤ q → q ≤ length m
+      → ((u : Option (Opening One)) (f : Opening One) → u ≡ some f → Here m c p u ≡ topped p (heading (groupOf g) none) (run (rest f (groupOf g) 0) (opened c) m q))
       → HolderMet m c p (head.Holder g q Untyped)
   untyped g q i w s = record {
     heads = λ d l. record {
       says =
           led-run m p x h d c
           ∙ s (below base d) (valueFrom base (d - 1)) (below-some base d l)
-          ∙ ap (topped p (heading g none)) (sym (front-none (run (rest (valueFrom base (d - 1)) g 0) (opened c) m q)));
+          ∙ ap (topped p (heading (groupOf g) none)) (sym (front-none (run (rest (valueFrom base (d - 1)) (groupOf g) 0) (opened c) m q)));
       goes = (l, tt, omega arith, w);
     };
   }
 
   -- after a type
-  typed-by : (g : Group) (of : TypeItem) (e q : ℕ) → (t : TypeIs m (c .types) (p + 1) of e) → e ≤ q → q ≤ length m
-      → ((u : Option (Opening One)) (f : Opening One) → u ≡ some f → Here m c p u ≡ topped p (heading g (some (t .number))) (front (typeRows (p + 1) of) (run (rest f g 0) (typedBy of (opened c)) m q)))
+  typed-by : (g : Plan) (of : TypeItem) (e q : ℕ) → (t : TypeIs m (c .types) (p + 1) of e) → e ≤ q → q ≤ length m
+      → ((u : Option (Opening One)) (f : Opening One) → u ≡ some f → Here m c p u ≡ topped p (heading (groupOf g) (some (t .number))) (front (typeRows (p + 1) of) (run (rest f (groupOf g) 0) (typedBy of (opened c)) m q)))
       → HolderMet m c p (head.Holder g q of)
   typed-by g of e q t i w s = record {
     heads = λ d l. record {
       says =
           led-run m p x h d c
           ∙ s (below base d) (valueFrom base (d - 1)) (below-some base d l)
-          ∙ ap (λ (n : Option ℕ). topped p (heading g n) (front (typeRows (p + 1) of) (run (rest (valueFrom base (d - 1)) g 0) (typedBy of (opened c)) m q))) (sym (t .numbered));
+          ∙ ap (λ (n : Option ℕ). topped p (heading (groupOf g) n) (front (typeRows (p + 1) of) (run (rest (valueFrom base (d - 1)) (groupOf g) 0) (typedBy of (opened c)) m q))) (sym (t .numbered));
       goes = (l, t .room, omega (arith, t .longer), w);
     };
   }
 
 -- ---- lists: by their code, and by the count
 module _ (m : List ℕ) (c : Known) (p : ℕ) (of : TypeItem) (q : ℕ) where
-  by-count : ((v k : ℕ) → numberAt Int m q ≡ Done k v [] tt → v < 2 ^ 63 → q + k ≤ length m → HolderMet m c p (head.Holder (Counted v) (q + k) of))
+  by-count : ((v k : ℕ) → numberAt Int m q ≡ Done k v [] tt → v < 2 ^ 63 → q + k ≤ length m → HolderMet m c p (head.Holder (plan 0 v 0) (q + k) of))
       → ((x o : ℕ) → numberAt Int m q ≡ Fault x o → HolderMet m c p (head.Wrong x o))
       → ((v k : ℕ) → numberAt Int m q ≡ Done k v [] tt → 2 ^ 63 ≤ v → HolderMet m c p (head.Wrong 5 q))
       → (n : Count) → CountSays m q n → HolderMet m c p (holderOf of q n)
@@ -151,9 +151,9 @@ module _ (m : List ℕ) (c : Known) (p : ℕ) (of : TypeItem) (q : ℕ) where
   by-count f g z (count.Wrong x o) (inr e) = rw (e .number, e .place) (z (e .value) (e .size) (e .is) (e .below))
 
   by-code : (code least : ℕ) (a b : Form) (f : ℕ → Form) → formOf (getD m p 0) ≡ pick (eqb (getD m p 0) code) a (pick (eqb (getD m p 0) (code + 1)) b (f (getD m p 0 - least)))
-      → (formOf (getD m p 0) ≡ a → HolderMet m c p (head.Holder Open q of))
+      → (formOf (getD m p 0) ≡ a → HolderMet m c p (head.Holder (plan 2 0 0) q of))
       → (formOf (getD m p 0) ≡ b → (n : Count) → CountSays m q n → HolderMet m c p (holderOf of q n))
-      → ((n : ℕ) → formOf (getD m p 0) ≡ f n → HolderMet m c p (head.Holder (Counted n) q of))
+      → ((n : ℕ) → formOf (getD m p 0) ≡ f n → HolderMet m c p (head.Holder (plan 0 n 0) q of))
       → (r : Head) → ListMet m (getD m p 0) code least of q r → HolderMet m c p r
   by-code code least a b f e u v w r t = by-cases (eqb (getD m p 0) code)
       (λ y. rw (t .opens (eqb-true (getD m p 0) code y)) (u (e ∙ pick-true _ _ y)))
@@ -165,15 +165,15 @@ module _ (m : List ℕ) (c : Known) (p : ℕ) (of : TypeItem) (q : ℕ) where
 module _ (m : List ℕ) (c : Known) (p : ℕ) where
   pub list-is : Led m p lead.List → (r : Head) → ListMet m (getD m p 0) 0x57 0x78 Untyped (p + 1) r → HolderMet m c p r
   list-is h = by-code m c p Untyped (p + 1) 0x57 0x78 open-list counted few (led-form m p lead.List h)
-      (λ e. untyped m c p lead.List h Open (p + 1) (omega arith) (omega (arith, h .inside)) (λ u f w. form-open base u c m p (h .inside) f w e))
+      (λ e. untyped m c p lead.List h (plan 2 0 0) (p + 1) (omega arith) (omega (arith, h .inside)) (λ u f w. form-open base u c m p (h .inside) f w e))
       (λ e. by-count m c p Untyped (p + 1)
-      (λ v k s i l. untyped m c p lead.List h (Counted v) (p + 1 + k) (omega arith) l (λ u f w. form-counted base u c m p (h .inside) f w e k v s i))
+      (λ v k s i l. untyped m c p lead.List h (plan 0 v 0) (p + 1 + k) (omega arith) l (λ u f w. form-counted base u c m p (h .inside) f w e k v s i))
       (λ x o s. lost m c p lead.List h x o (λ u f w. form-counted-lost base u c m p (h .inside) f w e x o s))
       (λ v k s i. lost m c p lead.List h 5 (p + 1) (λ u f w. form-counted-negative base u c m p (h .inside) f w e k v s i)))
-      (λ n e. untyped m c p lead.List h (Counted n) (p + 1) (omega arith) (omega (arith, h .inside)) (λ u f w. form-few base u c m p (h .inside) f w n e))
+      (λ n e. untyped m c p lead.List h (plan 0 n 0) (p + 1) (omega arith) (omega (arith, h .inside)) (λ u f w. form-few base u c m p (h .inside) f w n e))
 
-  pub map-is : Led m p lead.Map → HolderMet m c p (head.Holder Pairs (p + 1) Untyped)
-  map-is h = untyped m c p lead.Map h Pairs (p + 1) (omega arith) (omega (arith, h .inside)) (λ u f w. form-map base u c m p (h .inside) f w (led-form m p lead.Map h))
+  pub map-is : Led m p lead.Map → HolderMet m c p (head.Holder (plan 3 0 0) (p + 1) Untyped)
+  map-is h = untyped m c p lead.Map h (plan 3 0 0) (p + 1) (omega arith) (omega (arith, h .inside)) (λ u f w. form-map base u c m p (h .inside) f w (led-form m p lead.Map h))
 
 -- ---- with a type
 module _ (m : List ℕ) (c : Known) (p : ℕ) (r : TypeRead) (t : TypeMet m (c .types) (p + 1) r) where
@@ -195,22 +195,22 @@ module _ (m : List ℕ) (c : Known) (p : ℕ) (r : TypeRead) (t : TypeMet m (c .
     reads : run (byteAt (typeFrom base)) (opened c) m (p + 1) ≡ Got q (there .number) (typeRows (p + 1) of) (typedBy of (opened c))
     reads = there .says (opened c) refl
 
-    pub typed-map-is : Led m p lead.TypedMap → HolderMet m c p (head.Holder Pairs q of)
-    typed-map-is h = typed-by m c p lead.TypedMap h Pairs of q q there (omega arith) (there .within)
+    pub typed-map-is : Led m p lead.TypedMap → HolderMet m c p (head.Holder (plan 3 0 0) q of)
+    typed-map-is h = typed-by m c p lead.TypedMap h (plan 3 0 0) of q q there (omega arith) (there .within)
         (λ u f w. form-typed-map base u c m p (h .inside) f w q (there .number) (typeRows (p + 1) of) (typedBy of (opened c)) reads (led-form m p lead.TypedMap h))
 
     pub typed-list-is : Led m p lead.TypedList → (i : Head) → ListMet m (getD m p 0) 0x55 0x70 of q i → HolderMet m c p i
     typed-list-is h = by-code m c p of q 0x55 0x70 open-typed counted-typed few-typed (led-form m p lead.TypedList h)
-        (λ e. typed-by m c p lead.TypedList h Open of q q there (omega arith) (there .within)
+        (λ e. typed-by m c p lead.TypedList h (plan 2 0 0) of q q there (omega arith) (there .within)
         (λ u f w. form-open-typed base u c m p (h .inside) f w q (there .number) (typeRows (p + 1) of) (typedBy of (opened c)) reads e))
         (λ e. by-count m c p of q
-        (λ v k s i l. typed-by m c p lead.TypedList h (Counted v) of q (q + k) there (omega arith) l
+        (λ v k s i l. typed-by m c p lead.TypedList h (plan 0 v 0) of q (q + k) there (omega arith) l
         (λ u f w. form-counted-typed base u c m p (h .inside) f w q (there .number) (typeRows (p + 1) of) (typedBy of (opened c)) reads e (there .within) k v s i))
         (λ x o s. lost m c p lead.TypedList h x o
         (λ u f w. form-counted-typed-lost base u c m p (h .inside) f w q (there .number) (typeRows (p + 1) of) (typedBy of (opened c)) reads e (there .within) x o s))
         (λ v k s i. lost m c p lead.TypedList h 5 q
         (λ u f w. form-counted-typed-negative base u c m p (h .inside) f w q (there .number) (typeRows (p + 1) of) (typedBy of (opened c)) reads e (there .within) k v s i)))
-        (λ n e. typed-by m c p lead.TypedList h (Counted n) of q q there (omega arith) (there .within)
+        (λ n e. typed-by m c p lead.TypedList h (plan 0 n 0) of q q there (omega arith) (there .within)
         (λ u f w. form-few-typed base u c m p (h .inside) f w q (there .number) (typeRows (p + 1) of) (typedBy of (opened c)) reads n e))
 
 -- ---- objects, where ks keeps what is known
@@ -225,7 +225,7 @@ module _ (m ks : List ℕ) (p : ℕ) (h : Led m p lead.Object) (z : Kept ks) whe
       → (i : Head) → i ≡ instanceOf ks p k q → HolderMet m (knownIn ks) p i
   by-class k q a b s t i e = rw e (pick-either (HolderMet m (knownIn ks) p) (ltb k (getD ks 256 0))
       (λ y. let l = ltb-true k (getD ks 256 0) y in
-      untyped m (knownIn ks) p lead.Object h (Fields k (getD ks k 0)) q a b (λ u f w. s u f w (getD ks k 0) (sym (getD-take (getD ks 256 0) ks k 0 l)) (omega (arith, classes))))
+      untyped m (knownIn ks) p lead.Object h (plan 1 (getD ks k 0) k) q a b (λ u f w. s u f w (getD ks k 0) (sym (getD-take (getD ks 256 0) ks k 0 l)) (omega (arith, classes))))
       (λ y. let l = ltb-false k (getD ks 256 0) y in lost m (knownIn ks) p lead.Object h 6 p (λ u f w. t u f w (omega (arith, classes)))))
 
   pub object-short : (getD m p 0 ≡ 0x4f → ⊥) → (k : ℕ) → k ≡ getD m p 0 - 0x60 → (i : Head) → i ≡ instanceOf ks p k (p + 1) → HolderMet m (knownIn ks) p i

@@ -8,8 +8,7 @@ use native.Mathlib.Omega.{arith}
 use lib.ListN.{length, getD}
 use mir.Syntax.{w64}
 use mir.Val.{Fits}
-use Rattle.flow.specs.Tests.{Bytes}
-use Rattle.flow.specs.Flow.{Done, Fault, byteAt}
+use Rattle.flow.specs.Flow.{Bytes, Done, Fault, byteAt}
 use Rattle.scalar.specs.declared.numbers.Sort.{Sort}
 use Rattle.scalar.specs.declared.numbers.Sort.the-variants.{Int}
 use Rattle.scalar.specs.declared.numbers.NumberRead.{NumberRead}
@@ -22,17 +21,15 @@ use Rattle.scalar.specs.declared.chart.Lead.{Lead}
 use Rattle.scalar.specs.declared.chart.Lead.the-variants as lead
 use Rattle.scalar.specs.declared.numbers.Rule.the-variants.{Exactly}
 use Rattle.scalar.specs.declared.numbers.Begun.the-variants.{Starts, NoForm}
-use Rattle.scalar.specs.Chart.{followOf}
+use Rattle.scalar.specs.Answers.{followOf, numberAt, told}
 use Rattle.scalar.specs.ChartLaws.{number-lead}
-use Rattle.scalar.specs.Numbers.{Form, form, inside, value, formsOf, formAt, numberAt}
+use Rattle.scalar.specs.Scalars.{Form, form, inside, value, formsOf, formAt, sortKind}
 use Rattle.scalar.specs.NumberLaws.{form-here, form-skip}
 use Rattle.scalar.specs.NumberAt.{number-there}
 use Rattle.scalar.specs.NumberTheorems.{within-message}
-use Rattle.scalar.specs.Answers.{told}
 use Rattle.scalar.specs.TextAnswers.{sized, measuredAt, toldString}
-use Rattle.record.specs.Items.{Known}
-use Rattle.record.specs.Reading.{formOf, plainFrom}
-use Rattle.record.specs.Rows.{row, sortKind}
+use Rattle.record.specs.Records.{Known, plainFrom, row}
+use Rattle.record.specs.Forms.{formOf}
 use Rattle.record.specs.Answers.{base}
 use Rattle.record.specs.Placed.{Got, Lost, run, run-byte}
 use Rattle.record.specs.Leads.{formBy, form-lead}

@@ -7,14 +7,10 @@ use lib.ListN.{length, getD, replicate}
 use mir.Syntax.{w8}
 use mir.Val.{Fits}
 use Rattle.flow.specs.Tests.{bytes-all}
-use Rattle.flow.specs.Flow.{One, byteAt}
-use Rattle.flow.specs.Overlay.{overlay}
+use Rattle.flow.specs.Flow.{One, byteAt, overlay}
 use Rattle.record.specs.declared.Group.the-variants.{Counted}
-use Rattle.record.specs.Items.{Known, start}
-use Rattle.record.specs.Reading.{Opening, valueFrom}
-use Rattle.record.specs.Rows.{Row}
-use Rattle.record.specs.Answers.{ReadAnswer, Accept, Refuse, read, base}
-use Rattle.record.specs.Tables.{asNumbers, asBytes, reportRead, filled}
+use Rattle.record.specs.Records.{Known, start, Opening, valueFrom, Row}
+use Rattle.record.specs.Answers.{ReadAnswer, Accept, Refuse, read, base, asNumbers, asBytes, reportRead, filled}
 use Rattle.record.specs.Placed.{Placed, Got, Lost, run, on, on-same}
 use Rattle.record.specs.Runs.{rest, rest-step, rest-stop}
 use Rattle.record.specs.Whole.{read-empty, read-long, read-lost, read-over, read-small, read-got}
@@ -23,7 +19,8 @@ use Rattle.reader.specs.declared.values.Values.the-variants as values
 use Rattle.reader.specs.declared.Judged.{Judged}
 use Rattle.reader.specs.declared.Judged.the-variants as judged
 use Rattle.reader.specs.declared.ReadAnswer.the-variants as answer
-use Rattle.reader.specs.Inside.{knownIn, Ready, ValuesSay, ValuesMet, Record, JudgeSays, Judges, ReadsInto}
+use Rattle.record.specs.KnownArray.{knownIn}
+use Rattle.reader.specs.Inside.{Ready, ValuesSay, ValuesMet, Record, JudgeSays, Judges, ReadsInto}
 
 -- ---- before the first byte nothing is known
 abbrev blank : List ℕ

@@ -4,10 +4,10 @@ use mathlib.Core.List.{List, [], _∷_, _++_}
 use Prim.Native.Nat.{ℕ, _+_}
 use native.Mathlib.Omega.{arith}
 use lib.ListN.{length, length-append}
-use Rattle.flow.specs.Overlay.{put, overlay}
+use Rattle.flow.specs.Flow.{put, overlay}
 use Rattle.flow.specs.OverlayLaws.{overlay-cons, overlay-append, length-overlay}
-use Rattle.record.specs.Rows.{Row}
-use Rattle.record.specs.Tables.{asNumbers, asBytes}
+use Rattle.record.specs.Records.{Row}
+use Rattle.record.specs.Answers.{asNumbers, asBytes}
 use Rattle.record.specs.TableLaws.{bytes-sized}
 use Rattle.reader.specs.Inside.{Laid, Ready, Moved}
 

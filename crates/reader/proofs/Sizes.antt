@@ -4,12 +4,12 @@ use mathlib.Core.List.{List, []}
 use Prim.Native.Nat.{ℕ, _+_, _≤_, _<_}
 use native.Mathlib.Omega.{arith}
 use lib.ListN.{length}
-use Rattle.flow.specs.Tests.{Bytes}
-use Rattle.flow.specs.Flow.{Answer, Done, Fault, renamed}
+use Rattle.flow.specs.Flow.{Bytes, Done, Fault}
+use Rattle.flow.specs.Steps.{Answer, renamed}
 use Rattle.scalar.specs.declared.texts.Kind.{Kind}
 use Rattle.scalar.specs.declared.texts.StringRead.{StringRead}
 use Rattle.scalar.specs.declared.texts.StringRead.the-variants.{Content}
-use Rattle.scalar.specs.Texts.{stringAt}
+use Rattle.scalar.specs.Scalars.{stringAt}
 use Rattle.scalar.specs.TextAnswers.{sized, sizes, measuredAt, toldString}
 use Rattle.scalar.specs.TextTheorems.{text-within}
 

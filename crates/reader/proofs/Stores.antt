@@ -4,12 +4,12 @@ use mathlib.Core.List.{List, [], _∷_, _++_}
 use Prim.Native.Nat.{ℕ, suc, _+_, _*_, _/_, _%_, _≤_, _<_}
 use native.Mathlib.Omega.{arith}
 use lib.ListN.{length, set, length-append}
-use Rattle.flow.specs.Overlay.{stored, put}
+use Rattle.flow.specs.Flow.{stored, put}
 use Rattle.flow.specs.OverlayLaws.{stored-out, stored-sets, length-stored, stored-seam}
 use Rattle.wire.specs.BigEndian.{be}
 use Rattle.wire.specs.Laws.{be-length}
-use Rattle.record.specs.Rows.{Row, row}
-use Rattle.record.specs.Tables.{asNumbers, asBytes}
+use Rattle.record.specs.Records.{Row, row}
+use Rattle.record.specs.Answers.{asNumbers, asBytes}
 use Rattle.record.specs.TableLaws.{bytes-sized}
 use Rattle.reader.specs.Inside.{Laid}
 use Rattle.reader.proofs.Moves.{laid-one}

@@ -15,14 +15,11 @@ use Rattle.scalar.specs.declared.texts.StringRead.{StringRead}
 use Rattle.scalar.specs.declared.texts.StringRead.the-variants as string
 use Rattle.scalar.specs.declared.chart.Lead.{Lead}
 use Rattle.scalar.specs.declared.chart.Lead.the-variants as lead
-use Rattle.scalar.specs.Chart.{leadOf, kindOf, entry}
+use Rattle.scalar.specs.Scalars.{leadOf, kindOf, isText}
+use Rattle.scalar.specs.Answers.{entry, numberAt, told}
 use Rattle.scalar.specs.ChartLaws.{kind-is, entry-parts}
-use Rattle.scalar.specs.Scalars.{isText}
-use Rattle.scalar.specs.Numbers.{numberAt}
-use Rattle.scalar.specs.Answers.{told}
 use Rattle.scalar.specs.TextAnswers.{measuredAt, toldString}
-use Rattle.record.specs.Items.{typed}
-use Rattle.record.specs.Rows.{row}
+use Rattle.record.specs.Records.{typed, row}
 use Rattle.record.specs.Answers.{base}
 use Rattle.record.specs.Placed.{Got}
 use Rattle.record.specs.Parts.{type-end, type-full, type-name, type-name-lost, type-number, type-ungiven, type-number-lost}

@@ -5,18 +5,19 @@ use mathlib.Core.List.{List, [], _∷_, _++_, append-nil}
 use Prim.Native.Nat.{ℕ, _+_, _-_, _^_, _≤_, _<_}
 use native.Mathlib.Omega.{arith}
 use lib.ListN.{length, getD, length-append}
-use mir.Syntax.{w64}
-use mir.Val.{Fits}
+use types.Run.{OneOf, miss}
+use denote.Enum.Declared.{tagOf}
 use Rattle.flow.specs.Flow.{One, byteAt}
 use Rattle.record.specs.declared.Group.{Group}
-use Rattle.record.specs.Items.{Known}
-use Rattle.record.specs.Reading.{valueFrom}
-use Rattle.record.specs.Rows.{Row, row, itemRow}
+use Rattle.record.specs.Records.{Known, valueFrom, Row, row, itemRow}
 use Rattle.record.specs.Answers.{base}
 use Rattle.record.specs.Placed.{Placed, Got, Lost, run, front, on, topped, front-none, front-front}
 use Rattle.record.specs.Runs.{rest, stops, past, parts, Room, room-first, room-next, past-within, rest-stop, rest-step}
 use Rattle.record.specs.Values.{heading}
+use Rattle.record.specs.Definitions.{value-plain}
+use Rattle.scalar.specs.declared.chart.Lead.the-variants as lead
 use Rattle.reader.specs.declared.heads.TypeItem.{TypeItem}
+use Rattle.reader.specs.declared.heads.Plan.{Plan}
 use Rattle.reader.specs.declared.heads.Head.{Head}
 use Rattle.reader.specs.declared.heads.Head.the-variants as head
 use Rattle.reader.specs.declared.definitions.Out.{Out}
@@ -25,117 +26,126 @@ use Rattle.reader.specs.declared.values.Begun.{Begun}
 use Rattle.reader.specs.declared.values.Begun.the-variants as begun
 use Rattle.reader.specs.declared.values.Values.{Values}
 use Rattle.reader.specs.declared.values.Values.the-variants as values
-use Rattle.reader.specs.Inside.{knownIn, At, Kept, Ready, Laid, Moved, typeOf, typeRows, TypeRoom, Entered, meant, HeadGoes, Heads, Went, DefinitionsSay, DefinitionsMet, Passed, Inner, BeginSays, BeginMet, ValuesAre, ValuesSay, ValuesMet}
+use Rattle.record.specs.KnownArray.{knownIn}
+use Rattle.reader.specs.Inside.{groupOf, Led, Ready, Laid, Moved, typeOf, typeRows, Entered, meant, Heads, Undefined, HeadSays, HeadMet, Went, DefinitionMet, Fitting, HeadFits, Becomes, BegunBy, Inner, BeginSays, BeginMet, ValuesAre, ValuesSay, ValuesMet}
+use Rattle.reader.proofs.heads.Head.{the-type}
+use Rattle.reader.proofs.Classes.{Defining, defining-fault, defining-forward, defining-more}
 use Rattle.reader.proofs.Moves.{laid-on, laid-top, laid-numbers, laid-bytes, moved-none, moved-on}
 
--- ---- begin
-module _ (d : ℕ) (m : List ℕ) (p n : ℕ) (ks t b : List ℕ) (r : Out) (ks₁ t₁ b₁ : List ℕ) (a : DefinitionsMet m p n ks t b r ks₁ t₁ b₁) where
-  pub begin-undefined : (x y : ℕ) → r ≡ out.Fault x y → BeginMet d m p n ks t b (begun.Fault x y) ks₁ t₁ b₁
-  begin-undefined x y e = record { says = subst (λ (z : Out). DefinitionsSay m p n ks t b z ks₁ t₁ b₁) e (a .says) d }
+-- a head's variants but for a definition
+abbrev values-only : List ℕ
+values-only = 0 ∷ 1 ∷ 3 ∷ []
 
-  module _ (q k : ℕ) (e : r ≡ out.Done q k) where
-    passed-defs : Passed m p n ks t b q k ks₁ t₁ b₁
-    passed-defs = subst (λ (z : Out). DefinitionsSay m p n ks t b z ks₁ t₁ b₁) e (a .says)
+-- ---- begin, after the definitions up to q and the row k
+module _ (d : ℕ) (m : List ℕ) (p n : ℕ) (ks t b ks₁ t₁ b₁ : List ℕ) (q k : ℕ) (R : Defining m p n ks t b ks₁ t₁ b₁ q k) where
+  -- by the head of the value there
+  by-head : (h : Head) → Heads d m (knownIn ks₁) q h → Undefined m q → run (byteAt (valueFrom base d)) (knownIn ks) m p ≡ front (R .some) (meant d m (knownIn ks₁) q h)
+  by-head h z u = sym (R .says d) ∙ ap (front (R .some)) (value-plain base d (knownIn ks₁) m q u ∙ z .says)
 
-    pub defs-ready : Ready m ks₁ q k
-    defs-ready = passed-defs .moved .ready
+  leaf-begun : (s x y q′ : ℕ) → Heads d m (knownIn ks₁) q (head.Leaf s x y q′) → Undefined m q → (t₂ b₂ : List ℕ) → Laid t₁ b₁ k (row s q x y ∷ []) t₂ b₂ → BeginMet d m p n ks t b (begun.Past q′ (k + 1)) ks₁ t₂ b₂
+  leaf-begun s x y q′ z u t₂ b₂ l =
+      let g = z .goes in
+      let w = R .moved .ready in
+      let one : Moved m q k t₁ b₁ q′ (k + 1) ks₁ t₂ b₂ (row s q x y ∷ []) = record {
+        counted = omega arith;
+        laid = l;
+        onward = omega (arith, g .0);
+        ready = record { at = record { bytes = w .at .bytes; within = g .1 }; kept = w .kept; rows-few = omega (arith, w .rows-few, g .0); references-few = omega (arith, w .references-few, g .0) };
+      } in
+      record {
+        says = record {
+          rows = R .some ++ (row s q x y ∷ []);
+          says = by-head (head.Leaf s x y q′) z u;
+          moved = moved-on (R .moved) one;
+          forward = omega (arith, R .moved .onward, g .0);
+        };
+      }
 
-    pub defs-kept : At m q × Kept ks₁
-    defs-kept = (defs-ready .at, defs-ready .kept)
+  holder-begun : (g : Plan) (q′ : ℕ) (of : TypeItem) → Heads d m (knownIn ks₁) q (head.Holder g q′ of) → Undefined m q → (ks₂ : List ℕ) (more : ℕ) → Entered ks₁ of ks₂ more
+      → (t₂ b₂ : List ℕ) → Laid t₁ b₁ (k + 1) (typeRows (q + 1) of) t₂ b₂ → BeginMet d m p n ks t b (begun.Within q k g of (getD ks₁ 257 0) q′ (k + 1 + more)) ks₂ t₂ b₂
+  holder-begun g q′ of z u ks₂ more w t₂ b₂ l =
+      let y = z .goes in
+      let v = R .moved .ready in
+      record {
+        says = record {
+          before = R .some;
+          says =
+              by-head (head.Holder g q′ of) z u
+              ∙ ap (λ (c : Known). front (R .some) (topped q (heading (groupOf g) (typeOf (getD ks₁ 257 0) of)) (front (typeRows (q + 1) of) (run (rest (valueFrom base (d - 1)) (groupOf g) 0) c m q′))))
+              (sym (w .known));
+          first = R .moved .counted;
+          counted = ap (λ (v : ℕ). k + 1 + v) (w .rows (q + 1));
+          between-t = t₁;
+          between-b = b₁;
+          laid-before = R .moved .laid;
+          laid = l;
+          onward = R .moved .onward;
+          deeper = omega (arith, y .2);
+          open-one = y .0;
+          ready = record {
+            at = record { bytes = v .at .bytes; within = y .3 };
+            kept = w .kept;
+            rows-few = omega (arith, y .2, v .rows-few, w .rows (q + 1));
+            references-few = omega (arith, w .references, v .references-few, y .2);
+          };
+        };
+      }
 
-    module _ (h : Head) (z : Heads d m (knownIn ks₁) q h) where
-      begun-as : (h′ : Head) → h ≡ h′ → run (byteAt (valueFrom base d)) (knownIn ks) m p ≡ front (passed-defs .rows) (meant d m (knownIn ks₁) q h′)
-      begun-as h′ i = passed-defs .says d ∙ ap (λ (o : Placed One). front (passed-defs .rows) o) (z .says ∙ ap (λ (y : Head). meant d m (knownIn ks₁) q y) i)
+  -- what stands there
+  module _ (h : Head) (z : HeadMet d m (knownIn ks₁) q h) where
+    module _ (e : h ≡ head.Definition) where
+      pub begin-led : Led m q lead.Definition × Ready m ks₁ q k
+      begin-led = (subst (HeadSays d m (knownIn ks₁) q) e (z .says), R .moved .ready)
 
-      pub begin-wrong : (x y : ℕ) → h ≡ head.Wrong x y → BeginMet d m p n ks t b (begun.Fault x y) ks₁ t₁ b₁
-      begin-wrong x y i = record { says = begun-as (head.Wrong x y) i }
+      module _ (x : Out) (ks′ t′ b′ : List ℕ) (s : DefinitionMet m q k ks₁ t₁ b₁ x ks′ t′ b′) where
+        pub begin-undefined : (y o : ℕ) → x ≡ out.Fault y o → BeginMet d m p n ks t b (begun.Fault y o) ks′ t′ b′
+        begin-undefined y o i = record { says = defining-fault R (begin-led .0) s y o i d }
 
-      pub leaf-goes : (s x y q′ : ℕ) → h ≡ head.Leaf s x y q′ → (k < q′) × (q < q′) × (q′ ≤ length m)
-      leaf-goes s x y q′ i = let g : (q < q′) × (q′ ≤ length m) = subst (λ (y : Head). HeadGoes d m (knownIn ks₁) q y) i (z .goes) in (omega (arith, g .0, defs-ready .rows-few), g .0, g .1)
+        pub begin-less : (q′ k′ : ℕ) → x ≡ out.Done q′ k′ → length m - q′ < length m - q
+        begin-less q′ k′ i = omega (arith, defining-forward R (begin-led .0) s q′ k′ i)
 
-      pub begin-leaf : (s x y q′ : ℕ) → h ≡ head.Leaf s x y q′ → (t₂ b₂ : List ℕ) → Laid t₁ b₁ k (row s q x y ∷ []) t₂ b₂ → BeginMet d m p n ks t b (begun.Past q′ (k + 1)) ks₁ t₂ b₂
-      begin-leaf s x y q′ i t₂ b₂ l =
-          let g = leaf-goes s x y q′ i in
-          let w = defs-ready in
-          let one : Moved m q k t₁ b₁ q′ (k + 1) ks₁ t₂ b₂ (row s q x y ∷ []) = record {
-            counted = omega arith;
-            laid = l;
-            onward = omega (arith, g .1);
-            ready = record { at = record { bytes = w .at .bytes; within = g .2 }; kept = w .kept; rows-few = omega (arith, g .0); references-few = omega (arith, w .references-few, g .1) };
-          } in
-          record {
-            says = record {
-              rows = passed-defs .rows ++ (row s q x y ∷ []);
-              says = begun-as (head.Leaf s x y q′) i;
-              moved = moved-on (passed-defs .moved) one;
-              forward = omega (arith, passed-defs .moved .onward, g .1);
-            };
-          }
+        pub begin-more : (q′ k′ : ℕ) → x ≡ out.Done q′ k′ → Defining m p n ks t b ks′ t′ b′ q′ k′
+        begin-more q′ k′ i = defining-more R (begin-led .0) s q′ k′ i
 
-      module _ (g : Group) (of : TypeItem) (q′ : ℕ) (i : h ≡ head.Holder g q′ of) where
-        holder-goes : (0 < d) × TypeRoom of (getD ks₁ 257 0) × (q + 1 + length (typeRows (q + 1) of) ≤ q′) × (q′ ≤ length m)
-        holder-goes = subst (λ (y : Head). HeadGoes d m (knownIn ks₁) q y) i (z .goes)
+    module _ (o : OneOf values-only (tagOf the-type h)) where
+      pub begin-fits : length m < 2 ^ 64 → HeadFits ks₁ q k h
+      begin-fits f = record { fits = go h (z .says) o }
+        where
+          w : Ready m ks₁ q k
+          w = R .moved .ready
 
-        pub holder-room : (k + 1 ≤ q′) × (q + 1 ≤ q′) × (q′ ≤ length m)
-        holder-room = let g = holder-goes in (omega (arith, g .2, defs-ready .rows-few), omega (arith, g .2), g .3)
+          go : (h : Head) → HeadSays d m (knownIn ks₁) q h → OneOf values-only (tagOf the-type h) → Fitting ks₁ q k h
+          go (head.Leaf s x y q′) v o = omega (arith, v .0 .goes .0, v .0 .goes .1, w .rows-few)
+          go (head.Holder g q′ of) v o =
+              let y = v .0 .goes in
+              record { kept = w .kept; room = y .1; references-few = w .references-few; rows-few = w .rows-few; longer = y .2; fits = omega (arith, y .3) }
+          go head.Definition v o = tt
+          go (head.Wrong x y) v o = tt
 
-        pub rows-fit : length m < 2 ^ 64 → Fits w64 (k + 1)
-        rows-fit f = let g = holder-room in omega (arith, g .0, g .2)
-
-        pub place-fits : length m < 2 ^ 64 → Fits w64 (q + 1)
-        place-fits f = let g = holder-room in omega (arith, g .1, g .2)
-
-        pub holder-enters : length m < 2 ^ 64 → Kept ks₁ × (getD ks₁ 258 0 + 1 < 2 ^ 64) × TypeRoom of (getD ks₁ 257 0)
-        holder-enters f = let g = holder-goes in (defs-ready .kept, omega (arith, defs-ready .references-few, g .2, g .3), g .1)
-
-        module _ (ks₂ : List ℕ) (more : ℕ) (w : Entered ks₁ of ks₂ more) where
-          pub holder-rows : (k + 1 + more ≤ q′) × (q′ ≤ length m)
-          holder-rows = let g = holder-goes in (omega (arith, g .2, defs-ready .rows-few, w .rows (q + 1)), g .3)
-
-          pub begin-holder : (given : ℕ) → given ≡ getD ks₁ 257 0 → (t₂ b₂ : List ℕ) → Laid t₁ b₁ (k + 1) (typeRows (q + 1) of) t₂ b₂
-              → BeginMet d m p n ks t b (begun.Within q k g of given q′ (k + 1 + more)) ks₂ t₂ b₂
-          begin-holder given s t₂ b₂ l =
-              let y = holder-goes in
-              record {
-                says = record {
-                  before = passed-defs .rows;
-                  says =
-                      begun-as (head.Holder g q′ of) i
-                      ∙ ap₂ (λ (c : Known) (v : ℕ). front (passed-defs .rows) (topped q (heading g (typeOf v of)) (front (typeRows (q + 1) of) (run (rest (valueFrom base (d - 1)) g 0) c m q′))))
-                      (sym (w .known)) (sym s);
-                  first = passed-defs .moved .counted;
-                  counted = ap (λ (v : ℕ). k + 1 + v) (w .rows (q + 1));
-                  between-t = t₁;
-                  between-b = b₁;
-                  laid-before = passed-defs .moved .laid;
-                  laid = l;
-                  onward = passed-defs .moved .onward;
-                  deeper = omega (arith, y .2);
-                  open-one = y .0;
-                  ready = record {
-                    at = record { bytes = defs-ready .at .bytes; within = y .3 };
-                    kept = w .kept;
-                    rows-few = omega (arith, y .2, defs-ready .rows-few, w .rows (q + 1));
-                    references-few = omega (arith, w .references, defs-ready .references-few, y .2);
-                  };
-                };
-              }
+      pub begin-begun : (r : Begun) (ks₂ t₂ b₂ : List ℕ) → BegunBy ks₁ t₁ b₁ q k h r ks₂ t₂ b₂ → BeginMet d m p n ks t b r ks₂ t₂ b₂
+      begin-begun r ks₂ t₂ b₂ a = go h (z .says) o (a .becomes)
+        where
+          go : (h : Head) → HeadSays d m (knownIn ks₁) q h → OneOf values-only (tagOf the-type h) → Becomes ks₁ t₁ b₁ q k h r ks₂ t₂ b₂ → BeginMet d m p n ks t b r ks₂ t₂ b₂
+          go (head.Leaf s x y q′) v o e = rw (e .0, e .1) (leaf-begun s x y q′ (v .0) (v .1) t₂ b₂ (e .2))
+          go (head.Holder g q′ of) v o e = rw (e .is) (holder-begun g q′ of (v .0) (v .1) ks₂ (e .more) (e .entered) t₂ b₂ (e .laid))
+          go head.Definition v o e = absurd (miss values-only 2 tt o)
+          go (head.Wrong x y) v o e = rw e (record { says = by-head (head.Wrong x y) (v .0) (v .1) })
 
 -- ---- a value, when the values inside it are read
-module _ (o : Placed One) (d : ℕ) (m : List ℕ) (p n : ℕ) (t b : List ℕ) (y j : ℕ) (g : Group) (of : TypeItem) (given q k : ℕ) (ks₁ t₁ b₁ : List ℕ)
+module _ (o : Placed One) (d : ℕ) (m : List ℕ) (p n : ℕ) (t b : List ℕ) (y j : ℕ) (g : Plan) (of : TypeItem) (given q k : ℕ) (ks₁ t₁ b₁ : List ℕ)
     (x : Inner o d m p n t b y j g of given q k ks₁ t₁ b₁) where
-  front-lost : (u v : ℕ) → run (rest (valueFrom base (d - 1)) g 0) (knownIn ks₁) m q ≡ Lost u v → o ≡ Lost u v
-  front-lost u v e = x .says ∙ ap (λ (z : Placed ℕ). front (x .before) (topped y (heading g (typeOf given of)) (front (typeRows (y + 1) of) z))) e
+  front-lost : (u v : ℕ) → run (rest (valueFrom base (d - 1)) (groupOf g) 0) (knownIn ks₁) m q ≡ Lost u v → o ≡ Lost u v
+  front-lost u v e = x .says ∙ ap (λ (z : Placed ℕ). front (x .before) (topped y (heading (groupOf g) (typeOf given of)) (front (typeRows (y + 1) of) z))) e
 
-  inner-went : (e l i : ℕ) (ks₂ t₂ b₂ : List ℕ) → ValuesAre (run (rest (valueFrom base (d - 1)) g 0) (knownIn ks₁) m q) m q k t₁ b₁ g e l i ks₂ t₂ b₂
-      → (t₃ b₃ : List ℕ) → Laid t₂ b₂ j (itemRow y (heading g (typeOf given of) (parts g i)) ∷ []) t₃ b₃ → Went o m p n t b e l ks₂ t₃ b₃
+  inner-went : (e l i : ℕ) (ks₂ t₂ b₂ : List ℕ) → ValuesAre (run (rest (valueFrom base (d - 1)) (groupOf g) 0) (knownIn ks₁) m q) m q k t₁ b₁ (groupOf g) e l i ks₂ t₂ b₂
+      → (t₃ b₃ : List ℕ) → Laid t₂ b₂ j (itemRow y (heading (groupOf g) (typeOf given of) (parts (groupOf g) i)) ∷ []) t₃ b₃ → Went o m p n t b e l ks₂ t₃ b₃
   inner-went e l i ks₂ t₂ b₂ v t₃ b₃ top =
       let ts = typeRows (y + 1) of in
-      let it = itemRow y (heading g (typeOf given of) (parts g i)) in
+      let it = itemRow y (heading (groupOf g) (typeOf given of) (parts (groupOf g) i)) in
       let within = laid-on (x .laid) (x .counted) (v .moved .laid) in
       record {
         rows = x .before ++ (it ∷ (ts ++ v .rows));
-        says = x .says ∙ ap (λ (z : Placed ℕ). front (x .before) (topped y (heading g (typeOf given of)) (front ts z))) (v .says);
+        says = x .says ∙ ap (λ (z : Placed ℕ). front (x .before) (topped y (heading (groupOf g) (typeOf given of)) (front ts z))) (v .says);
         moved = record {
           counted = omega (arith, v .moved .counted, x .counted, x .first, length-append (x .before) (it ∷ (ts ++ v .rows)), length-append ts (v .rows));
           laid = laid-on (x .laid-before) (x .first) (laid-top within top);
@@ -229,7 +239,7 @@ module _ (d : ℕ) (m : List ℕ) (g : Group) (p₀ n₀ : ℕ) (ks₀ t₀ b₀
       pub running-past : (q k : ℕ) → r ≡ begun.Past q k → Running d m g p₀ n₀ ks₀ t₀ b₀ ks₁ t₁ b₁ q k (i + 1)
       running-past q k e = running-went q k ks₁ t₁ b₁ (begun-says (begun.Past q k) e)
 
-      module _ (y j : ℕ) (g′ : Group) (of : TypeItem) (given q k : ℕ) (e : r ≡ begun.Within y j g′ of given q k) where
+      module _ (y j : ℕ) (g′ : Plan) (of : TypeItem) (given q k : ℕ) (e : r ≡ begun.Within y j g′ of given q k) where
         inner-of : Inner (run (byteAt (valueFrom base d)) (knownIn ks) m p) d m p n t b y j g′ of given q k ks₁ t₁ b₁
         inner-of = begun-says (begun.Within y j g′ of given q k) e
 
@@ -239,9 +249,9 @@ module _ (d : ℕ) (m : List ℕ) (g : Group) (p₀ n₀ : ℕ) (ks₀ t₀ b₀
         pub inner-ready : Ready m ks₁ q k
         inner-ready = inner-of .ready
 
-        module _ (v : Values) (ks₂ t₂ b₂ : List ℕ) (w : ValuesMet (d - 1) m q k ks₁ t₁ b₁ g′ v ks₂ t₂ b₂) where
-          values-says : (v′ : Values) → v ≡ v′ → ValuesSay (run (rest (valueFrom base (d - 1)) g′ 0) (knownIn ks₁) m q) m q k t₁ b₁ g′ v′ ks₂ t₂ b₂
-          values-says v′ i = subst (λ (z : Values). ValuesSay (run (rest (valueFrom base (d - 1)) g′ 0) (knownIn ks₁) m q) m q k t₁ b₁ g′ z ks₂ t₂ b₂) i (w .says)
+        module _ (v : Values) (ks₂ t₂ b₂ : List ℕ) (w : ValuesMet (d - 1) m q k ks₁ t₁ b₁ (groupOf g′) v ks₂ t₂ b₂) where
+          values-says : (v′ : Values) → v ≡ v′ → ValuesSay (run (rest (valueFrom base (d - 1)) (groupOf g′) 0) (knownIn ks₁) m q) m q k t₁ b₁ (groupOf g′) v′ ks₂ t₂ b₂
+          values-says v′ i = subst (λ (z : Values). ValuesSay (run (rest (valueFrom base (d - 1)) (groupOf g′) 0) (knownIn ks₁) m q) m q k t₁ b₁ (groupOf g′) z ks₂ t₂ b₂) i (w .says)
 
           pub values-inner-fault : (x u : ℕ) → v ≡ values.Fault x u → ValuesMet d m p₀ n₀ ks₀ t₀ b₀ g (values.Fault x u) ks₂ t₂ b₂
           values-inner-fault x u i =
@@ -251,7 +261,7 @@ module _ (d : ℕ) (m : List ℕ) (g : Group) (p₀ n₀ : ℕ) (ks₀ t₀ b₀
             pub within-forward : (p < f) × (f ≤ length m)
             within-forward = let u = values-says (values.Done f l h) s in (omega (arith, inner-of .onward, inner-of .deeper, u .moved .onward), u .moved .ready .at .within)
 
-            pub running-within : (t₃ b₃ : List ℕ) → Laid t₂ b₂ j (itemRow y (heading g′ (typeOf given of) (parts g′ h)) ∷ []) t₃ b₃ → Running d m g p₀ n₀ ks₀ t₀ b₀ ks₂ t₃ b₃ f l (i + 1)
+            pub running-within : (t₃ b₃ : List ℕ) → Laid t₂ b₂ j (itemRow y (heading (groupOf g′) (typeOf given of) (parts (groupOf g′) h)) ∷ []) t₃ b₃ → Running d m g p₀ n₀ ks₀ t₀ b₀ ks₂ t₃ b₃ f l (i + 1)
             running-within t₃ b₃ top =
                 running-went f l ks₂ t₃ b₃
                 (inner-went (run (byteAt (valueFrom base d)) (knownIn ks) m p) d m p n t b y j g′ of given q k ks₁ t₁ b₁ inner-of f l h ks₂ t₂ b₂ (values-says (values.Done f l h) s) t₃ b₃ top)

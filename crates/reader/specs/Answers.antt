@@ -1,5 +1,5 @@
 -- What the reader's answer says, in 01's terms: number, count and place.
-use Rattle.scalar.specs.Answers.{Report}
+use Rattle.flow.specs.Flow.{Report}
 use Rattle.reader.specs.declared.ReadAnswer.{ReadAnswer}
 use Rattle.reader.specs.declared.ReadAnswer.the-variants.{Accepted, Refused, TooFew}
 

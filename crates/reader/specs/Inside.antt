@@ -1,34 +1,30 @@
 -- What the contracts inside the reader say, over record's laws of a reader at a place of the whole message. None of it has to be believed.
 use mathlib.Core.Path.{_≡_}
-use mathlib.Core.Bool.{Bool, false}
+use mathlib.Core.Bool.{false}
 use mathlib.Core.Logic.{_⊎_}
 use mathlib.Core.List.{List, [], _∷_}
 use mathlib.Core.Option.{Option, none, some}
-use Prim.Native.Nat.{ℕ, _+_, _-_, _^_, _≤_, _<_}
-use lib.Dec.{ltb, leb, eqb}
+use Prim.Native.Nat.{ℕ, zero, suc, _+_, _-_, _^_, _≤_, _<_}
+use lib.Dec.{ltb, eqb}
 use lib.ListN.{length, take, getD}
-use Rattle.flow.specs.Tests.{pick, Bytes}
-use Rattle.flow.specs.Flow.{Done, Fault, One, byteAt}
-use Rattle.flow.specs.Overlay.{overlay}
+use Rattle.flow.specs.Flow.{pick, Bytes, Done, Fault, One, byteAt, overlay}
 use Rattle.scalar.specs.declared.chart.Lead.{Lead}
 use Rattle.scalar.specs.declared.chart.Lead.the-variants as lead
 use Rattle.scalar.specs.declared.numbers.Sort.the-variants.{Int}
-use Rattle.scalar.specs.Chart.{leadOf}
-use Rattle.scalar.specs.Numbers.{numberAt}
-use Rattle.scalar.specs.Scalars.{isText}
+use Rattle.scalar.specs.Scalars.{leadOf, isText}
+use Rattle.scalar.specs.Answers.{numberAt}
 use Rattle.record.specs.declared.Group.{Group}
-use Rattle.record.specs.declared.Group.the-variants.{Counted, Fields, Open}
-use Rattle.record.specs.Items.{Definition, Known, start, opened, typed, defined}
-use Rattle.record.specs.Reading.{typeFrom, definition, valueFrom}
-use Rattle.record.specs.Rows.{Row, row, itemRow}
-use Rattle.record.specs.Answers.{Refuse, read, base}
-use Rattle.record.specs.Tables.{asNumbers, asBytes, reportRead, filled}
+use Rattle.record.specs.declared.Group.the-variants.{Counted, Fields, Open, Pairs}
+use Rattle.record.specs.Records.{Definition, Known, start, opened, typed, defined, typeFrom, definition, valueFrom, Row, row, itemRow}
+use Rattle.record.specs.Answers.{Refuse, read, base, asNumbers, asBytes, reportRead, filled}
 use Rattle.record.specs.Placed.{Placed, Got, Lost, run, front, on, topped}
 use Rattle.record.specs.Runs.{rest, parts}
 use Rattle.record.specs.Values.{heading}
 use Rattle.record.specs.Definitions.{namesLeft, plain}
+use Rattle.record.specs.KnownArray.{knownIn, Kept}
 use Rattle.reader.specs.declared.heads.TypeItem.{TypeItem}
 use Rattle.reader.specs.declared.heads.TypeItem.the-variants.{Untyped, Named, Numbered}
+use Rattle.reader.specs.declared.heads.Plan.{Plan}
 use Rattle.reader.specs.declared.heads.Head.{Head}
 use Rattle.reader.specs.declared.heads.Head.the-variants as head
 use Rattle.reader.specs.declared.heads.Count.{Count}
@@ -51,20 +47,23 @@ use Rattle.reader.specs.declared.Judged.the-variants as judged
 use Rattle.reader.specs.declared.ReadAnswer.{ReadAnswer}
 use Rattle.reader.specs.Answers.{report}
 
--- ---- what is known, as the array keeps it: each class's number of fields, then how many classes, types and references are given
-abbrev pub knownIn : List ℕ → Known
-knownIn ks = record { references = getD ks 258 0; types = getD ks 257 0; classes = take (getD ks 256 0) ks }
+-- ---- how values are counted, as the code keeps it
+abbrev groupBy : ℕ → ℕ → ℕ → Group
+groupBy zero n k = Counted n
+groupBy (suc zero) n k = Fields k n
+groupBy (suc (suc zero)) n k = Open
+groupBy (suc (suc (suc s))) n k = Pairs
+
+abbrev pub groupOf : Plan → Group
+groupOf g = groupBy (g .shape) (g .count) (g .class)
+
+abbrev pub plan : ℕ → ℕ → ℕ → Plan
+plan s n k = record { shape = s; count = n; class = k }
 
 -- a place of a message of bytes
 pub record At (m : List ℕ) (p : ℕ) : Type 0 where
   pub bytes : Bytes m
   pub within : p ≤ length m
-
--- the array is within the ceilings
-pub record Kept (ks : List ℕ) : Type 0 where
-  pub sized : length ks ≡ 259
-  pub classes-few : getD ks 256 0 ≤ 256
-  pub types-few : getD ks 257 0 ≤ 256
 
 -- where reading can be: at p, with n rows so far
 pub record Ready (m ks : List ℕ) (p n : ℕ) : Type 0 where
@@ -92,7 +91,7 @@ pub record NoName (m : List ℕ) (p : ℕ) : Type 0 where
   pub inside : p < length m
   pub lead : isText (getD m p 0) ≡ false
 
--- it opens a list, map or object
+-- it opens a list or map
 abbrev pub Holding : Lead → Type 0
 Holding (lead.Number s) = ⊥
 Holding lead.Text = ⊥
@@ -101,7 +100,7 @@ Holding lead.List = Unit {0}
 Holding lead.TypedList = Unit {0}
 Holding lead.Map = Unit {0}
 Holding lead.TypedMap = Unit {0}
-Holding lead.Object = Unit {0}
+Holding lead.Object = ⊥
 Holding lead.Reference = ⊥
 Holding lead.Definition = ⊥
 Holding lead.Close = ⊥
@@ -206,12 +205,14 @@ pub record Entered (ks : List ℕ) (of : TypeItem) (ks′ : List ℕ) (n : ℕ) 
 -- the value at p, with no definitions before it, by its head, where c is known; d: how many containers may open
 abbrev pub meant : ℕ → List ℕ → Known → ℕ → Head → Placed One
 meant d m c p (head.Leaf k x y q) = Got q tt (row k p x y ∷ []) c
-meant d m c p (head.Holder g q of) = topped p (heading g (typeOf (c .types) of)) (front (typeRows (p + 1) of) (run (rest (valueFrom base (d - 1)) g 0) (typedBy of (opened c)) m q))
+meant d m c p (head.Holder g q of) = topped p (heading (groupOf g) (typeOf (c .types) of)) (front (typeRows (p + 1) of) (run (rest (valueFrom base (d - 1)) (groupOf g) 0) (typedBy of (opened c)) m q))
+meant d m c p head.Definition = Lost 3 p
 meant d m c p (head.Wrong x o) = Lost x o
 
 abbrev pub HeadGoes : ℕ → List ℕ → Known → ℕ → Head → Type 0
 HeadGoes d m c p (head.Leaf k x y q) = (p < q) × (q ≤ length m)
 HeadGoes d m c p (head.Holder g q of) = (0 < d) × TypeRoom of (c .types) × (p + 1 + length (typeRows (p + 1) of) ≤ q) × (q ≤ length m)
+HeadGoes d m c p head.Definition = ⊥
 HeadGoes d m c p (head.Wrong x o) = Unit {0}
 
 pub record Heads (d : ℕ) (m : List ℕ) (c : Known) (p : ℕ) (r : Head) : Type 0 where
@@ -228,9 +229,22 @@ pub record PlainMet (m : List ℕ) (c : Known) (p : ℕ) (r : Head) : Type 0 whe
 pub record HolderMet (m : List ℕ) (c : Known) (p : ℕ) (r : Head) : Type 0 where
   pub heads : (d : ℕ) → 0 < d → Heads d m c p r
 
+-- what stands at p: a class definition, or a value, and then 43 does not stand there
+abbrev pub Undefined : List ℕ → ℕ → Type 0
+Undefined m p = p < length m → eqb (getD m p 0) 0x43 ≡ false
+
+abbrev pub HeadSays : ℕ → List ℕ → Known → ℕ → Head → Type 0
+HeadSays d m c p (head.Leaf k x y q) = Heads d m c p (head.Leaf k x y q) × Undefined m p
+HeadSays d m c p (head.Holder g q of) = Heads d m c p (head.Holder g q of) × Undefined m p
+HeadSays d m c p head.Definition = Led m p lead.Definition
+HeadSays d m c p (head.Wrong x o) = Heads d m c p (head.Wrong x o) × Undefined m p
+
+pub record HeadMet (d : ℕ) (m : List ℕ) (c : Known) (p : ℕ) (r : Head) : Type 0 where
+  pub says : HeadSays d m c p r
+
 -- a list of this type with the count that was read at p
 abbrev pub holderOf : TypeItem → ℕ → Count → Head
-holderOf of p (count.Is v n) = head.Holder (Counted v) (p + n) of
+holderOf of p (count.Is v n) = head.Holder (plan 0 v 0) (p + n) of
 holderOf of p (count.Wrong x o) = head.Wrong x o
 
 abbrev pub CountFits : ℕ → Count → Type 0
@@ -244,13 +258,13 @@ pub record ListAt (m : List ℕ) (b open-code few p : ℕ) : Type 0 where
   pub among : (b ≡ open-code → ⊥) → (b ≡ open-code + 1 → ⊥) → few ≤ b
 
 pub record ListMet (m : List ℕ) (b open-code few : ℕ) (of : TypeItem) (p : ℕ) (r : Head) : Type 0 where
-  pub opens : b ≡ open-code → r ≡ head.Holder Open p of
+  pub opens : b ≡ open-code → r ≡ head.Holder (plan 2 0 0) p of
   pub counts : b ≡ open-code + 1 → (n : Count) × CountMet m p n × (r ≡ holderOf of p n)
-  pub fews : (b ≡ open-code → ⊥) → (b ≡ open-code + 1 → ⊥) → r ≡ head.Holder (Counted (b - few)) p of
+  pub fews : (b ≡ open-code → ⊥) → (b ≡ open-code + 1 → ⊥) → r ≡ head.Holder (plan 0 (b - few) 0) p of
 
 -- an object of the class k, whose code stands at p and whose fields begin at q
 abbrev pub instanceOf : List ℕ → ℕ → ℕ → ℕ → Head
-instanceOf ks p k q = pick (ltb k (getD ks 256 0)) (head.Holder (Fields k (getD ks k 0)) q Untyped) (head.Wrong 6 p)
+instanceOf ks p k q = pick (ltb k (getD ks 256 0)) (head.Holder (plan 1 (getD ks k 0) k) q Untyped) (head.Wrong 6 p)
 
 -- the row of a list, map or object after i values
 pub record HolderRow (g : Group) (of : TypeItem) (given i : ℕ) (r : Numbers) : Type 0 where
@@ -269,10 +283,6 @@ Outcomes o m p n t b (out.Done q k) ks′ t′ b′ = Went o m p n t b q k ks′
 Outcomes o m p n t b (out.Fault x y) ks′ t′ b′ = o ≡ Lost x y
 
 -- ---- class definitions
--- 43 stands at p
-abbrev pub defines : List ℕ → ℕ → Bool
-defines m p = pick (leb (length m) p) false (eqb (getD m p 0) 0x43)
-
 -- the field count at p, after a name of u units and b bytes
 abbrev pub FieldsSay : List ℕ → ℕ → ℕ → ℕ → ClassRead → Type 0
 FieldsSay m p u b (class-read.Is u′ b′ n q) = (u′ ≡ u) × (b′ ≡ b) × (n ≤ 256) × ((k : ℕ) × (numberAt Int m p ≡ Done k n [] tt) × (0 < k) × (q ≡ p + k)) × (q ≤ length m)
@@ -324,25 +334,46 @@ pub record Defined (ks : List ℕ) (n : ℕ) (ks′ : List ℕ) : Type 0 where
 pub record DefinitionMet (m : List ℕ) (p n : ℕ) (ks t b : List ℕ) (r : Out) (ks′ t′ b′ : List ℕ) : Type 0 where
   pub says : Outcomes (run (definition base p) (knownIn ks) m (p + 1)) m p n t b r ks′ t′ b′
 
--- the definitions at p are read, up to q: what is left there is a value with none before it
-pub record Passed (m : List ℕ) (p n : ℕ) (ks t b : List ℕ) (q k : ℕ) (ks′ t′ b′ : List ℕ) : Type 0 where
-  pub rows : List Row
-  pub says : (d : ℕ) → run (byteAt (valueFrom base d)) (knownIn ks) m p ≡ front rows (run (byteAt (plain base d)) (knownIn ks′) m q)
-  pub moved : Moved m p n t b q k ks′ t′ b′ rows
-
-abbrev pub DefinitionsSay : List ℕ → ℕ → ℕ → List ℕ → List ℕ → List ℕ → Out → List ℕ → List ℕ → List ℕ → Type 0
-DefinitionsSay m p n ks t b (out.Done q k) ks′ t′ b′ = Passed m p n ks t b q k ks′ t′ b′
-DefinitionsSay m p n ks t b (out.Fault x y) ks′ t′ b′ = (d : ℕ) → run (byteAt (valueFrom base d)) (knownIn ks) m p ≡ Lost x y
-
-pub record DefinitionsMet (m : List ℕ) (p n : ℕ) (ks t b : List ℕ) (r : Out) (ks′ t′ b′ : List ℕ) : Type 0 where
-  pub says : DefinitionsSay m p n ks t b r ks′ t′ b′
-
 -- ---- values
+-- a list, map or object at p opens, with n rows before its own: its values begin at q
+pub record Opens (ks : List ℕ) (of : TypeItem) (p n q : ℕ) : Type 0 where
+  pub kept : Kept ks
+  pub room : TypeRoom of (getD ks 257 0)
+  pub references-few : getD ks 258 0 ≤ p
+  pub rows-few : n ≤ p
+  pub longer : p + 1 + length (typeRows (p + 1) of) ≤ q
+  pub fits : q < 2 ^ 64
+
+pub record Opened (ks t b : List ℕ) (p n : ℕ) (g : Plan) (q : ℕ) (of : TypeItem) (r : Begun) (ks′ t′ b′ : List ℕ) : Type 0 where
+  pub more : ℕ
+  pub is : r ≡ begun.Within p n g of (getD ks 257 0) q (n + 1 + more)
+  pub entered : Entered ks of ks′ more
+  pub laid : Laid t b (n + 1) (typeRows (p + 1) of) t′ b′
+
+-- what a head at p comes to, with n rows before it
+abbrev pub Fitting : List ℕ → ℕ → ℕ → Head → Type 0
+Fitting ks p n (head.Leaf k x y q) = n + 1 < 2 ^ 64
+Fitting ks p n (head.Holder g q of) = Opens ks of p n q
+Fitting ks p n head.Definition = Unit {0}
+Fitting ks p n (head.Wrong x o) = Unit {0}
+
+pub record HeadFits (ks : List ℕ) (p n : ℕ) (h : Head) : Type 0 where
+  pub fits : Fitting ks p n h
+
+abbrev pub Becomes : List ℕ → List ℕ → List ℕ → ℕ → ℕ → Head → Begun → List ℕ → List ℕ → List ℕ → Type 0
+Becomes ks t b p n (head.Leaf k x y q) r ks′ t′ b′ = (r ≡ begun.Past q (n + 1)) × (ks′ ≡ ks) × Laid t b n (row k p x y ∷ []) t′ b′
+Becomes ks t b p n (head.Holder g q of) r ks′ t′ b′ = Opened ks t b p n g q of r ks′ t′ b′
+Becomes ks t b p n head.Definition r ks′ t′ b′ = Unit {0}
+Becomes ks t b p n (head.Wrong x o) r ks′ t′ b′ = r ≡ begun.Fault x o
+
+pub record BegunBy (ks t b : List ℕ) (p n : ℕ) (h : Head) (r : Begun) (ks′ t′ b′ : List ℕ) : Type 0 where
+  pub becomes : Becomes ks t b p n h r ks′ t′ b′
+
 -- the value at p is read up to the values inside it: a list, map or object at y, with the row j; its values begin at q, their rows at k
-pub record Inner (o : Placed One) (d : ℕ) (m : List ℕ) (p n : ℕ) (t b : List ℕ) (y j : ℕ) (g : Group) (of : TypeItem) (given q k : ℕ) (ks′ t′ b′ : List ℕ) : Type 0 where
+pub record Inner (o : Placed One) (d : ℕ) (m : List ℕ) (p n : ℕ) (t b : List ℕ) (y j : ℕ) (g : Plan) (of : TypeItem) (given q k : ℕ) (ks′ t′ b′ : List ℕ) : Type 0 where
   -- the rows before its own, and those of its type
   pub before : List Row
-  pub says : o ≡ front before (topped y (heading g (typeOf given of)) (front (typeRows (y + 1) of) (run (rest (valueFrom base (d - 1)) g 0) (knownIn ks′) m q)))
+  pub says : o ≡ front before (topped y (heading (groupOf g) (typeOf given of)) (front (typeRows (y + 1) of) (run (rest (valueFrom base (d - 1)) (groupOf g) 0) (knownIn ks′) m q)))
   pub first : j ≡ n + length before
   pub counted : k ≡ j + 1 + length (typeRows (y + 1) of)
   pub between-t : List ℕ

@@ -6,7 +6,8 @@ ghost use mathlib.Core.Path.{_≡_};
 ghost use Prim.Native.Nat.{_+_, _^_, _≤_, _<_};
 ghost use lib.ListN.{getD};
 ghost use Rattle.scalar.specs.declared.chart.Lead.the-variants as lead;
-ghost use Rattle.reader.specs.Inside.{At, Kept, Ready, Led, knownIn, defines, FieldsMet, ClassMet, NamesMet, Defined, DefinitionMet, DefinitionsMet};
+ghost use Rattle.record.specs.KnownArray.{Kept, knownIn};
+ghost use Rattle.reader.specs.Inside.{At, Ready, Led, FieldsMet, ClassMet, NamesMet, Defined, DefinitionMet};
 
 // A class's name, by its units and bytes, its number of fields, and where their names begin; or a refusal's number and place.
 pub enum ClassRead {
@@ -126,14 +127,11 @@ fn define(known: &mut [u64; 259], fields: usize)
     requires { ⌜ Kept (now known) × (getD (now known) 256 0 < 256) × (fields ≤ 256) ⌝ }
     ensures { λ _. ⌜ Defined (now (known .entry)) fields (now (known .exit)) ⌝ }
 {
-    let given = known[256];
-    let k = given as usize;
-    known[k] = fields as u64;
-    known[256] = given + 1;
+    record::known::define(known, fields as u64);
 }
 
 // The definition at `at`: its class gets the next number when its field names are read.
-fn definition(
+pub(crate) fn definition(
     message: &[u8],
     numbers: &mut [u64],
     bytes: &mut [u8],
@@ -163,48 +161,5 @@ fn definition(
                 }
             }
         },
-    }
-}
-
-// Whether a class definition stands at `at`.
-fn defined_at(message: &[u8], at: usize) -> bool
-    ensures { λ r. ⌜ r ≡ defines (now (message .entry)) at ⌝ }
-{
-    if message.len() <= at {
-        return false;
-    }
-    message[at] == 0x43
-}
-
-// The definitions at `at`, if any: where what follows them stands.
-pub(crate) fn definitions(
-    message: &[u8],
-    numbers: &mut [u64],
-    bytes: &mut [u8],
-    known: &mut [u64; 259],
-    at: usize,
-    rows: usize,
-) -> Out
-    requires { ⌜ Ready (now message) (now known) at rows ⌝ }
-    ensures { λ r. ⌜ DefinitionsMet (now (message .entry)) at rows (now (known .entry)) (now (numbers .entry)) (now (bytes .entry)) r (now (known .exit)) (now (numbers .exit)) (now (bytes .exit)) ⌝ }
-{
-    let mut here = at;
-    let mut row = rows;
-    loop {
-        if !defined_at(message, here) {
-            return Out::Done {
-                next: here,
-                rows: row,
-            };
-        }
-        match definition(message, numbers, bytes, known, here, row) {
-            Out::Fault { number, place } => {
-                return Out::Fault { number, place };
-            }
-            Out::Done { next, rows: r } => {
-                here = next;
-                row = r;
-            }
-        }
     }
 }

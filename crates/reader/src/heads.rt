@@ -1,7 +1,6 @@
 // What a value begins with, when no class definition stands before it. The laws of its meaning are in record's specs/Values.antt.
 //
 // What is known is kept in an array: each class's number of fields; then how many classes, types and references are given.
-use record::Group;
 use scalar::chart::Lead;
 use scalar::numbers::NumberRead;
 use scalar::numbers::Sort;
@@ -11,11 +10,28 @@ ghost use mathlib.Core.Path.{_≡_};
 ghost use Prim.Native.Nat.{_+_, _^_, _<_};
 ghost use lib.ListN.{length, getD};
 ghost use Rattle.scalar.specs.declared.chart.Lead.the-variants as lead;
-ghost use Rattle.scalar.specs.Numbers.{numberAt};
-ghost use Rattle.scalar.specs.Answers.{told};
-ghost use Rattle.record.specs.Rows.{sortKind};
+ghost use Rattle.scalar.specs.Scalars.{leadOf, sortKind};
+ghost use Rattle.scalar.specs.Answers.{numberAt, told};
 ghost use Rattle.reader.specs.declared.heads.Head.the-variants as head;
-ghost use Rattle.reader.specs.Inside.{At, Kept, Led, High, NoName, Holding, knownIn, CountMet, CountFits, TypeMet, ListAt, ListMet, holderOf, instanceOf, LeafMet, PlainMet, HolderMet, Heads};
+ghost use Rattle.record.specs.KnownArray.{Kept, knownIn};
+ghost use Rattle.reader.specs.Inside.{At, Led, High, NoName, Holding, CountMet, CountFits, TypeMet, ListAt, ListMet, holderOf, instanceOf, LeafMet, PlainMet, HolderMet, Heads, HeadMet};
+
+// How the values of a list, map or object are counted: so many elements; so many fields of a class; elements up to 5a; keys and
+// values up to 5a.
+pub(crate) const COUNTED: u64 = 0;
+
+pub(crate) const FIELDS: u64 = 1;
+
+pub(crate) const OPEN: u64 = 2;
+
+pub(crate) const PAIRS: u64 = 3;
+
+// One of these, with a count and a class: record's `Group` in plain numbers, which are handed on in less time.
+pub struct Plan {
+    pub shape: u64,
+    pub count: u64,
+    pub class: u64,
+}
 
 // The type of a list or map: none; a name, by its units and bytes; a number.
 pub enum TypeItem {
@@ -33,13 +49,14 @@ pub enum Head {
         second: u64,
         next: usize,
     },
-    // A list, map or object: how its values are counted, where they begin, and its type. In this order none of its bytes overlaps a
-    // part of a leaf's `next`, which costs time where heads of both are made.
+    // A list, map or object: how its values are counted, where they begin, and its type.
     Holder {
-        group: Group,
+        plan: Plan,
         next: usize,
         of: TypeItem,
     },
+    // A class definition stands before the value.
+    Definition,
     Wrong {
         number: u8,
         place: usize,
@@ -230,7 +247,7 @@ fn text_head(message: &[u8], at: usize) -> Head
     requires { ⌜ Led (now message) at lead.Text ⌝ }
     ensures { λ r. ⌜ LeafMet (now (message .entry)) at r ⌝ }
 {
-    match scalar::texts::read_string(Kind::Utf8, message, at) {
+    match scalar::texts::read_text(message, at) {
         StringRead::Refused { number, place } => Head::Wrong { number, place },
         StringRead::Content { units, bytes, size } => Head::Leaf {
             kind: 7,
@@ -293,9 +310,13 @@ fn counted(of: TypeItem, at: usize, n: Count) -> Head
     match n {
         Count::Wrong { number, place } => Head::Wrong { number, place },
         Count::Is { value, size } => Head::Holder {
-            group: Group::Counted(value),
-            of,
+            plan: Plan {
+                shape: COUNTED,
+                count: value,
+                class: 0,
+            },
             next: at + size,
+            of,
         },
     }
 }
@@ -308,9 +329,13 @@ fn list_of(message: &[u8], b: u8, open_code: u8, few: u8, of: TypeItem, at: usiz
 {
     if b == open_code {
         return Head::Holder {
-            group: Group::Open,
-            of,
+            plan: Plan {
+                shape: OPEN,
+                count: 0,
+                class: 0,
+            },
             next: at,
+            of,
         };
     }
     if b == open_code + 1 {
@@ -318,9 +343,13 @@ fn list_of(message: &[u8], b: u8, open_code: u8, few: u8, of: TypeItem, at: usiz
         return counted(of, at, n);
     }
     Head::Holder {
-        group: Group::Counted(wire::wide(b - few)),
-        of,
+        plan: Plan {
+            shape: COUNTED,
+            count: wire::wide(b - few),
+            class: 0,
+        },
         next: at,
+        of,
     }
 }
 
@@ -351,9 +380,13 @@ fn typed_map_head(message: &[u8], known: &[u64; 259], at: usize) -> Head
     match type_at(message, known, at + 1) {
         TypeRead::Wrong { number, place } => Head::Wrong { number, place },
         TypeRead::Is { of, next } => Head::Holder {
-            group: Group::Pairs,
-            of,
+            plan: Plan {
+                shape: PAIRS,
+                count: 0,
+                class: 0,
+            },
             next,
+            of,
         },
     }
 }
@@ -366,9 +399,13 @@ fn instance(known: &[u64; 259], at: usize, class: u64, next: usize) -> Head
     if class < known[256] {
         let k = class as usize;
         return Head::Holder {
-            group: Group::Fields(class, known[k]),
-            of: TypeItem::Untyped,
+            plan: Plan {
+                shape: FIELDS,
+                count: known[k],
+                class,
+            },
             next,
+            of: TypeItem::Untyped,
         };
     }
     Head::Wrong {
@@ -392,7 +429,7 @@ fn object_head(message: &[u8], known: &[u64; 259], at: usize) -> Head
     instance(known, at, wire::wide(b - 0x60), at + 1)
 }
 
-// The head of a list, map or object, where as many as allowed may still open.
+// The head of a list or map, where as many as allowed may still open.
 fn opening(message: &[u8], known: &[u64; 259], at: usize, allowed: usize, l: Lead) -> Head
     requires { ⌜ Led (now message) at l × Holding l × Kept (now known) ⌝ }
     ensures { λ r. ⌜ Heads allowed (now (message .entry)) (knownIn (now (known .entry))) at r ⌝ }
@@ -407,40 +444,61 @@ fn opening(message: &[u8], known: &[u64; 259], at: usize, allowed: usize, l: Lea
         Lead::List => list_head(message, known, at),
         Lead::TypedList => typed_list_head(message, known, at),
         Lead::Map => Head::Holder {
-            group: Group::Pairs,
-            of: TypeItem::Untyped,
+            plan: Plan {
+                shape: PAIRS,
+                count: 0,
+                class: 0,
+            },
             next: at + 1,
+            of: TypeItem::Untyped,
         },
-        Lead::TypedMap => typed_map_head(message, known, at),
-        _ => object_head(message, known, at),
+        _ => typed_map_head(message, known, at),
     }
 }
 
-// The head of the value at `at`, where as many lists, maps and objects as allowed may still open.
+// What the byte opens. Short texts are told first.
+fn lead_of(b: u8) -> Lead
+    ensures { λ r. ⌜ r ≡ leadOf b ⌝ }
+{
+    if b < 0x20 {
+        return Lead::Text;
+    }
+    scalar::chart::classify(b)
+}
+
+// A refusal.
+fn wrong(number: u8, place: usize) -> Head
+    ensures { λ r. ⌜ r ≡ head.Wrong number place ⌝ }
+{
+    Head::Wrong { number, place }
+}
+
+// What stands at `at`: a class definition, or the head of a value, where as many lists, maps and objects as allowed may still open.
 pub(crate) fn head_at(message: &[u8], known: &[u64; 259], at: usize, allowed: usize) -> Head
     requires { ⌜ At (now message) at × Kept (now known) ⌝ }
-    ensures { λ r. ⌜ Heads allowed (now (message .entry)) (knownIn (now (known .entry))) at r ⌝ }
+    ensures { λ r. ⌜ HeadMet allowed (now (message .entry)) (knownIn (now (known .entry))) at r ⌝ }
 {
     if message.len() <= at {
-        return Head::Wrong {
-            number: 2,
-            place: at,
-        };
+        return wrong(2, at);
     }
     let b = message[at];
     if 0x80 <= b {
         return high_head(message, at, b);
     }
-    let l = scalar::chart::classify(b);
+    let l = lead_of(b);
     match l {
         Lead::Number(sort) => number_head(sort, message, at),
         Lead::Text => text_head(message, at),
         Lead::Bytes => bytes_head(message, at),
         Lead::Reference => reference_head(message, known, at),
-        Lead::Definition | Lead::Close | Lead::Reserved => Head::Wrong {
-            number: 3,
-            place: at,
-        },
+        Lead::Definition => Head::Definition,
+        Lead::Close | Lead::Reserved => wrong(3, at),
+        Lead::Object => {
+            if allowed == 0 {
+                return wrong(7, at);
+            }
+            object_head(message, known, at)
+        }
         _ => opening(message, known, at, allowed, l),
     }
 }

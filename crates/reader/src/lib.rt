@@ -1,15 +1,15 @@
-// Reads a message into a table of rows. What a message reads as is in record's specs/Reading.antt, what the reader answers in its
-// specs/Answers.antt and Tables.antt.
+// Reads a message into a table of rows. What a message reads as is in record's specs/Records.antt, what the reader answers in its
+// specs/Answers.antt.
 pub mod definitions;
 pub mod heads;
 pub mod rows;
 pub mod values;
 
+use crate::heads::COUNTED;
+use crate::heads::Plan;
 use crate::values::Values;
-use record::Group;
 ghost use mathlib.Core.Path.{_≡_};
-ghost use Rattle.record.specs.Answers.{base};
-ghost use Rattle.record.specs.Tables.{asNumbers, asBytes, readReport, readTable};
+ghost use Rattle.record.specs.Answers.{base, asNumbers, asBytes, readReport, readTable};
 ghost use Rattle.reader.specs.Answers.{report};
 ghost use Rattle.reader.specs.Inside.{Judges, ReadsInto};
 
@@ -59,7 +59,11 @@ fn judge(message: &[u8]) -> Judged
         &mut known,
         0,
         0,
-        Group::Counted(1),
+        Plan {
+            shape: COUNTED,
+            count: 1,
+            class: 0,
+        },
         ALLOWANCE,
     ) {
         Values::Fault { number, place } => Judged::Refused { number, place },
@@ -97,7 +101,11 @@ fn read_into(message: &[u8], numbers: &mut [u64], bytes: &mut [u8], lent: usize)
                 &mut known,
                 0,
                 0,
-                Group::Counted(1),
+                Plan {
+                    shape: COUNTED,
+                    count: 1,
+                    class: 0,
+                },
                 ALLOWANCE,
             );
             ReadAnswer::Accepted {

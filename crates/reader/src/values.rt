@@ -1,16 +1,20 @@
 // Values: class definitions, a head, and the values inside. The laws of their meaning are in record's specs/Runs.antt and Values.antt.
 use crate::definitions::Out;
+use crate::heads::FIELDS;
 use crate::heads::Head;
+use crate::heads::OPEN;
+use crate::heads::PAIRS;
+use crate::heads::Plan;
 use crate::heads::TypeItem;
-use record::Group;
 ghost use mathlib.Core.Path.{_≡_};
 ghost use mathlib.Core.List.{[], _∷_};
 ghost use Prim.Native.Nat.{_+_, _^_, _<_};
 ghost use lib.ListN.{getD};
-ghost use Rattle.record.specs.Rows.{itemRow};
+ghost use Rattle.record.specs.Records.{itemRow};
 ghost use Rattle.record.specs.Runs.{closes, stops, past, parts};
 ghost use Rattle.record.specs.Values.{heading};
-ghost use Rattle.reader.specs.Inside.{Kept, Ready, Laid, typeOf, typeRows, typeTag, typeSecond, TypeRoom, Entered, HolderRow, BeginMet, ValuesMet};
+ghost use Rattle.record.specs.KnownArray.{Kept};
+ghost use Rattle.reader.specs.Inside.{groupOf, Ready, Laid, Opens, Opened, HeadFits, BegunBy, typeOf, typeRows, typeTag, typeSecond, TypeRoom, Entered, HolderRow, BeginMet, ValuesMet};
 
 // How a value begins: it is read; a list, map or object stands at `at`, where so many types were given, its row is `row`, and its values
 // begin at `next`, with rows from `rows` on; or a refusal.
@@ -22,7 +26,7 @@ pub enum Begun {
     Within {
         at: usize,
         row: usize,
-        group: Group,
+        plan: Plan,
         of: TypeItem,
         given: u64,
         next: usize,
@@ -58,33 +62,30 @@ fn closed_at(message: &[u8], at: usize) -> bool
 }
 
 // Whether no value is left at `at`, after i of them.
-fn stop(message: &[u8], group: Group, i: u64, at: usize) -> bool
-    ensures { λ r. ⌜ r ≡ stops (now (message .entry)) group i at ⌝ }
+fn stop(message: &[u8], plan: Plan, i: u64, at: usize) -> bool
+    ensures { λ r. ⌜ r ≡ stops (now (message .entry)) (groupOf plan) i at ⌝ }
 {
-    match group {
-        Group::Counted(n) => i == n,
-        Group::Fields(_, n) => i == n,
-        Group::Open => closed_at(message, at),
-        Group::Pairs => {
-            if i % 2 == 0 {
-                return closed_at(message, at);
-            }
-            false
-        }
+    if plan.shape < OPEN {
+        return i == plan.count;
     }
+    if plan.shape < PAIRS {
+        return closed_at(message, at);
+    }
+    if i % 2 == 0 {
+        return closed_at(message, at);
+    }
+    false
 }
 
 // The place past values that end at `at`.
-fn passed(group: Group, at: usize) -> usize
+fn passed(plan: Plan, at: usize) -> usize
     requires { ⌜ at + 1 < 2 ^ 64 ⌝ }
-    ensures { λ r. ⌜ r ≡ past group at ⌝ }
+    ensures { λ r. ⌜ r ≡ past (groupOf plan) at ⌝ }
 {
-    match group {
-        Group::Counted(_) => at,
-        Group::Fields(_, _) => at,
-        Group::Open => at + 1,
-        Group::Pairs => at + 1,
+    if plan.shape < OPEN {
+        return at;
     }
+    at + 1
 }
 
 // The row `index` of the type at `place`, if there is one.
@@ -135,30 +136,27 @@ fn type_second(of: TypeItem, given: u64) -> u64
 }
 
 // The row of a list, map or object after i values; `given` types were given before it.
-fn holder_row(group: Group, of: TypeItem, given: u64, i: u64) -> Numbers
-    ensures { λ r. ⌜ HolderRow group of given i r ⌝ }
+fn holder_row(plan: Plan, of: TypeItem, given: u64, i: u64) -> Numbers
+    ensures { λ r. ⌜ HolderRow (groupOf plan) of given i r ⌝ }
 {
-    match group {
-        Group::Fields(class, _) => Numbers {
+    if plan.shape == FIELDS {
+        return Numbers {
             kind: 13,
-            first: class,
+            first: plan.class,
             second: i,
-        },
-        Group::Pairs => Numbers {
-            kind: 11 + type_tag(of),
-            first: i / 2,
-            second: type_second(of, given),
-        },
-        Group::Counted(_) => Numbers {
+        };
+    }
+    if plan.shape < PAIRS {
+        return Numbers {
             kind: 9 + type_tag(of),
             first: i,
             second: type_second(of, given),
-        },
-        Group::Open => Numbers {
-            kind: 9 + type_tag(of),
-            first: i,
-            second: type_second(of, given),
-        },
+        };
+    }
+    Numbers {
+        kind: 11 + type_tag(of),
+        first: i / 2,
+        second: type_second(of, given),
     }
 }
 
@@ -168,14 +166,14 @@ fn store_holder(
     bytes: &mut [u8],
     index: usize,
     place: usize,
-    group: Group,
+    plan: Plan,
     of: TypeItem,
     given: u64,
     i: u64,
 )
-    ensures { λ _. ⌜ Laid (now (numbers .entry)) (now (bytes .entry)) index (itemRow place (heading group (typeOf given of) (parts group i)) ∷ []) (now (numbers .exit)) (now (bytes .exit)) ⌝ }
+    ensures { λ _. ⌜ Laid (now (numbers .entry)) (now (bytes .entry)) index (itemRow place (heading (groupOf plan) (typeOf given of) (parts (groupOf plan) i)) ∷ []) (now (numbers .exit)) (now (bytes .exit)) ⌝ }
 {
-    let r = holder_row(group, of, given, i);
+    let r = holder_row(plan, of, given, i);
     crate::rows::store_lent(numbers, bytes, index, r.kind, place, r.first, r.second);
 }
 
@@ -196,6 +194,68 @@ fn enter(known: &mut [u64; 259], of: TypeItem) -> usize
     }
 }
 
+// The list, map or object at `at` opens: the row of its type is stored after its own.
+fn within(
+    numbers: &mut [u64],
+    bytes: &mut [u8],
+    known: &mut [u64; 259],
+    at: usize,
+    row: usize,
+    plan: Plan,
+    next: usize,
+    of: TypeItem,
+) -> Begun
+    requires { ⌜ Opens (now known) of at row next ⌝ }
+    ensures { λ r. ⌜ Opened (now (known .entry)) (now (numbers .entry)) (now (bytes .entry)) at row plan next of r (now (known .exit)) (now (numbers .exit)) (now (bytes .exit)) ⌝ }
+{
+    store_type(numbers, bytes, row + 1, at + 1, of);
+    let given = known[257];
+    let more = enter(known, of);
+    Begun::Within {
+        at,
+        row,
+        plan,
+        of,
+        given,
+        next,
+        rows: row + 1 + more,
+    }
+}
+
+// The value at `at` by its head, and all of it where it holds no others.
+fn by_head(
+    numbers: &mut [u64],
+    bytes: &mut [u8],
+    known: &mut [u64; 259],
+    at: usize,
+    row: usize,
+    head: Head,
+) -> Begun
+    requires { ⌜ HeadFits (now known) at row head ⌝ }
+    ensures { λ r. ⌜ BegunBy (now (known .entry)) (now (numbers .entry)) (now (bytes .entry)) at row head r (now (known .exit)) (now (numbers .exit)) (now (bytes .exit)) ⌝ }
+{
+    match head {
+        Head::Wrong { number, place } => Begun::Fault { number, place },
+        Head::Leaf {
+            kind,
+            first,
+            second,
+            next,
+        } => {
+            crate::rows::put_row(numbers, bytes, row, kind, at, first, second);
+            Begun::Past {
+                next,
+                rows: row + 1,
+            }
+        }
+        Head::Holder { plan, next, of } => within(numbers, bytes, known, at, row, plan, next, of),
+        Head::Definition => Begun::Fault {
+            number: 3,
+            place: at,
+        },
+    }
+}
+
 // The definitions and the head of the value at `from`, and all of it where it holds no others.
 fn begin(
     message: &[u8],
@@ -209,37 +269,23 @@ fn begin(
     requires { ⌜ Ready (now message) (now known) from row ⌝ }
     ensures { λ r. ⌜ BeginMet allowed (now (message .entry)) from row (now (known .entry)) (now (numbers .entry)) (now (bytes .entry)) r (now (known .exit)) (now (numbers .exit)) (now (bytes .exit)) ⌝ }
 {
-    match crate::definitions::definitions(message, numbers, bytes, known, from, row) {
-        Out::Fault { number, place } => Begun::Fault { number, place },
-        Out::Done { next: at, rows } => match crate::heads::head_at(message, known, at, allowed) {
-            Head::Wrong { number, place } => Begun::Fault { number, place },
-            Head::Leaf {
-                kind,
-                first,
-                second,
-                next,
-            } => {
-                crate::rows::put_row(numbers, bytes, rows, kind, at, first, second);
-                Begun::Past {
-                    next,
-                    rows: rows + 1,
+    let mut at = from;
+    let mut rows = row;
+    loop {
+        let head = crate::heads::head_at(message, known, at, allowed);
+        if let Head::Definition = head {
+            match crate::definitions::definition(message, numbers, bytes, known, at, rows) {
+                Out::Fault { number, place } => {
+                    return Begun::Fault { number, place };
+                }
+                Out::Done { next, rows: r } => {
+                    at = next;
+                    rows = r;
                 }
             }
-            Head::Holder { group, of, next } => {
-                store_type(numbers, bytes, rows + 1, at + 1, of);
-                let given = known[257];
-                let more = enter(known, of);
-                Begun::Within {
-                    at,
-                    row: rows,
-                    group,
-                    of,
-                    given,
-                    next,
-                    rows: rows + 1 + more,
-                }
-            }
-        },
+        } else {
+            return by_head(numbers, bytes, known, at, rows, head);
+        }
     }
 }
 
@@ -251,19 +297,19 @@ pub(crate) fn read_values(
     known: &mut [u64; 259],
     from: usize,
     row: usize,
-    group: Group,
+    plan: Plan,
     allowed: usize,
 ) -> Values
     requires { ⌜ Ready (now message) (now known) from row ⌝ }
-    ensures { λ r. ⌜ ValuesMet allowed (now (message .entry)) from row (now (known .entry)) (now (numbers .entry)) (now (bytes .entry)) group r (now (known .exit)) (now (numbers .exit)) (now (bytes .exit)) ⌝ }
+    ensures { λ r. ⌜ ValuesMet allowed (now (message .entry)) from row (now (known .entry)) (now (numbers .entry)) (now (bytes .entry)) (groupOf plan) r (now (known .exit)) (now (numbers .exit)) (now (bytes .exit)) ⌝ }
 {
     let mut at = from;
     let mut rows = row;
     let mut i: u64 = 0;
     loop {
-        if stop(message, group, i, at) {
+        if stop(message, plan, i, at) {
             return Values::Done {
-                next: passed(group, at),
+                next: passed(plan, at),
                 rows,
                 count: i,
             };
@@ -280,7 +326,7 @@ pub(crate) fn read_values(
             Begun::Within {
                 at: place,
                 row: k,
-                group: g,
+                plan: g,
                 of,
                 given,
                 next,

@@ -8,12 +8,4 @@ returns : tie.Need-returns
 returns c = search (class-defined, needs)
 
 pub define-spec : {M : Type 1} → statement M
-define-spec =
-    tie.close
-    (tie.spec
-    (λ c. search needs)
-    (λ c. search needs)
-    (λ c. search needs)
-    (λ c. search needs)
-    (λ c. search needs)
-    returns)
+define-spec = tie.close (tie.spec (λ c κs. search needs) returns)

@@ -2,7 +2,7 @@
 use mathlib.Core.Path.{refl}
 use borrow.Author.Needs.{needs}
 use Rattle.scalar.specs.declared.numbers.Sort.the-variants.{Null, False, True}
-use Rattle.scalar.specs.Numbers.{formsOf}
+use Rattle.scalar.specs.Scalars.{formsOf}
 use Rattle.reader.proofs.Leaves.{led-sort, single-fits, single-head}
 use Rattle.reader.proofs.heads.number_head.Statement.{statement}
 use Rattle.reader.proofs.heads.number_head.Tie as tie

@@ -1,6 +1,6 @@
 -- Each way out has its law in proofs/FirstBytes.antt.
+use Rattle.reader.proofs.FirstBytes.{led-as, map-left, opens-none, opens-one, opens-map}
 use borrow.Author.Needs.{needs}
-use Rattle.reader.proofs.FirstBytes.{led-as, object-left, opens-none, opens-one, opens-map}
 use Rattle.reader.proofs.heads.opening.Statement.{statement}
 use Rattle.reader.proofs.heads.opening.Tie as tie
 
@@ -14,10 +14,7 @@ typed-list-head-requires : tie.Need-typed-list-head-requires
 typed-list-head-requires c κs = search (led-as, needs)
 
 typed-map-head-requires : tie.Need-typed-map-head-requires
-typed-map-head-requires c κs = search (led-as, needs)
-
-object-head-requires : tie.Need-object-head-requires
-object-head-requires c κs = search (object-left, needs)
+typed-map-head-requires c κs = search (map-left, needs)
 
 returns-2 : tie.Need-returns-2
 returns-2 c = search (opens-one, needs)
@@ -31,9 +28,6 @@ returns-4 c = search (opens-map, needs)
 returns-5 : tie.Need-returns-5
 returns-5 c = search (opens-one, needs)
 
-returns-6 : tie.Need-returns-6
-returns-6 c = search (opens-one, needs)
-
 pub opening-spec : {M : Type 1} → statement M
 opening-spec =
     tie.close
@@ -45,11 +39,8 @@ opening-spec =
     typed-list-head-requires
     (λ c. search needs)
     (λ c. search needs)
-    (λ c. search needs)
     typed-map-head-requires
-    object-head-requires
     returns-2
     returns-3
     returns-4
-    returns-5
-    returns-6)
+    returns-5)

@@ -4,9 +4,6 @@ use Rattle.reader.proofs.Leaves.{string-fits, text-head-bad, text-head-
 use Rattle.reader.proofs.heads.text_head.Statement.{statement}
 use Rattle.reader.proofs.heads.text_head.Tie as tie
 
-add-t13 : tie.Need-add-t13
-add-t13 c = search (string-fits, needs)
-
 returns : tie.Need-returns
 returns c = search (text-head-bad, needs)
 
@@ -16,4 +13,4 @@ returns-2 c = search (text-head-is, needs)
 pub text-head-spec : {M : Type 1} → statement M
 text-head-spec =
     tie.close
-    (tie.spec (λ c κs. search needs) (λ c. search needs) (λ c. search needs) add-t13 returns returns-2)
+    (tie.spec (λ c κs. search needs) (λ c. search needs) (λ c. search needs) (λ c. search (string-fits, needs)) returns returns-2)

@@ -1,4 +1,4 @@
--- Each way out has its law in proofs/Stores.antt.
+-- As for store_bytes.
 use native.Mathlib.Omega.{arith}
 use borrow.Author.Needs.{needs}
 use Rattle.reader.proofs.Stores.{bytes-out, bytes-in}
@@ -9,7 +9,7 @@ returns : tie.Need-returns
 returns c =
     let d = c .before .before .before .before .before .before in
     let e = d .before .before .before .before in
-    bytes-in _ _ _ _ _ _ (omega arith) (e .before .before .before .before .store-number .ensures .1) (e .store-number2 .ensures .1) (d .store-number3 .ensures .1) (c .before .before .store-number4 .ensures .1)
+    bytes-in _ _ _ _ _ _ (omega arith) (e .before .before .before .before .put-number .ensures) (e .put-number2 .ensures) (d .put-number3 .ensures) (c .before .before .put-number4 .ensures)
 
 returns-2 : tie.Need-returns-2
 returns-2 c = search (bytes-out, needs)

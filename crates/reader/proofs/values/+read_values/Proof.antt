@@ -4,6 +4,7 @@ use mathlib.Core.Path.{_∙_}
 use native.Mathlib.Omega.{arith}
 use borrow.Author.Needs.{needs}
 use lib.ListN.{length}
+use Rattle.reader.specs.Inside.{groupOf}
 use Rattle.reader.proofs.Walk.{Running, running-start, values-stop, values-fault, past-forward, running-past, inner-open, inner-ready, values-inner-fault, within-forward, running-within}
 use Prim.Native.Nat.{ℕ, _-_, _<_}
 use borrow.Fn.Kinds.{In}
@@ -34,10 +35,10 @@ abbrev calls : ℕ → read-values-lts.Claims
 calls t = (stop-reads.Asked, stop-reads.Learnt, passed-reads.Asked, passed-reads.Learnt, begin-reads.Asked, begin-reads.Learnt, read-values-below t, read-values.Post, store-holder-reads.Asked, store-holder-reads.Learnt)
 
 abbrev read-values-Inv-loop : read-values-lts.InvT-loop
-read-values-Inv-loop message numbers₀ bytes₀ known₀ from row group allowed at₀ rows₀ i₀ numbers bytes known at rows i = Running allowed message group from row known₀ numbers₀ bytes₀ known numbers bytes at rows i
+read-values-Inv-loop message numbers₀ bytes₀ known₀ from row plan allowed at₀ rows₀ i₀ numbers bytes known at rows i = Running allowed message (groupOf plan) from row known₀ numbers₀ bytes₀ known numbers bytes at rows i
 
 abbrev read-values-μ-loop : read-values-lts.MeasureT-loop
-read-values-μ-loop message numbers₀ bytes₀ known₀ from row group allowed at₀ rows₀ i₀ numbers bytes known at rows i = length message - at
+read-values-μ-loop message numbers₀ bytes₀ known₀ from row plan allowed at₀ rows₀ i₀ numbers bytes known at rows i = length message - at
 
 read-values-loop-holds : (t : ℕ) → read-values-lts.Need-loop-holds (calls t) (read-values-at t) read-values.Post read-values-Inv-loop read-values-μ-loop
 read-values-loop-holds t c = search (running-start, needs)
@@ -103,7 +104,7 @@ read-values-same-length-6 : (t : ℕ) → read-values-lts.Need-same-length-6 (ca
 read-values-same-length-6 t c = c .before .before .before .before .bytes2 .given ∙ c .before .before .before .before .before .before .before .before .before .before .before .before .before .before .before .bytes .given ∙ c .before .before .before .before .before .before .before .before .before .before .before .before .before .before .before .before .before .before .before .before .before .before .before .before .loop .inv .same-bytes
 
 read-values-returns-3 : (t : ℕ) → read-values-lts.Need-returns-3 (calls t) (read-values-at t) read-values.Post read-values-Inv-loop read-values-μ-loop
-read-values-returns-3 t c = search (values-inner-fault, needs)
+read-values-returns-3 t c = values-inner-fault _ _ _ _ _ _ _ _ _ _ _ _ _ _ (c .before .before .before .before .before .before .before .before .before .before .before .before .before .before .before .before .before .before .before .before .before .before .before .before .loop .inv) _ (c .before .before .before .before .before .before .before .before .before .before .before .before .before .before .before .before .before .before .before .before .before .before .before .stop .ensures) (c .before .before .before .before .before .before .before .before .before .before .before .before .before .before .before .before .before .before .before .before .before .before .if1 .left) _ _ _ _ (c .before .before .before .before .before .before .before .before .before .before .before .before .before .before .before .before .before .before .begin .ensures) _ _ _ _ _ _ _ (c .before .before .before .before .before .before .before .before .before .before .before .before .place .given .1) _ _ _ _ (c .before .before .before .before .before .before .before .read-values .ensures) _ _ (c .before .number2 .given .1)
 
 read-values-enum-known-end : (t : ℕ) → read-values-lts.Need-enum-known-end (calls t) (read-values-at t) read-values.Post read-values-Inv-loop read-values-μ-loop
 read-values-enum-known-end t c = search needs

@@ -1,72 +1,70 @@
--- Each way out has its law in proofs/Walk.antt. A sum fits since the message's length does.
-use native.Mathlib.Omega.{arith}
-use Rattle.reader.proofs.Walk.{defs-kept, leaf-goes, holder-room, holder-rows, rows-fit, place-fits, holder-enters, begin-undefined, begin-wrong, begin-leaf, begin-holder}
+-- The loop's invariant: what is left is the whole, with the rows of the definitions so far in front. The measure is how many bytes are left.
+use Rattle.reader.proofs.Walk.{begin-led, begin-undefined, begin-less, begin-more, begin-fits, begin-begun}
+use Rattle.reader.proofs.Classes.{Defining, defining-start}
 use borrow.Author.Needs.{needs}
+use lib.ListN.{length}
+use mathlib.Core.Path.{_∙_}
+use Prim.Native.Nat.{_-_}
 use Rattle.reader.proofs.values.begin.Statement.{statement}
 use Rattle.reader.proofs.values.begin.Tie as tie
 
-head-at-requires : tie.Need-head-at-requires
-head-at-requires c κs = defs-kept 0 _ _ _ _ _ _ _ _ _ _ (c .before .before .before .before .before .before .before .before .definitions .ensures) _ _ (c .before .before .at .given .1)
+abbrev Inv-loop : tie.InvT-loop
+Inv-loop message numbers₀ bytes₀ known₀ from row allowed at₀ rows₀ numbers bytes known at rows = Defining message from row known₀ numbers₀ bytes₀ known numbers bytes at rows
 
-add-t38 : tie.Need-add-t38
-add-t38 c = omega (arith, c .before .before .before .before .before .before .before .before .before .before .before .before .before .before .before .before .before .before .before .before .before .before .before .before .before .before .good .0, leaf-goes _ _ _ _ _ _ _ _ _ _ _ (c .before .before .before .before .before .before .before .before .before .before .before .before .before .before .before .before .before .before .before .definitions .ensures) _ _ (c .before .before .before .before .before .before .before .before .before .before .before .before .before .at .given .1) _ (c .before .before .before .before .before .before .before .before .before .before .head-at .ensures) _ _ _ _ (c .before .before .before .before .before .before .before .before .kind .given .1))
+abbrev μ-loop : tie.MeasureT-loop
+μ-loop message numbers₀ bytes₀ known₀ from row allowed at₀ rows₀ numbers bytes known at rows = length message - at
 
-add-store-type : tie.Need-add-store-type
-add-store-type c = search (rows-fit, needs)
+loop-holds : tie.Need-loop-holds Inv-loop μ-loop
+loop-holds c = search (defining-start, needs)
 
-add-store-type-2 : tie.Need-add-store-type-2
-add-store-type-2 c = search (place-fits, needs)
+definition-requires : tie.Need-definition-requires Inv-loop μ-loop
+definition-requires c κs = begin-led _ _ _ _ _ _ _ _ _ _ _ _ (c .before .before .before .before .before .before .before .loop .inv) _ (c .before .before .before .before .before .head-at .ensures) (c .before .before .before .enum-told .given .1)
 
-enter-requires : tie.Need-enter-requires
-enter-requires c κs = holder-enters _ _ _ _ _ _ _ _ _ _ _ (c .before .before .before .before .before .before .before .before .before .before .before .before .before .before .before .before .before .before .before .before .before .definitions .ensures) _ _ (c .before .before .before .before .before .before .before .before .before .before .before .before .before .before .before .at .given .1) _ (c .before .before .before .before .before .before .before .before .before .before .before .before .head-at .ensures) _ _ _ (c .before .before .before .before .before .before .before .before .before .before .group .given .1) (omega (arith, c .before .before .before .before .before .before .before .before .before .before .before .before .before .before .before .before .before .before .before .before .before .before .before .before .before .before .before .before .good .0))
+same-length : tie.Need-same-length Inv-loop μ-loop
+same-length c = search (_∙_, needs)
 
-add-t44 : tie.Need-add-t44
-add-t44 c = omega (arith, c .before .before .before .before .before .before .before .before .before .before .before .before .before .before .before .before .before .before .before .before .before .before .before .before .before .before .before .before .before .good .0, holder-room _ _ _ _ _ _ _ _ _ _ _ (c .before .before .before .before .before .before .before .before .before .before .before .before .before .before .before .before .before .before .before .before .before .before .definitions .ensures) _ _ (c .before .before .before .before .before .before .before .before .before .before .before .before .before .before .before .before .at .given .1) _ (c .before .before .before .before .before .before .before .before .before .before .before .before .before .head-at .ensures) _ _ _ (c .before .before .before .before .before .before .before .before .before .before .before .group .given .1))
+same-length-2 : tie.Need-same-length-2 Inv-loop μ-loop
+same-length-2 c = search (_∙_, needs)
 
-add-t45 : tie.Need-add-t45
-add-t45 c = omega (arith, c .before .before .before .before .before .before .before .before .before .before .before .before .before .before .before .before .before .before .before .before .before .before .before .before .before .before .before .before .before .good .0, holder-rows _ _ _ _ _ _ _ _ _ _ _ (c .before .before .before .before .before .before .before .before .before .before .before .before .before .before .before .before .before .before .before .before .before .before .definitions .ensures) _ _ (c .before .before .before .before .before .before .before .before .before .before .before .before .before .before .before .before .at .given .1) _ (c .before .before .before .before .before .before .before .before .before .before .before .before .before .head-at .ensures) _ _ _ (c .before .before .before .before .before .before .before .before .before .before .before .group .given .1) _ _ (c .enter .ensures))
-
-returns : tie.Need-returns
+returns : tie.Need-returns Inv-loop μ-loop
 returns c = search (begin-undefined, needs)
 
-returns-2 : tie.Need-returns-2
-returns-2 c = search (begin-wrong, needs)
+loop-less : tie.Need-loop-less Inv-loop μ-loop
+loop-less c = search (begin-less, needs)
 
-returns-3 : tie.Need-returns-3
-returns-3 c = search (begin-leaf, needs)
+loop-again : tie.Need-loop-again Inv-loop μ-loop
+loop-again c = search (begin-more, needs)
 
-returns-4 : tie.Need-returns-4
-returns-4 c = search (begin-holder, needs)
+by-head-requires : tie.Need-by-head-requires Inv-loop μ-loop
+by-head-requires c κs = search (begin-fits, needs)
+
+same-length-3 : tie.Need-same-length-3 Inv-loop μ-loop
+same-length-3 c = search (_∙_, needs)
+
+same-length-4 : tie.Need-same-length-4 Inv-loop μ-loop
+same-length-4 c = search (_∙_, needs)
+
+returns-2 : tie.Need-returns-2 Inv-loop μ-loop
+returns-2 c = search (begin-begun, needs)
 
 pub begin-spec : {M : Type 1} → statement M
 begin-spec =
     tie.close
     (tie.spec
+    Inv-loop
+    μ-loop
+    loop-holds
     (λ c κs. search needs)
     (λ c. search needs)
+    definition-requires
     (λ c. search needs)
-    head-at-requires
-    (λ c. search needs)
-    (λ c. search needs)
-    (λ c κs. search needs)
-    add-t38
-    (λ c. search needs)
-    add-store-type
-    add-store-type-2
-    (λ c κs. search needs)
-    (λ c. search needs)
-    enter-requires
-    add-t44
-    add-t45
-    (λ c. search needs)
-    (λ c. search needs)
+    same-length
+    same-length-2
     returns
     (λ c. search needs)
-    (λ c. search needs)
-    returns-2
-    (λ c. search needs)
-    (λ c. search needs)
-    returns-3
-    (λ c. search needs)
-    (λ c. search needs)
-    returns-4)
+    loop-less
+    loop-again
+    by-head-requires
+    same-length-3
+    same-length-4
+    returns-2)

@@ -1,0 +1,43 @@
+-- Each way out has its law in proofs/Groups.antt.
+use Rattle.reader.proofs.Groups.{head-wrong, head-leaf, head-holder, head-defined, leaf-fits, holder-fits}
+use borrow.Author.Needs.{needs}
+use Rattle.reader.proofs.values.by_head.Statement.{statement}
+use Rattle.reader.proofs.values.by_head.Tie as tie
+
+add-t22 : tie.Need-add-t22
+add-t22 c = search (leaf-fits, needs)
+
+within-requires : tie.Need-within-requires
+within-requires c κs = search (holder-fits, needs)
+
+returns : tie.Need-returns
+returns c = search (head-wrong, needs)
+
+returns-2 : tie.Need-returns-2
+returns-2 c = search (head-leaf, needs)
+
+returns-3 : tie.Need-returns-3
+returns-3 c = search (head-holder, needs)
+
+returns-4 : tie.Need-returns-4
+returns-4 c = search (head-defined, needs)
+
+pub by-head-spec : {M : Type 1} → statement M
+by-head-spec =
+    tie.close
+    (tie.spec
+    (λ c. search needs)
+    (λ c. search needs)
+    (λ c κs. search needs)
+    add-t22
+    (λ c. search needs)
+    within-requires
+    (λ c. search needs)
+    returns
+    (λ c. search needs)
+    (λ c. search needs)
+    returns-2
+    (λ c. search needs)
+    (λ c. search needs)
+    returns-3
+    returns-4)
