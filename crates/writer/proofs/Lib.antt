@@ -1,3 +1,11 @@
 pub mod Putting
 pub mod Rowed
 pub mod Named
+pub mod Texted
+pub mod Classes
+pub mod Typed
+pub mod Walking
+pub mod Messages
+pub mod Leafed
+pub mod Heading
+pub mod Numbered

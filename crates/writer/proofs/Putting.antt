@@ -7,11 +7,11 @@ use native.Mathlib.Omega.{arith}
 use lib.Dec.{leb}
 use lib.ListN.{length, set, length-append}
 use Rattle.flow.specs.Tests.{pick-either}
-use Rattle.flow.specs.Overlay.{stored}
+use Rattle.flow.specs.Flow.{stored, Report}
 use Rattle.flow.specs.OverlayLaws.{stored-out, stored-sets, length-stored, stored-seam}
 use Rattle.scalar.specs.declared.Written.{Written}
 use Rattle.scalar.specs.declared.Written.the-variants.{Stored, NoRoom, NotSuch}
-use Rattle.scalar.specs.Answers.{Report, report, reportOf, outputOf}
+use Rattle.scalar.specs.Answers.{report, reportOf, outputOf}
 use Rattle.writer.specs.declared.puts.Put.the-variants as put
 use Rattle.writer.specs.Inside.{Puts, PutMet}
 

@@ -1,21 +1,41 @@
 -- What the contracts inside the writer say, over record's laws of the writer at an index of the rows. None of it has to be believed.
 use mathlib.Core.Path.{_≡_}
-use mathlib.Core.Bool.{Bool, true, false}
-use mathlib.Core.List.{List, []}
+use mathlib.Core.Bool.{Bool, true, false, _&&_}
+use mathlib.Core.Logic.{_⊎_}
+use mathlib.Core.List.{List, [], _∷_, _++_}
 use mathlib.Core.Option.{Option, none, some}
-use Prim.Native.Nat.{ℕ, _+_, _*_, _/_, _≤_, min}
-use lib.Dec.{eqb}
-use lib.ListN.{length, take, drop}
-use Rattle.flow.specs.Tests.{pick}
-use Rattle.flow.specs.Flow.{Done}
-use Rattle.flow.specs.Overlay.{stored}
+use Prim.Native.Nat.{ℕ, suc, _+_, _-_, _*_, _/_, _≤_, _<_, min}
+use lib.Dec.{ltb, eqb}
+use lib.ListN.{length, take, drop, getD}
+use Rattle.flow.specs.Flow.{pick, stored}
+use Rattle.scalar.specs.declared.numbers.Sort.{Sort}
+use Rattle.scalar.specs.declared.numbers.Rule.the-variants.{Exactly, Offset}
 use Rattle.scalar.specs.declared.texts.Kind.{Kind}
-use Rattle.scalar.specs.Texts.{units, stringAt, shortestString}
-use Rattle.record.specs.Rows.{Row, row}
-use Rattle.record.specs.Tables.{asNumbers, asBytes, rowsOf}
+use Rattle.scalar.specs.Scalars.{units, stringAt, shortestString, shortestInt, sortKind, Form, form, formsOf}
+use Rattle.record.specs.declared.Contents.{Contents}
+use Rattle.record.specs.Records.{Item, Definition, Known, Row, row, told}
+use Rattle.record.specs.Answers.{putThen, putMany, putNothing, putBytes, putIf, className?, fieldName?, putName, putOpen, putList, objectCode, putType, putDefinition, putPlain, putValue, base, WriteAnswer, shortestOf, answeredTo, asNumbers, asBytes, rowsOf, reportWritten, outputWritten}
+use Rattle.record.specs.Answers as spelling
+use Rattle.record.specs.Claimed.{itemAt}
+use Rattle.record.specs.Walked.{claimed, At, End, Walked, Over, Stuck, walk, behind, Drops}
+use Rattle.record.specs.Writes.{ended}
+use Rattle.record.specs.Contents.{left}
+use Rattle.record.specs.WrittenNames.{namesLeft}
+use Rattle.record.specs.WrittenValues.{below}
+use Rattle.record.specs.KnownArray.{knownIn, Kept}
 use Rattle.writer.specs.declared.rows.RowRead.{RowRead}
+use Rattle.writer.specs.declared.rows.Fetched.{Fetched}
+use Rattle.writer.specs.declared.rows.Fetched.the-variants as fetched
 use Rattle.writer.specs.declared.puts.Put.{Put}
 use Rattle.writer.specs.declared.puts.Put.the-variants as put
+use Rattle.writer.specs.declared.puts.Step.{Step}
+use Rattle.writer.specs.declared.puts.Step.the-variants as step
+use Rattle.writer.specs.declared.definitions.Found.{Found}
+use Rattle.writer.specs.declared.definitions.Found.the-variants as found
+use Rattle.writer.specs.declared.holders.Begun.{Begun}
+use Rattle.writer.specs.declared.holders.Begun.the-variants as begun
+use Rattle.writer.specs.declared.WriteAnswer as answer
+use Rattle.writer.specs.Answers.{report}
 
 -- ---- the rows of two tables, of which one is empty: of numbers, where that of bytes is empty
 abbrev pub lentIn : List ℕ → List ℕ → ℕ
@@ -27,8 +47,24 @@ rowIn t b k = pick (eqb (length b) 0) (asNumbers .decode (take 4 (drop (k * 4) t
 abbrev pub rowsIn : List ℕ → List ℕ → ℕ → List Row
 rowsIn t b n = pick (eqb (length b) 0) (rowsOf asNumbers n t) (rowsOf asBytes n b)
 
+-- the items that the first n of them claim
+abbrev pub itemsIn : List ℕ → List ℕ → List ℕ → ℕ → List Item
+itemsIn source t b n = claimed source (rowsIn t b n)
+
 abbrev pub rowOf : RowRead → Row
 rowOf r = row (r .kind) (r .place) (r .first) (r .second)
+
+-- the row r stands at k: the item that it claims; where it claims none, no more items are claimed
+pub record Stands (source : List ℕ) (r : RowRead) (is : List Item) (k : ℕ) : Type 0 where
+  pub item : (i : Item) → itemAt source (rowOf r) ≡ some i → At is k i
+  pub lost : itemAt source (rowOf r) ≡ none → End is k
+
+abbrev pub FetchSays : List ℕ → List Item → ℕ → ℕ → Fetched → Type 0
+FetchSays source is n k (fetched.Row r) = (k < n) × Stands source r is k
+FetchSays source is n k fetched.End = End is k
+
+pub record FetchMet (t b : List ℕ) (n k : ℕ) (r : Fetched) : Type 0 where
+  pub says : (source : List ℕ) → k ≤ length (itemsIn source t b n) → FetchSays source (itemsIn source t b n) n k r
 
 -- ---- the bytes w are put behind the first `size`: counted up to one more than the longest message, and stored where they fit
 pub record Puts (out : List ℕ) (size : ℕ) (w out′ : List ℕ) (size′ : ℕ) : Type 0 where
@@ -44,19 +80,24 @@ PutSays o out size put.NoRecord out′ = o ≡ none
 pub record PutMet (o : Option (List ℕ)) (out : List ℕ) (size : ℕ) (r : Put) (out′ : List ℕ) : Type 0 where
   pub says : PutSays o out size r out′
 
+-- a kind of value with one form, of this byte
+pub record Single (s : Sort) (code : ℕ) : Type 0 where
+  pub forms : formsOf s ≡ form code 1 0 (Exactly 0) ∷ []
+
+-- ints and longs: the forms of one, two and three bytes, by their codes
+pub record Whole (s : Sort) (one codes zero two three : ℕ) : Type 0 where
+  pub others : List Form
+  pub forms : formsOf s ≡ form one codes 0 (Offset zero) ∷ form two 16 1 (Offset 0x800) ∷ form three 8 2 (Offset 0x4_0000) ∷ others
+  pub one-fits : one + codes ≤ 256
+  pub zero-fits : zero ≤ 256
+  pub two-fits : two ≤ 0xf0
+  pub three-fits : three ≤ 0xf8
+
 -- ---- the place p of the source opens a complete text or byte string with the content cs, of u units and b bytes
 pub record Opened (k : Kind) (source : List ℕ) (p u b : ℕ) (cs : List ℕ) : Type 0 where
-  pub size : ℕ
-  pub opens : stringAt k source p ≡ Done size cs [] tt
+  pub opens : told (stringAt k source p) ≡ some cs
   pub units-are : u ≡ units k cs
   pub bytes-are : b ≡ length cs
-
-abbrev pub SizesSay : Kind → List ℕ → ℕ → ℕ → ℕ → Bool → Type 0
-SizesSay k source p u b true = (cs : List ℕ) × Opened k source p u b cs
-SizesSay k source p u b false = (cs : List ℕ) → Opened k source p u b cs → ⊥
-
-pub record SizesMet (k : Kind) (source : List ℕ) (p u b : ℕ) (r : Bool) : Type 0 where
-  pub says : SizesSay k source p u b r
 
 -- its shortest form is put
 abbrev pub StringSays : Kind → List ℕ → ℕ → ℕ → ℕ → List ℕ → ℕ → Put → List ℕ → Type 0
@@ -65,3 +106,216 @@ StringSays k source p u b out size put.NoRecord out′ = (cs : List ℕ) → Ope
 
 pub record StringMet (k : Kind) (source : List ℕ) (p u b : ℕ) (out : List ℕ) (size : ℕ) (r : Put) (out′ : List ℕ) : Type 0 where
   pub says : StringSays k source p u b out size r out′
+
+-- ---- what is written is o: it ends at e, where c is known, and its bytes are put
+abbrev pub WalkSays : Walked → ℕ → Known → List ℕ → ℕ → Put → List ℕ → Type 0
+WalkSays o e c out s (put.Done s′) out′ = (w : List ℕ) × (o ≡ Over w e c) × Puts out s w out′ s′
+WalkSays o e c out s put.NoRecord out′ = o ≡ Stuck
+
+pub record WalkMet (o : Walked) (e : ℕ) (c : Known) (out : List ℕ) (s : ℕ) (r : Put) (out′ : List ℕ) : Type 0 where
+  pub says : WalkSays o e c out s r out′
+
+-- ---- values that hold no others
+-- no kind of a list, map or object
+pub record NoHolder (kind : ℕ) : Type 0 where
+  pub other : (kind < 9) ⊎ (13 < kind)
+
+pub record LeafMet (source : List ℕ) (r : RowRead) (references : ℕ) (out : List ℕ) (s : ℕ) (p : Put) (out′ : List ℕ) : Type 0 where
+  pub says : (openFrom : ℕ) (inner : Option spelling.Put) (c : Known) (is : List Item) (k : ℕ) → Stands source r is k → c .references ≡ references → WalkMet (walk (putPlain base openFrom inner) c is k) (suc k) c out s p out′
+
+pub record NumberMet (x : Sort) (r : RowRead) (out : List ℕ) (s : ℕ) (p : Put) (out′ : List ℕ) : Type 0 where
+  pub says : (source : List ℕ) (references : ℕ) → r .kind ≡ sortKind x → LeafMet source r references out s p out′
+
+pub record ContentMet (source : List ℕ) (r : RowRead) (out : List ℕ) (s : ℕ) (p : Put) (out′ : List ℕ) : Type 0 where
+  pub says : (references : ℕ) → r .kind ≡ 8 → LeafMet source r references out s p out′
+
+pub record ReferenceMet (r : RowRead) (references : ℕ) (out : List ℕ) (s : ℕ) (p : Put) (out′ : List ℕ) : Type 0 where
+  pub says : (source : List ℕ) → r .kind ≡ 14 → LeafMet source r references out s p out′
+
+-- ---- names: 16 of a class, 17 of a field
+pub data Naming : ℕ → (Item → Option (List ℕ)) → Type 0 where
+  class-name : Naming 16 className?
+  field-name : Naming 17 fieldName?
+
+pub record NameMet (kind : ℕ) (is : List Item) (k : ℕ) (out : List ℕ) (s : ℕ) (r : Put) (out′ : List ℕ) : Type 0 where
+  pub says : (part : Item → Option (List ℕ)) → Naming kind part → (c : Known) → WalkMet (walk (putName part) c is k) (suc k) c out s r out′
+
+-- n field names from k on
+pub record NamesMet (is : List Item) (k n : ℕ) (out : List ℕ) (s : ℕ) (r : Put) (out′ : List ℕ) : Type 0 where
+  pub says : (c : Known) → WalkMet (walk (namesLeft n 0) c is k) (k + n) c out s r out′
+
+-- ---- where writing can be: at the item k, with s bytes so far
+pub record Ready (is : List Item) (ks : List ℕ) (k s : ℕ) : Type 0 where
+  pub kept : Kept ks
+  pub within : k ≤ length is
+  pub references-few : getD ks 258 0 ≤ k
+  pub size-few : s ≤ 262_145
+
+-- what is written is o: it ends at p, from the index `from` on, and its bytes are put
+pub record Went (o : Walked) (is : List Item) (from s : ℕ) (out : List ℕ) (p s′ : ℕ) (ks′ out′ : List ℕ) : Type 0 where
+  pub written : List ℕ
+  pub says : o ≡ Over written p (knownIn ks′)
+  pub puts : Puts out s written out′ s′
+  pub ready : Ready is ks′ p s′
+  pub onward : from ≤ p
+
+abbrev pub StepSays : Walked → List Item → ℕ → ℕ → List ℕ → Step → List ℕ → List ℕ → Type 0
+StepSays o is from s out (step.Done p s′) ks′ out′ = Went o is from s out p s′ ks′ out′
+StepSays o is from s out step.NoRecord ks′ out′ = o ≡ Stuck
+
+pub record StepMet (o : Walked) (is : List Item) (from s : ℕ) (out : List ℕ) (r : Step) (ks′ out′ : List ℕ) : Type 0 where
+  pub says : StepSays o is from s out r ks′ out′
+
+-- ---- types
+-- of a typed list or map, whose type number is t; of another
+abbrev pub typeBy : Bool → ℕ → spelling.Put
+typeBy true t = putType base t
+typeBy false t = putNothing
+
+-- the type that the row r gives
+pub record TypeRowMet (source : List ℕ) (r : RowRead) (t : ℕ) (ks out : List ℕ) (s : ℕ) (p : Put) (ks′ out′ : List ℕ) : Type 0 where
+  pub says : (is : List Item) (k : ℕ) → Stands source r is k → WalkMet (walk (putType base t) (knownIn ks) is k) (suc k) (knownIn ks′) out s p out′
+  pub kept : Kept ks′
+  pub references : getD ks′ 258 0 ≡ getD ks 258 0
+
+-- the type that the row r names by number
+pub record TypeNumberMet (r : RowRead) (t : ℕ) (ks out : List ℕ) (s : ℕ) (p : Put) (out′ : List ℕ) : Type 0 where
+  pub says : (source : List ℕ) → TypeRowMet source r t ks out s p ks out′
+
+-- ---- class definitions
+-- the code, the name after k and the count of a class of n fields
+abbrev pub ClassSays : List Item → ℕ → ℕ → List ℕ → ℕ → Put → List ℕ → Type 0
+ClassSays is k n out s (put.Done s′) out′ =
+    (c : Known) → (w : List ℕ) × (v : List ℕ) × (walk (putName className?) c is (suc k) ≡ Over w (suc (suc k)) c) × (shortestInt n ≡ some v) × Puts out s (0x43 ∷ (w ++ v)) out′ s′
+ClassSays is k n out s put.NoRecord out′ =
+    (c : Known) → At is k (Definition n) → length (c .classes) < 256 → n ≤ 256 → walk (putDefinition base) c is k ≡ Stuck
+
+pub record ClassMet (is : List Item) (k n : ℕ) (out : List ℕ) (s : ℕ) (r : Put) (out′ : List ℕ) : Type 0 where
+  pub says : ClassSays is k n out s r out′
+
+-- past the definitions at k the value's row r stands at p
+pub record Reached (source : List ℕ) (is : List Item) (n k s : ℕ) (ks out : List ℕ) (p s′ : ℕ) (r : RowRead) (ks′ out′ : List ℕ) : Type 0 where
+  pub written : List ℕ
+  pub says : (openFrom d : ℕ) → walk (putValue base openFrom d) (knownIn ks) is k ≡ behind written (walk (putPlain base openFrom (below base openFrom d)) (knownIn ks′) is p)
+  pub puts : Puts out s written out′ s′
+  pub ready : Ready is ks′ p s′
+  pub onward : k ≤ p
+  pub inside : p < n
+  pub stands : Stands source r is p
+
+abbrev pub FoundSays : List ℕ → List Item → ℕ → ℕ → ℕ → List ℕ → List ℕ → Found → List ℕ → List ℕ → Type 0
+FoundSays source is n k s ks out (found.Value p s′ r) ks′ out′ = Reached source is n k s ks out p s′ r ks′ out′
+FoundSays source is n k s ks out found.NoRecord ks′ out′ = (openFrom d : ℕ) → walk (putValue base openFrom d) (knownIn ks) is k ≡ Stuck
+
+pub record FoundMet (source : List ℕ) (is : List Item) (n k s : ℕ) (ks out : List ℕ) (r : Found) (ks′ out′ : List ℕ) : Type 0 where
+  pub says : FoundSays source is n k s ks out r ks′ out′
+
+-- ---- lists, maps and objects
+-- 5a after the values, or nothing
+abbrev pub closed : Bool → Walked → Walked
+closed true o = ended o
+closed false o = o
+
+abbrev pub closing : Bool → List ℕ
+closing true = 0x5a ∷ []
+closing false = []
+
+-- what is written is o of what writes the values inside: bytes, and then these values from p on
+pub record Opens (o : spelling.Put → Walked) (is : List Item) (from s : ℕ) (out : List ℕ) (x : Contents) (closes : Bool) (p s′ : ℕ) (ks′ out′ : List ℕ) : Type 0 where
+  pub written : List ℕ
+  pub says : (g : spelling.Put) → Drops g → o g ≡ behind written (closed closes (walk (left g x 0) (knownIn ks′) is p))
+  pub puts : Puts out s written out′ s′
+  pub ready : Ready is ks′ p s′
+  pub onward : from ≤ p
+
+abbrev pub OpensSays : (spelling.Put → Walked) → List Item → ℕ → ℕ → List ℕ → Begun → List ℕ → List ℕ → Type 0
+OpensSays o is from s out (begun.Past p s′) ks′ out′ = ⊥
+OpensSays o is from s out (begun.Within x closes p s′) ks′ out′ = Opens o is from s out x closes p s′ ks′ out′
+OpensSays o is from s out begun.NoRecord ks′ out′ = (g : spelling.Put) → Drops g → o g ≡ Stuck
+
+pub record OpensMet (o : spelling.Put → Walked) (is : List Item) (from s : ℕ) (out : List ℕ) (r : Begun) (ks′ out′ : List ℕ) : Type 0 where
+  pub says : OpensSays o is from s out r ks′ out′
+
+-- the codes of a list, typed or not: the lowest of one byte, the counted form, the open form; of a map
+abbrev pub fewCode : Bool → ℕ
+fewCode true = 0x70
+fewCode false = 0x78
+
+abbrev pub countedCode : Bool → ℕ
+countedCode true = 0x56
+countedCode false = 0x58
+
+abbrev pub openCode : Bool → ℕ
+openCode true = 0x55
+openCode false = 0x57
+
+abbrev pub mapCode : Bool → ℕ
+mapCode true = 0x4d
+mapCode false = 0x48
+
+-- the code of a list of n elements
+abbrev pub listCode : Bool → ℕ → ℕ → ℕ
+listCode typed openFrom n = pick (ltb n 8) (fewCode typed + n) (pick (ltb n openFrom) (countedCode typed) (openCode typed))
+
+-- a list of n elements, a map of n pairs, of the type t where it is typed; an object of the class j with n fields: by what writes the values inside
+abbrev pub listBy : Bool → ℕ → ℕ → ℕ → Known → List Item → ℕ → spelling.Put → Walked
+listBy typed t openFrom n c is k g = walk (putList openFrom (fewCode typed) (countedCode typed) (openCode typed) n (typeBy typed t) (putMany g n)) c is k
+
+abbrev pub mapBy : Bool → ℕ → ℕ → Known → List Item → ℕ → spelling.Put → Walked
+mapBy typed t n c is k g = walk (putOpen (mapCode typed) (typeBy typed t) (putMany (putThen g g) n)) c is k
+
+abbrev pub objectBy : ℕ → ℕ → Known → List Item → ℕ → spelling.Put → Walked
+objectBy j n c is k g = walk (putIf (eqb (getD (c .classes) j 0) n && ltb j (length (c .classes))) (putThen (putBytes (objectCode j)) (putMany g n))) c is k
+
+-- the value at k likewise
+abbrev pub plainBy : ℕ → Known → List Item → ℕ → spelling.Put → Walked
+plainBy openFrom c is k g = walk (putPlain base openFrom (some g)) c is k
+
+-- an object's fields begin at the index k, which is within the items
+pub record ObjectMet (j n : ℕ) (ks : List ℕ) (k s : ℕ) (out : List ℕ) (r : Begun) (out′ : List ℕ) : Type 0 where
+  pub says : (is : List Item) → Ready is ks k s → OpensMet (objectBy j n (knownIn ks) is k) is k s out r ks out′
+
+-- the kind of a list, map or object
+pub record Holder (kind : ℕ) : Type 0 where
+  pub from : 9 ≤ kind
+  pub to : kind ≤ 13
+
+-- ---- values
+-- what is written is o: bytes, and then the values of a list, map or object from p on, where d more may open
+pub record Inner (o : Walked) (openFrom d : ℕ) (is : List Item) (from s : ℕ) (out : List ℕ) (x : Contents) (closes : Bool) (p s′ : ℕ) (ks′ out′ : List ℕ) : Type 0 where
+  pub written : List ℕ
+  pub says : o ≡ behind written (closed closes (walk (left (putValue base openFrom (d - 1)) x 0) (knownIn ks′) is p))
+  pub puts : Puts out s written out′ s′
+  pub ready : Ready is ks′ p s′
+  pub onward : from ≤ p
+  pub open-one : 0 < d
+
+abbrev pub BeginSays : Walked → ℕ → ℕ → List Item → ℕ → ℕ → List ℕ → Begun → List ℕ → List ℕ → Type 0
+BeginSays o openFrom d is from s out (begun.Past p s′) ks′ out′ = Went o is from s out p s′ ks′ out′
+BeginSays o openFrom d is from s out (begun.Within x closes p s′) ks′ out′ = Inner o openFrom d is from s out x closes p s′ ks′ out′
+BeginSays o openFrom d is from s out begun.NoRecord ks′ out′ = o ≡ Stuck
+
+pub record BeginMet (o : Walked) (openFrom d : ℕ) (is : List Item) (from s : ℕ) (out : List ℕ) (r : Begun) (ks′ out′ : List ℕ) : Type 0 where
+  pub says : BeginSays o openFrom d is from s out r ks′ out′
+
+-- ---- messages
+-- the size of the shortest message of the rows, up to one more than the longest message; or they are no record
+abbrev pub JudgeSays : Option (List ℕ) → Put → Type 0
+JudgeSays o (put.Done s) = (w : List ℕ) × (o ≡ some w) × (s ≡ min (length w) 262_145)
+JudgeSays o put.NoRecord = o ≡ none
+
+pub record JudgeMet (o : Option (List ℕ)) (r : Put) : Type 0 where
+  pub says : JudgeSays o r
+
+-- the rows lent have the shortest message o, or none
+pub record WritesInto (o : Option (List ℕ)) (out : List ℕ) (r : answer.WriteAnswer) (out′ : List ℕ) : Type 0 where
+  pub says : report r ≡ reportWritten (spelling.stored 262_144 (length out) o)
+  pub holds : out′ ≡ outputWritten out (spelling.stored 262_144 (length out) o)
+
+-- the first n rows of the tables, which may be more than are lent
+abbrev pub writtenFrom : ℕ → List ℕ → List ℕ → List ℕ → ℕ → ℕ → WriteAnswer
+writtenFrom openFrom source t b n lent = answeredTo 262_144 lent source (pick (ltb (lentIn t b) n) none (shortestOf base openFrom 32 source (rowsIn t b n)))
+
+pub record WritesFrom (openFrom : ℕ) (source t b : List ℕ) (n : ℕ) (out : List ℕ) (r : answer.WriteAnswer) (out′ : List ℕ) : Type 0 where
+  pub says : report r ≡ reportWritten (writtenFrom openFrom source t b n (length out))
+  pub holds : out′ ≡ outputWritten out (writtenFrom openFrom source t b n (length out))

@@ -1,4 +1,149 @@
-// The writer's parts: the rows of a lent table, bytes put behind those so far, and the texts and byte strings that rows name.
+// Writes the shortest message of a table of rows, whose texts and byte strings lie in a source. What a record's shortest message is stands
+// in record's specs/Spelling.antt, what the writer answers in its specs/Answers.antt.
+pub mod definitions;
+pub mod holders;
+pub mod leaves;
 pub mod names;
 pub mod puts;
 pub mod rows;
+pub mod types;
+pub mod values;
+
+use crate::puts::Put;
+use crate::puts::Step;
+use record::Contents;
+ghost use mathlib.Core.Path.{_≡_};
+ghost use Prim.Native.Nat.{_≤_};
+ghost use lib.ListN.{length};
+ghost use Rattle.record.specs.Answers.{base, shortestOf, asNumbers, asBytes, writeReport, writeOutput};
+ghost use Rattle.writer.specs.Answers.{report};
+ghost use Rattle.writer.specs.Inside.{lentIn, rowsIn, JudgeMet, WritesInto, WritesFrom};
+
+// The longest message.
+const LONGEST: usize = 262_144;
+
+// How many lists, maps and objects may be open at once.
+const ALLOWANCE: usize = 32;
+
+// From how many elements on a list takes the open form.
+const OPEN_FROM: u64 = 48;
+
+// What writing a table comes to: the bytes written; the source, or the shortest message, is too long; the rows are no record; the bytes
+// needed, where fewer are lent.
+pub enum WriteAnswer {
+    Written { size: usize },
+    TooLong,
+    NoRecord,
+    TooFew { needed: usize },
+}
+
+// Whether the first n rows are a record, and how many bytes its shortest message takes, up to one more than the longest message. Nothing
+// is stored.
+fn judge(source: &[u8], numbers: &[u64], bytes: &[u8], n: usize, open_from: u64) -> Put
+    requires { ⌜ n ≤ lentIn (now numbers) (now bytes) ⌝ }
+    ensures { λ r. ⌜ JudgeMet (shortestOf base open_from 32 (now (source .entry)) (rowsIn (now (numbers .entry)) (now (bytes .entry)) n)) r ⌝ }
+{
+    let mut none: [u8; 0] = [];
+    let mut known = [0u64; 259];
+    match values::write_values(
+        source,
+        numbers,
+        bytes,
+        n,
+        &mut known,
+        0,
+        Contents::Elements(1),
+        &mut none,
+        0,
+        ALLOWANCE,
+        open_from,
+    ) {
+        Step::NoRecord => Put::NoRecord,
+        Step::Done { next, size } => {
+            if next < n {
+                return Put::NoRecord;
+            }
+            Put::Done { size }
+        }
+    }
+}
+
+// Writes the first n rows, which are lent: judges and counts first, then stores, so that a refusal stores nothing.
+fn write_rows(
+    source: &[u8],
+    numbers: &[u64],
+    bytes: &[u8],
+    n: usize,
+    out: &mut [u8],
+    open_from: u64,
+) -> WriteAnswer
+    requires { ⌜ n ≤ lentIn (now numbers) (now bytes) ⌝ }
+    ensures { λ r. ⌜ WritesInto (shortestOf base open_from 32 (now (source .entry)) (rowsIn (now (numbers .entry)) (now (bytes .entry)) n)) (now (out .entry)) r (now (out .exit)) ⌝ }
+{
+    match judge(source, numbers, bytes, n, open_from) {
+        Put::NoRecord => WriteAnswer::NoRecord,
+        Put::Done { size } => {
+            if LONGEST < size {
+                return WriteAnswer::TooLong;
+            }
+            if out.len() < size {
+                return WriteAnswer::TooFew { needed: size };
+            }
+            let mut known = [0u64; 259];
+            values::write_values(
+                source,
+                numbers,
+                bytes,
+                n,
+                &mut known,
+                0,
+                Contents::Elements(1),
+                out,
+                0,
+                ALLOWANCE,
+                open_from,
+            );
+            WriteAnswer::Written { size }
+        }
+    }
+}
+
+// Writes the first `rows` rows of both tables, in which so many are lent.
+fn write_from(
+    source: &[u8],
+    numbers: &[u64],
+    bytes: &[u8],
+    lent: usize,
+    rows: u64,
+    out: &mut [u8],
+    open_from: u64,
+) -> WriteAnswer
+    requires { ⌜ lent ≡ lentIn (now numbers) (now bytes) ⌝ }
+    ensures { λ r. ⌜ WritesFrom open_from (now (source .entry)) (now (numbers .entry)) (now (bytes .entry)) rows (now (out .entry)) r (now (out .exit)) ⌝ }
+{
+    if LONGEST < source.len() {
+        return WriteAnswer::TooLong;
+    }
+    if (lent as u64) < rows {
+        return WriteAnswer::NoRecord;
+    }
+    write_rows(source, numbers, bytes, rows as usize, out, open_from)
+}
+
+// Writes the first `rows` rows of a table of four numbers a row.
+pub fn write(source: &[u8], table: &[u64], rows: u64, output: &mut [u8]) -> WriteAnswer
+    ensures { λ r. ⌜ (report r ≡ writeReport base 48 32 262144 asNumbers (now (source .entry)) (now (table .entry)) rows (now (output .entry))) × (now (output .exit) ≡ writeOutput base 48 32 262144 asNumbers (now (source .entry)) (now (table .entry)) rows (now (output .entry))) ⌝ }
+{
+    let lent = table.len() / 4;
+    let none: [u8; 0] = [];
+    write_from(source, table, &none, lent, rows, output, OPEN_FROM)
+}
+
+// Writes the first `rows` rows of a table of 32 bytes a row, each number as eight bytes, the highest first.
+pub fn write_bytes(source: &[u8], table: &[u8], rows: u64, output: &mut [u8]) -> WriteAnswer
+    ensures { λ r. ⌜ (report r ≡ writeReport base 48 32 262144 asBytes (now (source .entry)) (now (table .entry)) rows (now (output .entry))) × (now (output .exit) ≡ writeOutput base 48 32 262144 asBytes (now (source .entry)) (now (table .entry)) rows (now (output .entry))) ⌝ }
+{
+    let lent = table.len() / 32;
+    let none: [u64; 0] = [];
+    write_from(source, &none, table, lent, rows, output, OPEN_FROM)
+}

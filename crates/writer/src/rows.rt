@@ -1,7 +1,7 @@
 // The rows of a lent table: of numbers, or of C's bytes. A caller lends one and leaves the other empty.
 ghost use mathlib.Core.Path.{_≡_};
-ghost use Prim.Native.Nat.{_<_};
-ghost use Rattle.writer.specs.Inside.{lentIn, rowIn, rowOf};
+ghost use Prim.Native.Nat.{_≤_, _<_};
+ghost use Rattle.writer.specs.Inside.{lentIn, rowIn, rowOf, FetchMet};
 
 // A row: kind, place, first and second number.
 pub struct RowRead {
@@ -11,8 +11,14 @@ pub struct RowRead {
     pub second: u64,
 }
 
+// The row at an index, if there is one.
+pub enum Fetched {
+    Row(RowRead),
+    End,
+}
+
 // The row k.
-pub(crate) fn row_at(numbers: &[u64], bytes: &[u8], k: usize) -> RowRead
+fn row_at(numbers: &[u64], bytes: &[u8], k: usize) -> RowRead
     requires { ⌜ k < lentIn (now numbers) (now bytes) ⌝ }
     ensures { λ r. ⌜ rowOf r ≡ rowIn (now (numbers .entry)) (now (bytes .entry)) k ⌝ }
 {
@@ -27,9 +33,20 @@ pub(crate) fn row_at(numbers: &[u64], bytes: &[u8], k: usize) -> RowRead
     }
     let i = k * 32;
     RowRead {
-        kind: wire::number_at(bytes, i, 8, 0),
-        place: wire::number_at(bytes, i + 8, 8, 0),
-        first: wire::number_at(bytes, i + 16, 8, 0),
-        second: wire::number_at(bytes, i + 24, 8, 0),
+        kind: wire::eight_at(bytes, i),
+        place: wire::eight_at(bytes, i + 8),
+        first: wire::eight_at(bytes, i + 16),
+        second: wire::eight_at(bytes, i + 24),
     }
+}
+
+// The row k of the first n, if it is one of them.
+pub(crate) fn fetch(numbers: &[u64], bytes: &[u8], n: usize, k: usize) -> Fetched
+    requires { ⌜ n ≤ lentIn (now numbers) (now bytes) ⌝ }
+    ensures { λ r. ⌜ FetchMet (now (numbers .entry)) (now (bytes .entry)) n k r ⌝ }
+{
+    if n <= k {
+        return Fetched::End;
+    }
+    Fetched::Row(row_at(numbers, bytes, k))
 }

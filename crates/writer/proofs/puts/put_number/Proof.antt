@@ -1,31 +1,53 @@
--- Each way out has its law in proofs/Putting.antt.
+-- What each kind's forms are has its law in proofs/Numbered.antt.
 use borrow.Author.Needs.{needs}
-use Rattle.writer.proofs.Putting.{form-none, form-stored, form-over}
+use Rattle.writer.proofs.Numbered.{single-null, single-false, single-true, whole-int, whole-long}
 use Rattle.writer.proofs.puts.put_number.Statement.{statement}
 use Rattle.writer.proofs.puts.put_number.Tie as tie
 
-returns : tie.Need-returns
-returns c = search (form-none, needs)
+put-single-requires : tie.Need-put-single-requires
+put-single-requires c κs = search (single-null, needs)
 
-returns-2 : tie.Need-returns-2
-returns-2 c = search (form-stored, needs)
+put-single-requires-2 : tie.Need-put-single-requires-2
+put-single-requires-2 c κs = search (single-false, needs)
 
-returns-3 : tie.Need-returns-3
-returns-3 c = search (form-over, needs)
+put-single-requires-3 : tie.Need-put-single-requires-3
+put-single-requires-3 c κs = search (single-true, needs)
+
+put-whole-requires : tie.Need-put-whole-requires
+put-whole-requires c κs = search (whole-int, needs)
+
+put-whole-requires-2 : tie.Need-put-whole-requires-2
+put-whole-requires-2 c κs = search (whole-long, needs)
 
 pub put-number-spec : {M : Type 1} → statement M
 put-number-spec =
     tie.close
     (tie.spec
+    (λ c. search needs)
+    put-single-requires
+    (λ c. search needs)
+    put-single-requires-2
+    (λ c. search needs)
+    put-single-requires-3
+    (λ c. search needs)
+    put-whole-requires
+    (λ c. search needs)
+    put-whole-requires-2
+    (λ c. search needs)
+    (λ c κs. search needs)
+    (λ c. search needs)
     (λ c κs. search needs)
     (λ c. search needs)
     (λ c. search needs)
-    (λ c κs. search needs)
     (λ c. search needs)
-    (λ c κs. search needs)
     (λ c. search needs)
-    returns
     (λ c. search needs)
-    returns-2
     (λ c. search needs)
-    returns-3)
+    (λ c. search needs)
+    (λ c. search needs)
+    (λ c. search needs)
+    (λ c. search needs)
+    (λ c. search needs)
+    (λ c. search needs)
+    (λ c. search needs)
+    (λ c. search needs))

@@ -1,0 +1,298 @@
+-- Lists, maps and objects, up to the values inside: what the contracts ask at each way out, one law for each.
+use mathlib.Core.Path.{_≡_, refl, sym, ap, _∙_}
+use mathlib.Core.Bool.{Bool, true, false}
+use mathlib.Core.List.{List, [], _∷_, _++_}
+use mathlib.Core.Option.{Option, none, some}
+use Prim.Native.Nat.{ℕ, suc, _+_, _%_, _≤_, _<_}
+use native.Mathlib.Numerals.{add-one}
+use native.Mathlib.Omega.{arith}
+use lib.Dec.{ltb, eqb}
+use lib.ListN.{length, getD, set}
+use lib.Seq.{getD-take}
+use borrow.Author.Tests.{lt-ltb, le-ltb, eq-eqb, ne-eqb, eqb-true, eqb-false}
+use Rattle.flow.specs.Tests.{pick-true, pick-false, split}
+use Rattle.scalar.specs.Scalars.{shortestInt}
+use Rattle.record.specs.declared.Contents.the-variants.{Elements, Couples}
+use Rattle.record.specs.Records.{Value, UntypedList, TypedList, UntypedMap, TypedMap, Object, Item, Val, Known, opened}
+use Rattle.record.specs.Answers.{Put, putThen, putMany, putBytes, codeThen, objectCode, base}
+use Rattle.record.specs.Claimed.{itemAt}
+use Rattle.record.specs.RowItems.{untyped-list, untyped-map, typed-list, typed-map, an-object, first-item, first-none, both-item}
+use Rattle.record.specs.Walked.{At, at-within, Walked, Stuck, walk, behind, Drops, many-drops, then-drops, walk-both, walk-unless-one, walk-unless-other, walk-first, walk-first-none}
+use Rattle.record.specs.Drops.{nothing-drops, type-drops}
+use Rattle.record.specs.Writes.{ended, list-few, list-counted, list-uncounted, list-open, list-stuck, open-body, open-stuck, object-few, object-many, plain-end, plain-list, plain-typed-list, plain-map, plain-typed-map, plain-object}
+use Rattle.record.specs.Contents.{walk-elements, walk-couples}
+use Rattle.record.specs.KnownArray.{knownIn, Kept, classes-counted, references-more, known-opened, kept-opened}
+use Rattle.writer.specs.declared.rows.RowRead.{RowRead}
+use Rattle.writer.specs.declared.puts.Put.the-variants as put
+use Rattle.writer.specs.declared.puts.Put as puts
+use Rattle.writer.specs.declared.puts.Step.{Step}
+use Rattle.writer.specs.declared.puts.Step.the-variants as step
+use Rattle.writer.specs.declared.holders.Begun.{Begun}
+use Rattle.writer.specs.declared.holders.Begun.the-variants as begun
+use Rattle.writer.specs.Inside.{rowOf, Stands, Puts, PutMet, Ready, Went, StepMet, typeBy, OpensMet, Holder, fewCode, countedCode, openCode, mapCode, listCode, listBy, mapBy, objectBy, plainBy, ObjectMet}
+use Rattle.writer.proofs.Putting.{puts-on}
+
+-- ---- a code before a form
+pub code-then : {out o₁ : List ℕ} {s s₁ : ℕ} (b : ℕ) → Puts out s (b ∷ []) o₁ s₁ → (o : Option (List ℕ)) (r : puts.Put) (out′ : List ℕ) → PutMet o o₁ s₁ r out′ → PutMet (codeThen b o) out s r out′
+code-then b p o (put.Done z) out′ h = record { says = (b ∷ h .says .0, ap (codeThen b) (h .says .1), puts-on p (h .says .2)) }
+code-then b p o put.NoRecord out′ h = record { says = ap (codeThen b) (h .says) }
+
+-- an object's code
+module _ (j : ℕ) (out : List ℕ) (s : ℕ) where
+  pub code-short : j < 16 → (out′ : List ℕ) (s′ : ℕ) → Puts out s ((0x60 + j) ∷ []) out′ s′ → PutMet (objectCode j) out s (put.Done s′) out′
+  code-short l out′ s′ p = record { says = ((0x60 + j) ∷ [], object-few j l, p) }
+
+  pub code-long : 16 ≤ j → (o₁ : List ℕ) (s₁ : ℕ) → Puts out s (0x4f ∷ []) o₁ s₁ → (r : puts.Put) (out′ : List ℕ) → PutMet (shortestInt j) o₁ s₁ r out′ → PutMet (objectCode j) out s r out′
+  code-long l o₁ s₁ p r out′ h = rw (object-many j l (shortestInt j) refl) (code-then 0x4f p (shortestInt j) r out′ h)
+
+-- ---- an object
+module _ (j n : ℕ) (ks : List ℕ) (w : Kept ks) (k s : ℕ) (out : List ℕ) where
+  -- what follows the tests
+  abbrev coded : Put → Put
+  coded g = putThen (putBytes (objectCode j)) (putMany g n)
+
+  given : (l : j < getD ks 256 0) → getD (knownIn ks .classes) j 0 ≡ getD ks j 0
+  given l = getD-take (getD ks 256 0) ks j 0 l
+
+  pub object-ungiven : getD ks 256 0 ≤ j → (out′ : List ℕ) → ObjectMet j n ks k s out begun.NoRecord out′
+  object-ungiven l out′ = record {
+    says = λ is z. record {
+      says = λ g d. walk-unless-other (knownIn ks) is k (coded g) (eqb (getD (knownIn ks .classes) j 0) n) (ltb j (length (knownIn ks .classes))) (le-ltb j (length (knownIn ks .classes)) (omega (arith, classes-counted w)));
+    };
+  }
+
+  module _ (l : j < getD ks 256 0) where
+    pub object-misfit : (getD ks j 0 ≡ n → ⊥) → (out′ : List ℕ) → ObjectMet j n ks k s out begun.NoRecord out′
+    object-misfit x out′ = record {
+      says = λ is z. record {
+        says = λ g d. walk-unless-one (knownIn ks) is k (coded g) (eqb (getD (knownIn ks .classes) j 0) n) (ltb j (length (knownIn ks .classes))) (ne-eqb (getD (knownIn ks .classes) j 0) n (λ e. x (sym (given l) ∙ e)));
+      };
+    }
+
+    module _ (e : getD ks j 0 ≡ n) where
+      by-code : (is : List Item) (g : Put) (o : Option (List ℕ)) → objectCode j ≡ o → objectBy j n (knownIn ks) is k g ≡ walk (putThen (putBytes o) (putMany g n)) (knownIn ks) is k
+      by-code is g o x =
+          walk-both (knownIn ks) is k (coded g) (eqb (getD (knownIn ks .classes) j 0) n) (ltb j (length (knownIn ks .classes))) (eq-eqb (getD (knownIn ks .classes) j 0) n (given l ∙ e)) (lt-ltb j (length (knownIn ks .classes)) (omega (arith, classes-counted w)))
+          ∙ ap (λ (o : Option (List ℕ)). walk (putThen (putBytes o) (putMany g n)) (knownIn ks) is k) x
+
+      module _ (r : puts.Put) (out′ : List ℕ) (h : PutMet (objectCode j) out s r out′) where
+        pub object-uncoded : r ≡ put.NoRecord → ObjectMet j n ks k s out begun.NoRecord out′
+        object-uncoded x = let y : PutMet (objectCode j) out s put.NoRecord out′ = rw x at h in
+            record { says = λ is z. record { says = λ g d. by-code is g none (y .says) ∙ walk-first-none (knownIn ks) is k (putMany g n) } }
+
+        pub object-opens : (s′ : ℕ) → r ≡ put.Done s′ → ObjectMet j n ks k s out (begun.Within (Elements n) false k s′) out′
+        object-opens s′ x = let y : PutMet (objectCode j) out s (put.Done s′) out′ = rw x at h in
+            let v = y .says .0 in
+            record {
+              says = λ is z. record {
+                says = record {
+                  written = v;
+                  says = λ g d. by-code is g (some v) (y .says .1) ∙ walk-first (knownIn ks) is k v (putMany g n) (z .within) ∙ ap (behind v) (walk-elements g n (knownIn ks) is k);
+                  puts = y .says .2;
+                  ready = record { kept = z .kept; within = z .within; references-few = z .references-few; size-few = omega (arith, y .says .2 .grows) };
+                  onward = omega arith;
+                };
+              };
+            }
+
+-- ---- a type, or none
+by-drops : (typed : Bool) (t : ℕ) → Drops (typeBy typed t)
+by-drops true t = type-drops base t
+by-drops false t = nothing-drops
+
+-- a code b, and then a type, by what was answered of it
+module _ (typed : Bool) (t : ℕ) (ks : List ℕ) (is : List Item) (k s : ℕ) (z : Ready is ks k s) (out : List ℕ) (b : ℕ) (o₁ : List ℕ) (s₁ : ℕ) (y : Puts out s (b ∷ []) o₁ s₁) (r : Step) (ks′ o₂ : List ℕ) (h : StepMet (walk (typeBy typed t) (knownIn ks) is k) is k s₁ o₁ r ks′ o₂) where
+  lost : r ≡ step.NoRecord → walk (typeBy typed t) (knownIn ks) is k ≡ Stuck
+  lost e = let q : StepMet (walk (typeBy typed t) (knownIn ks) is k) is k s₁ o₁ step.NoRecord ks′ o₂ = rw e at h in q .says
+
+  went : (p s₂ : ℕ) → r ≡ step.Done p s₂ → Went (walk (typeBy typed t) (knownIn ks) is k) is k s₁ o₁ p s₂ ks′ o₂
+  went p s₂ e = let q : StepMet (walk (typeBy typed t) (knownIn ks) is k) is k s₁ o₁ (step.Done p s₂) ks′ o₂ = rw e at h in q .says
+
+  pub type-few : (p s₂ : ℕ) → r ≡ step.Done p s₂ → s₂ ≤ 262_145
+  type-few p s₂ e = went p s₂ e .ready .size-few
+
+  -- ---- a list of n elements
+  module _ (f n : ℕ) (i : b ≡ listCode typed f n) where
+    pub list-untyped : r ≡ step.NoRecord → (out′ : List ℕ) → OpensMet (listBy typed t f n (knownIn ks) is k) is k s out begun.NoRecord ks′ out′
+    list-untyped e out′ = record {
+      says = λ g d. list-stuck f (fewCode typed) (countedCode typed) (openCode typed) n (typeBy typed t) (putMany g n) (by-drops typed t) (knownIn ks) is k (z .within) (lost e);
+    }
+
+    module _ (p s₂ : ℕ) (e : r ≡ step.Done p s₂) where
+      typed-as : Went (walk (typeBy typed t) (knownIn ks) is k) is k s₁ o₁ p s₂ ks′ o₂
+      typed-as = went p s₂ e
+
+      -- the code, where it is x
+      coded-as : (x : ℕ) → b ≡ x → Puts out s (x ∷ typed-as .written) o₂ s₂
+      coded-as x q = rw (← q) (puts-on y (typed-as .puts))
+
+      pub list-short : n < 8 → OpensMet (listBy typed t f n (knownIn ks) is k) is k s out (begun.Within (Elements n) false p s₂) ks′ o₂
+      list-short l = record {
+        says = record {
+          written = (fewCode typed + n) ∷ typed-as .written;
+          says = λ g d.
+              list-few f (fewCode typed) (countedCode typed) (openCode typed) n (typeBy typed t) (putMany g n) (by-drops typed t) (knownIn ks) is k (z .within) (typed-as .written) p (knownIn ks′) (typed-as .says) (typed-as .ready .within) l
+              ∙ ap (behind ((fewCode typed + n) ∷ typed-as .written)) (walk-elements g n (knownIn ks′) is p);
+          puts = coded-as (fewCode typed + n) (i ∙ pick-true _ _ (lt-ltb n 8 l));
+          ready = typed-as .ready;
+          onward = typed-as .onward;
+        };
+      }
+
+      module _ (l : 8 ≤ n) where
+        pub list-long : f ≤ n → OpensMet (listBy typed t f n (knownIn ks) is k) is k s out (begun.Within (Elements n) true p s₂) ks′ o₂
+        list-long m = record {
+          says = record {
+            written = openCode typed ∷ typed-as .written;
+            says = λ g d.
+                list-open f (fewCode typed) (countedCode typed) (openCode typed) n (typeBy typed t) (putMany g n) (by-drops typed t) (knownIn ks) is k (z .within) (typed-as .written) p (knownIn ks′) (typed-as .says) (typed-as .ready .within) l m (many-drops g d n)
+                ∙ ap (λ (o : Walked). behind (openCode typed ∷ typed-as .written) (ended o)) (walk-elements g n (knownIn ks′) is p);
+            puts = coded-as (openCode typed) (i ∙ pick-false _ _ (le-ltb n 8 l) ∙ pick-false _ _ (le-ltb n f m));
+            ready = typed-as .ready;
+            onward = typed-as .onward;
+          };
+        }
+
+        module _ (m : n < f) (x : puts.Put) (out′ : List ℕ) (u : PutMet (shortestInt n) o₂ s₂ x out′) where
+          pub list-countless : x ≡ put.NoRecord → OpensMet (listBy typed t f n (knownIn ks) is k) is k s out begun.NoRecord ks′ out′
+          list-countless j = let v : PutMet (shortestInt n) o₂ s₂ put.NoRecord out′ = rw j at u in record {
+            says = λ g d. list-uncounted f (fewCode typed) (countedCode typed) (openCode typed) n (typeBy typed t) (putMany g n) (by-drops typed t) (knownIn ks) is k (z .within) (typed-as .written) p (knownIn ks′) (typed-as .says) (typed-as .ready .within) l m (v .says);
+          }
+
+          pub list-of-count : (s′ : ℕ) → x ≡ put.Done s′ → OpensMet (listBy typed t f n (knownIn ks) is k) is k s out (begun.Within (Elements n) false p s′) ks′ out′
+          list-of-count s′ j = let v : PutMet (shortestInt n) o₂ s₂ (put.Done s′) out′ = rw j at u in record {
+            says = record {
+              written = countedCode typed ∷ (typed-as .written ++ v .says .0);
+              says = λ g d.
+                  list-counted f (fewCode typed) (countedCode typed) (openCode typed) n (typeBy typed t) (putMany g n) (by-drops typed t) (knownIn ks) is k (z .within) (typed-as .written) p (knownIn ks′) (typed-as .says) (typed-as .ready .within) l m (v .says .0) (v .says .1)
+                  ∙ ap (behind (countedCode typed ∷ (typed-as .written ++ v .says .0))) (walk-elements g n (knownIn ks′) is p);
+              puts = puts-on (coded-as (countedCode typed) (i ∙ pick-false _ _ (le-ltb n 8 l) ∙ pick-true _ _ (lt-ltb n f m))) (v .says .2);
+              ready = record { kept = typed-as .ready .kept; within = typed-as .ready .within; references-few = typed-as .ready .references-few; size-few = omega (arith, v .says .2 .grows) };
+              onward = typed-as .onward;
+            };
+          }
+
+  -- ---- a map of n pairs
+  module _ (n : ℕ) (i : b ≡ mapCode typed) where
+    pub map-untyped : r ≡ step.NoRecord → (out′ : List ℕ) → OpensMet (mapBy typed t n (knownIn ks) is k) is k s out begun.NoRecord ks′ out′
+    map-untyped e out′ = record {
+      says = λ g d. open-stuck 0 0 0 0 n (typeBy typed t) (putMany (putThen g g) n) (by-drops typed t) (knownIn ks) is k (z .within) (lost e) (mapCode typed);
+    }
+
+    pub map-opens : (p s₂ : ℕ) → r ≡ step.Done p s₂ → OpensMet (mapBy typed t n (knownIn ks) is k) is k s out (begun.Within (Couples n) true p s₂) ks′ o₂
+    map-opens p s₂ e = let w = went p s₂ e in record {
+      says = record {
+        written = mapCode typed ∷ w .written;
+        says = λ g d.
+            open-body 0 0 0 0 n (typeBy typed t) (putMany (putThen g g) n) (by-drops typed t) (knownIn ks) is k (z .within) (w .written) p (knownIn ks′) (w .says) (w .ready .within) (mapCode typed) (many-drops (putThen g g) (then-drops g g d d) n)
+            ∙ ap (λ (o : Walked). behind (mapCode typed ∷ w .written) (ended o)) (walk-couples g n (knownIn ks′) is p);
+        puts = rw (← i) (puts-on y (w .puts));
+        ready = w .ready;
+        onward = w .onward;
+      };
+    }
+
+-- ---- the value of the row r, which stands at k
+-- what is written is the same by another name
+opens-as : {o o′ : Put → Walked} {is : List Item} {from s : ℕ} {out : List ℕ} (r : Begun) {ks′ out′ : List ℕ} → ((g : Put) → o′ g ≡ o g) → OpensMet o is from s out r ks′ out′ → OpensMet o′ is from s out r ks′ out′
+opens-as (begun.Past p s′) e h = record { says = h .says }
+opens-as (begun.Within x t p s′) e h = let z = h .says in
+    record { says = record { written = z .written; says = λ g d. e g ∙ z .says g d; puts = z .puts; ready = z .ready; onward = z .onward } }
+opens-as begun.NoRecord e h = record { says = λ g d. e g ∙ h .says g d }
+
+abbrev listOf : Bool → ℕ → ℕ → Value
+listOf true n t = TypedList n t
+listOf false n t = UntypedList n
+
+abbrev mapOf : Bool → ℕ → ℕ → Value
+mapOf true n t = TypedMap n t
+mapOf false n t = UntypedMap n
+
+-- a reference number more
+abbrev more : List ℕ → List ℕ
+more ks = set ks 258 (getD ks 258 0 + 1)
+
+module _ (f : ℕ) (c : Known) (is : List Item) (k : ℕ) (g : Put) where
+  list-is : (typed : Bool) (n t : ℕ) → At is k (Val (listOf typed n t)) → plainBy f c is k g ≡ listBy typed t f n (opened c) is (suc k) g
+  list-is true n t e = plain-typed-list base f (some g) c is k (Val (TypedList n t)) e (TypedList n t) refl g refl n t refl
+  list-is false n t e = plain-list base f (some g) c is k (Val (UntypedList n)) e (UntypedList n) refl g refl n refl
+
+  map-is : (typed : Bool) (n t : ℕ) → At is k (Val (mapOf typed n t)) → plainBy f c is k g ≡ mapBy typed t n (opened c) is (suc k) g
+  map-is true n t e = plain-typed-map base f (some g) c is k (Val (TypedMap n t)) e (TypedMap n t) refl g refl n t refl
+  map-is false n t e = plain-map base f (some g) c is k (Val (UntypedMap n)) e (UntypedMap n) refl g refl n refl
+
+  object-is : (j n : ℕ) → At is k (Val (Object j n)) → plainBy f c is k g ≡ objectBy j n (opened c) is (suc k) g
+  object-is j n e = plain-object base f (some g) c is k (Val (Object j n)) e (Object j n) refl g refl j n refl
+
+-- a list or map has a type, or no second number
+pub data Fitting (r : RowRead) : Type 0 where
+  has-type : (r .kind % 2 ≡ 1 → ⊥) → Fitting r
+  no-second : r .second ≡ 0 → Fitting r
+
+module _ (source : List ℕ) (r : RowRead) (is : List Item) (k : ℕ) (z : Stands source r is k) where
+  module _ (u : Fitting r) where
+    second-is : r .kind % 2 ≡ 1 → r .second ≡ 0
+    second-is e = go u
+      where
+        go : Fitting r → r .second ≡ 0
+        go (has-type f) = absurd (f e)
+        go (no-second f) = f
+
+    list-at : 9 ≤ r .kind → r .kind < 11 → At is k (Val (listOf (eqb (r .kind % 2) 0) (r .first) (r .second)))
+    list-at a b = go (eqb (r .kind % 2) 0) refl
+      where
+        go : (t : Bool) → eqb (r .kind % 2) 0 ≡ t → At is k (Val (listOf t (r .first) (r .second)))
+        go true e = z .item _ (both-item source typed-list (rowOf r) (omega (arith, eqb-true (r .kind % 2) 0 e)))
+        go false e = let q = eqb-false (r .kind % 2) 0 e in z .item _ (first-item source untyped-list (rowOf r) (omega arith) (second-is (omega arith)))
+
+    map-at : 11 ≤ r .kind → r .kind < 13 → At is k (Val (mapOf (eqb (r .kind % 2) 0) (r .first) (r .second)))
+    map-at a b = go (eqb (r .kind % 2) 0) refl
+      where
+        go : (t : Bool) → eqb (r .kind % 2) 0 ≡ t → At is k (Val (mapOf t (r .first) (r .second)))
+        go true e = z .item _ (both-item source typed-map (rowOf r) (omega (arith, eqb-true (r .kind % 2) 0 e)))
+        go false e = let q = eqb-false (r .kind % 2) 0 e in z .item _ (first-item source untyped-map (rowOf r) (omega arith) (second-is (omega arith)))
+
+  -- no list, map or object at all
+  pub held-lost : Holder (r .kind) → (r .kind ≡ 13 → ⊥) → r .kind % 2 ≡ 1 → (r .second ≡ 0 → ⊥) → (f s : ℕ) (ks out ks′ out′ : List ℕ) → OpensMet (plainBy f (knownIn ks) is k) is (k + 1) s out begun.NoRecord ks′ out′
+  held-lost h a b d f s ks out ks′ out′ = record { says = λ g y. plain-end base f (some g) (knownIn ks) is k (z .lost none-there) }
+    where
+      none-there : itemAt source (rowOf r) ≡ none
+      none-there = split (r .kind) 10
+          (λ l. first-none source untyped-list (rowOf r) (omega (arith, h .from)) d)
+          (λ l. first-none source untyped-map (rowOf r) (omega (arith, h .to)) d)
+
+  module _ (ks : List ℕ) (s : ℕ) (y : Ready is ks k s) where
+    ready-past : (i : Item) → At is k i → Ready is (more ks) (k + 1) s
+    ready-past i e = record {
+      kept = kept-opened ks (y .kept);
+      within = omega (arith, at-within is k i e);
+      references-few = omega (arith, references-more ks (y .kept), y .references-few);
+      size-few = y .size-few;
+    }
+
+    -- what is known then, and the index after the row
+    known-as : (o : Known → ℕ → Walked) → o (opened (knownIn ks)) (suc k) ≡ o (knownIn (more ks)) (k + 1)
+    known-as o = sym (λ i. o (known-opened ks (y .kept) i) (add-one k i))
+
+    pub ready-opened : Holder (r .kind) → (r .kind ≡ 13 → ⊥) → Fitting r → Ready is (more ks) (k + 1) s
+    ready-opened h d u = split (r .kind) 11
+        (λ l. ready-past _ (list-at u (h .from) l))
+        (λ l. ready-past _ (map-at u l (omega (arith, h .to))))
+
+    module _ (f : ℕ) (out : List ℕ) (p : Begun) where
+      pub object-held : r .kind ≡ 13 → (out′ : List ℕ) → ObjectMet (r .first) (r .second) (more ks) (k + 1) s out p out′
+          → OpensMet (plainBy f (knownIn ks) is k) is (k + 1) s out p (more ks) out′
+      object-held e out′ h =
+          let a = z .item (Val (Object (r .first) (r .second))) (both-item source an-object (rowOf r) e) in
+          opens-as p (λ g. object-is f (knownIn ks) is k g (r .first) (r .second) a ∙ known-as (λ c k. objectBy (r .first) (r .second) c is k g)) (h .says is (ready-past _ a))
+
+      module _ (t : Holder (r .kind)) (u : Fitting r) (ks′ out′ : List ℕ) where
+        pub list-held : r .kind < 11 → OpensMet (listBy (eqb (r .kind % 2) 0) (r .second) f (r .first) (knownIn (more ks)) is (k + 1)) is (k + 1) s out p ks′ out′
+            → OpensMet (plainBy f (knownIn ks) is k) is (k + 1) s out p ks′ out′
+        list-held l h = opens-as p (λ g. list-is f (knownIn ks) is k g (eqb (r .kind % 2) 0) (r .first) (r .second) (list-at u (t .from) l)
+            ∙ known-as (λ c k. listBy (eqb (r .kind % 2) 0) (r .second) f (r .first) c is k g)) h
+
+        pub map-held : 11 ≤ r .kind → (r .kind ≡ 13 → ⊥) → OpensMet (mapBy (eqb (r .kind % 2) 0) (r .second) (r .first) (knownIn (more ks)) is (k + 1)) is (k + 1) s out p ks′ out′
+            → OpensMet (plainBy f (knownIn ks) is k) is (k + 1) s out p ks′ out′
+        map-held l d h = opens-as p (λ g. map-is f (knownIn ks) is k g (eqb (r .kind % 2) 0) (r .first) (r .second) (map-at u l (omega (arith, t .to)))
+            ∙ known-as (λ c k. mapBy (eqb (r .kind % 2) 0) (r .second) (r .first) c is k g)) h

@@ -1,0 +1,217 @@
+-- What the contracts of `judge`, `write_rows`, `write_from`, `write` and `write_bytes` ask at each of their ways out.
+use mathlib.Core.Path.{_≡_, refl, sym, ap, subst, _∙_}
+use mathlib.Core.Bool.{Bool, true, false}
+use mathlib.Core.List.{List, []}
+use mathlib.Core.Option.{Option, none, some}
+use Prim.Native.Nat.{ℕ, zero, suc, _/_, _≤_, _<_}
+use native.Mathlib.Omega.{arith}
+use lib.Dec.{ltb, eqb}
+use lib.ListN.{length, replicate}
+use borrow.Author.Tests.{ltb-true, ltb-false, eqb-true, lt-ltb, le-ltb}
+use Rattle.flow.specs.Flow.{pick}
+use Rattle.flow.specs.Tests.{pick-true, pick-false}
+use Rattle.flow.specs.Flow as slices
+use Rattle.scalar.specs.Answers.{reported}
+use Rattle.record.specs.declared.Contents.the-variants.{Elements}
+use Rattle.record.specs.Records.{Item, Known, start, Row}
+use Rattle.record.specs.Answers.{putValue, WriteAnswer, Wrote, Refused, base, shortestOf, answeredTo, asNumbers, asBytes, rowsOf, reportWritten, outputWritten, written, writeReport, writeOutput}
+use Rattle.record.specs.Answers as messages
+use Rattle.record.specs.Walked.{claimed-few, Walked, Over, Stuck, walk}
+use Rattle.record.specs.Drops.{value-drops}
+use Rattle.record.specs.Contents.{left, one-value}
+use Rattle.record.specs.WrittenWhole.{whole-written, whole-short, whole-stuck}
+use Rattle.record.specs.KnownArray.{knownIn}
+use Rattle.writer.specs.declared.puts.Put.{Put}
+use Rattle.writer.specs.declared.puts.Put.the-variants as put
+use Rattle.writer.specs.declared.puts.Step.{Step}
+use Rattle.writer.specs.declared.puts.Step.the-variants as step
+use Rattle.writer.specs.declared.WriteAnswer as answer
+use Rattle.writer.specs.declared.WriteAnswer.the-variants as answers
+use Rattle.writer.specs.Answers.{report}
+use Rattle.writer.specs.Inside.{lentIn, rowsIn, itemsIn, Ready, Went, StepSays, StepMet, JudgeSays, JudgeMet, WritesInto, writtenFrom, WritesFrom}
+use Rattle.writer.proofs.Rowed.{rows-counted}
+
+-- ---- before the first row nothing is known
+abbrev blank : List ℕ
+blank = replicate 259 0
+
+pub ready-first : (is : List Item) → Ready is blank 0 0
+ready-first is = record {
+  kept = record { sized = refl; classes-few = omega arith; types-few = omega arith };
+  within = omega arith;
+  references-few = omega arith;
+  size-few = omega arith;
+}
+
+-- ---- the first n rows of two tables
+module _ (openFrom : ℕ) (source t b : List ℕ) (n : ℕ) where
+  -- what is written of them, and their shortest message
+  abbrev All : Walked
+  All = walk (left (putValue base openFrom 32) (Elements 1) 0) start (itemsIn source t b n) 0
+
+  abbrev Shortest : Option (List ℕ)
+  Shortest = shortestOf base openFrom 32 source (rowsIn t b n)
+
+  whole : (o : Walked) → All ≡ o → walk (putValue base openFrom 32) start (itemsIn source t b n) 0 ≡ o
+  whole o h = one-value (putValue base openFrom 32) (value-drops base openFrom 32) (itemsIn source t b n) start 0 o h
+
+  -- all rows are written, up to q
+  written-all : (w : List ℕ) (q : ℕ) (c : Known) → All ≡ Over w q c → n ≤ q → q ≤ length (itemsIn source t b n) → Shortest ≡ some w
+  written-all w q c h l i = whole-written base openFrom 32 source (rowsIn t b n) w q c (whole (Over w q c) h) (omega (arith, rows-counted t b n, claimed-few source (rowsIn t b n)))
+
+  module _ (out : List ℕ) (z : Step) (ks′ out′ : List ℕ) (m : StepMet All (itemsIn source t b n) 0 0 out z ks′ out′) where
+    said : (y : Step) → z ≡ y → StepSays All (itemsIn source t b n) 0 0 out y ks′ out′
+    said y e = subst (λ (y : Step). StepSays All (itemsIn source t b n) 0 0 out y ks′ out′) e (m .says)
+
+    pub judge-none : z ≡ step.NoRecord → JudgeMet Shortest put.NoRecord
+    judge-none e = record { says = whole-stuck base openFrom 32 source (rowsIn t b n) (whole Stuck (said step.NoRecord e)) }
+
+    module _ (q s : ℕ) (e : z ≡ step.Done q s) where
+      went : Went All (itemsIn source t b n) 0 0 out q s ks′ out′
+      went = said (step.Done q s) e
+
+      pub judge-short : q < n → JudgeMet Shortest put.NoRecord
+      judge-short l = record { says = whole-short base openFrom 32 source (rowsIn t b n) (went .written) q (knownIn ks′) (whole (Over (went .written) q (knownIn ks′)) (went .says)) (omega (arith, rows-counted t b n)) }
+
+      pub judge-done : n ≤ q → JudgeMet Shortest (put.Done s)
+      judge-done l = record { says = (went .written, written-all (went .written) q (knownIn ks′) (went .says) l (went .ready .within), omega (arith, went .puts .grows)) }
+
+-- ---- what is answered and stored, where the shortest message is o
+module _ (o : Option (List ℕ)) (out : List ℕ) where
+  -- an answer of the code, by the definitions' answer
+  into : (a : WriteAnswer) → messages.stored 262_144 (length out) o ≡ a → (r : answer.WriteAnswer) → report r ≡ reportWritten a → (out′ : List ℕ) → out′ ≡ outputWritten out a → WritesInto o out r out′
+  into a h r e out′ f = record { says = e ∙ ap reportWritten (sym h); holds = f ∙ ap (outputWritten out) (sym h) }
+
+  module _ (p : Put) (m : JudgeMet o p) where
+    pub into-none : p ≡ put.NoRecord → WritesInto o out answers.NoRecord out
+    into-none e = into (Refused 10 0) (ap (messages.stored 262_144 (length out)) (subst (λ (p : Put). JudgeSays o p) e (m .says))) answers.NoRecord refl out refl
+
+    module _ (s : ℕ) (e : p ≡ put.Done s) where
+      sized : JudgeSays o (put.Done s)
+      sized = subst (λ (p : Put). JudgeSays o p) e (m .says)
+
+      stored-as : messages.stored 262_144 (length out) o ≡ messages.stored 262_144 (length out) (some (sized .0))
+      stored-as = ap (messages.stored 262_144 (length out)) (sized .1)
+
+      pub into-long : 262_144 < s → WritesInto o out answers.TooLong out
+      into-long l = into (Refused 1 0) (stored-as ∙ pick-true _ _ (lt-ltb 262_144 (length (sized .0)) (omega (arith, sized .2)))) answers.TooLong refl out refl
+
+      module _ (short : s ≤ 262_144) where
+        is-size : s ≡ length (sized .0)
+        is-size = omega (arith, sized .2)
+
+        pub into-few : length out < s → WritesInto o out (answers.TooFew s) out
+        into-few l = into (Refused 9 (length (sized .0)))
+            (stored-as ∙ pick-false _ _ (le-ltb 262_144 (length (sized .0)) (omega (arith, is-size))) ∙ pick-true _ _ (lt-ltb (length out) (length (sized .0)) (omega (arith, is-size))))
+            (answers.TooFew s) (ap (λ (n : ℕ). reported 9 n) is-size) out refl
+
+        module _ (fits : s ≤ length out) where
+          into-wrote : (out′ : List ℕ) → out′ ≡ slices.stored out 0 (sized .0) → WritesInto o out (answers.Written s) out′
+          into-wrote out′ f = into (Wrote (sized .0))
+              (stored-as ∙ pick-false _ _ (le-ltb 262_144 (length (sized .0)) (omega (arith, is-size))) ∙ pick-false _ _ (le-ltb (length out) (length (sized .0)) (omega (arith, is-size))))
+              (answers.Written s) (ap (λ (n : ℕ). reported 0 n) is-size) out′ f
+
+-- the second run stores what the first counted
+module _ (openFrom : ℕ) (source t b : List ℕ) (n : ℕ) (out : List ℕ) (p : Put) (m : JudgeMet (Shortest openFrom source t b n) p) (s : ℕ) (e : p ≡ put.Done s) (short : s ≤ 262_144) (fits : s ≤ length out) where
+  pub into-done : (z : Step) (ks′ out′ : List ℕ) → StepMet (All openFrom source t b n) (itemsIn source t b n) 0 0 out z ks′ out′ → WritesInto (Shortest openFrom source t b n) out (answers.Written s) out′
+  into-done z ks′ out′ h = go z (h .says)
+    where
+      w : JudgeSays (Shortest openFrom source t b n) (put.Done s)
+      w = sized (Shortest openFrom source t b n) out p m s e
+
+      go : (z : Step) → StepSays (All openFrom source t b n) (itemsIn source t b n) 0 0 out z ks′ out′ → WritesInto (Shortest openFrom source t b n) out (answers.Written s) out′
+      go step.NoRecord g =
+          let x = whole-stuck base openFrom 32 source (rowsIn t b n) (whole openFrom source t b n Stuck g) in
+          let y = w .1 in
+          let q : _≡_ {A = ℕ} 0 1 = cc in
+          absurd (omega arith)
+      go (step.Done q k) g = ends (ltb q n) refl
+        where
+          x : walk (putValue base openFrom 32) start (itemsIn source t b n) 0 ≡ Over (g .written) q (knownIn ks′)
+          x = whole openFrom source t b n (Over (g .written) q (knownIn ks′)) (g .says)
+
+          ends : (b′ : Bool) → ltb q n ≡ b′ → WritesInto (Shortest openFrom source t b n) out (answers.Written s) out′
+          ends true l =
+              let y = whole-short base openFrom 32 source (rowsIn t b n) (g .written) q (knownIn ks′) x (omega (arith, ltb-true q n l, rows-counted t b n)) in
+              let u = w .1 in
+              let z : _≡_ {A = ℕ} 0 1 = cc in
+              absurd (omega arith)
+          ends false l =
+              let y = written-all openFrom source t b n (g .written) q (knownIn ks′) (g .says) (omega (arith, ltb-false q n l)) (g .ready .within) in
+              let u = w .1 in
+              let v : g .written ≡ w .0 = cc in
+              let i = is-size (Shortest openFrom source t b n) out p m s e short in
+              let j : length (g .written) ≡ s = ap length v ∙ sym i in
+              into-wrote (Shortest openFrom source t b n) out p m s e short fits out′ (g .puts .holds (omega arith) (omega arith) ∙ ap (slices.stored out 0) v)
+
+-- ---- rows that are lent or not
+module _ (openFrom : ℕ) (source t b : List ℕ) (n : ℕ) (out : List ℕ) where
+  from : (a : WriteAnswer) → writtenFrom openFrom source t b n (length out) ≡ a → (r : answer.WriteAnswer) → report r ≡ reportWritten a → (out′ : List ℕ) → out′ ≡ outputWritten out a → WritesFrom openFrom source t b n out r out′
+  from a h r e out′ f = record { says = e ∙ ap reportWritten (sym h); holds = f ∙ ap (outputWritten out) (sym h) }
+
+  pub from-long : 262_144 < length source → WritesFrom openFrom source t b n out answers.TooLong out
+  from-long l = from (Refused 1 0) (pick-true _ _ (lt-ltb 262_144 (length source) l)) answers.TooLong refl out refl
+
+  module _ (short : length source ≤ 262_144) where
+    answered : (x : Option (List ℕ)) → pick (ltb (lentIn t b) n) none (Shortest openFrom source t b n) ≡ x → writtenFrom openFrom source t b n (length out) ≡ messages.stored 262_144 (length out) x
+    answered x h = pick-false _ _ (le-ltb 262_144 (length source) short) ∙ ap (messages.stored 262_144 (length out)) h
+
+    module _ (lent : ℕ) (is : lent ≡ lentIn t b) where
+      pub from-claim : lent < n → WritesFrom openFrom source t b n out answers.NoRecord out
+      from-claim l = from (Refused 10 0) (answered none (pick-true _ _ (lt-ltb (lentIn t b) n (omega arith)))) answers.NoRecord refl out refl
+
+      pub from-rows : n ≤ lent → (r : answer.WriteAnswer) (out′ : List ℕ) → WritesInto (Shortest openFrom source t b n) out r out′ → WritesFrom openFrom source t b n out r out′
+      from-rows l r out′ m =
+          from (messages.stored 262_144 (length out) (Shortest openFrom source t b n)) (answered (Shortest openFrom source t b n) (pick-false _ _ (le-ltb (lentIn t b) n (omega arith)))) r (m .says) out′ (m .holds)
+
+-- ---- one table
+lent-numbers : (t : List ℕ) → lentIn t [] ≡ length t / 4
+lent-numbers t = pick-true _ _ refl
+
+pub lent-of-numbers : (t : List ℕ) → length t / 4 ≡ lentIn t []
+lent-of-numbers t = sym (lent-numbers t)
+
+from-numbers : (openFrom : ℕ) (source t : List ℕ) (n lent : ℕ) → writtenFrom openFrom source t [] n lent ≡ written base openFrom 32 262_144 asNumbers source t n lent
+unfolding written
+from-numbers openFrom source t n lent =
+    let a = lent-numbers t in
+    let c : rowsIn t [] n ≡ rowsOf asNumbers n t = pick-true _ _ refl in
+    λ i. answeredTo 262_144 lent source (pick (ltb (a i) n) none (shortestOf base openFrom 32 source (c i)))
+
+-- of bytes, an empty one too
+lent-bytes : (b : List ℕ) → lentIn [] b ≡ length b / 32
+lent-bytes b = go (eqb (length b) 0) refl
+  where
+    go : (e : Bool) → eqb (length b) 0 ≡ e → lentIn [] b ≡ length b / 32
+    go true h = pick-true _ _ h ∙ omega (arith, eqb-true (length b) 0 h)
+    go false h = pick-false _ _ h
+
+pub lent-of-bytes : (b : List ℕ) → length b / 32 ≡ lentIn [] b
+lent-of-bytes b = sym (lent-bytes b)
+
+from-bytes : (openFrom : ℕ) (source b : List ℕ) (n lent : ℕ) → writtenFrom openFrom source [] b n lent ≡ written base openFrom 32 262_144 asBytes source b n lent
+unfolding written rowsOf
+from-bytes openFrom source b n lent = (λ i. answeredTo 262_144 lent source (pick (ltb (lent-bytes b i) n) none (shortestOf base openFrom 32 source (rowsIn [] b n)))) ∙ ap (answeredTo 262_144 lent source) (go n)
+  where
+    go : (n : ℕ) → pick (ltb (length b / 32) n) none (shortestOf base openFrom 32 source (rowsIn [] b n)) ≡ pick (ltb (length b / 32) n) none (shortestOf base openFrom 32 source (rowsOf asBytes n b))
+    go zero = ap (λ (r : List Row). pick (ltb (length b / 32) 0) none (shortestOf base openFrom 32 source r)) (both (eqb (length b) 0))
+      where
+        both : (e : Bool) → pick e (rowsOf asNumbers 0 []) (rowsOf asBytes 0 b) ≡ rowsOf asBytes 0 b
+        both true = pick-true _ _ refl
+        both false = pick-false _ _ refl
+    go (suc n) = some-rows (eqb (length b) 0) refl
+      where
+        some-rows : (e : Bool) → eqb (length b) 0 ≡ e → pick (ltb (length b / 32) (suc n)) none (shortestOf base openFrom 32 source (rowsIn [] b (suc n))) ≡ pick (ltb (length b / 32) (suc n)) none (shortestOf base openFrom 32 source (rowsOf asBytes (suc n) b))
+        some-rows true h =
+            let l : ltb (length b / 32) (suc n) ≡ true = lt-ltb (length b / 32) (suc n) (omega (arith, eqb-true (length b) 0 h)) in
+            pick-true _ _ l ∙ sym (pick-true _ _ l)
+        some-rows false h = ap (λ (r : List Row). pick (ltb (length b / 32) (suc n)) none (shortestOf base openFrom 32 source r)) (pick-false _ _ h)
+
+module _ (source : List ℕ) (n : ℕ) (out : List ℕ) (r : answer.WriteAnswer) (out′ : List ℕ) where
+  pub numbers-written : (t : List ℕ) → WritesFrom 48 source t [] n out r out′
+      → (report r ≡ writeReport base 48 32 262_144 asNumbers source t n out) × (out′ ≡ writeOutput base 48 32 262_144 asNumbers source t n out)
+  numbers-written t m = let e = from-numbers 48 source t n (length out) in (m .says ∙ ap reportWritten e, m .holds ∙ ap (outputWritten out) e)
+
+  pub bytes-written : (b : List ℕ) → WritesFrom 48 source [] b n out r out′
+      → (report r ≡ writeReport base 48 32 262_144 asBytes source b n out) × (out′ ≡ writeOutput base 48 32 262_144 asBytes source b n out)
+  bytes-written b m = let e = from-bytes 48 source b n (length out) in (m .says ∙ ap reportWritten e, m .holds ∙ ap (outputWritten out) e)

@@ -1,0 +1,39 @@
+-- Each way out has its law in proofs/Walking.antt.
+use mathlib.Core.Logic.{⊎-elim}
+use borrow.Author.Needs.{needs}
+use Rattle.writer.proofs.Walking.{no-holder-low, no-holder-high, row-no-leaf, row-leaf, row-full, row-holder}
+use Rattle.writer.proofs.values.begin_row.Statement.{statement}
+use Rattle.writer.proofs.values.begin_row.Tie as tie
+
+put-leaf-requires : tie.Need-put-leaf-requires
+put-leaf-requires c κs = (search needs, ⊎-elim (λ w. search (no-holder-low, needs)) (λ w. search (no-holder-high, needs)) (c .before .before .if1 .came))
+
+returns : tie.Need-returns
+returns c = search (row-no-leaf, needs)
+
+returns-2 : tie.Need-returns-2
+returns-2 c = search (row-leaf, needs)
+
+returns-3 : tie.Need-returns-3
+returns-3 c = search (row-full, needs)
+
+returns-4 : tie.Need-returns-4
+returns-4 c = search (row-holder, needs)
+
+pub begin-row-spec : {M : Type 1} → statement M
+begin-row-spec =
+    tie.close
+    (tie.spec
+    (λ c. search needs)
+    put-leaf-requires
+    (λ c. search needs)
+    (λ c. search needs)
+    (λ c. search needs)
+    (λ c. search needs)
+    returns
+    (λ c. search needs)
+    returns-2
+    returns-3
+    (λ c κs. search needs)
+    (λ c. search needs)
+    returns-4)
