@@ -1,5 +1,5 @@
 /*
- * Hessian 2.0 records: read a message into a table of rows.
+ * Hessian 2.0 records: read a message into a table of rows, and write a table as its shortest message.
  *
  * Every function may be handed any bytes. It ends, touches nothing beyond what it was lent, and answers one number, which
  * HESSIAN_NUMBER, HESSIAN_COUNT and HESSIAN_PLACE take apart. A refusal changes nothing that was lent. The functions keep no
@@ -67,6 +67,15 @@ enum hessian_kind {
  * HESSIAN_ROW_SIZE are no row.
  */
 uint64_t hessian_read(const uint8_t *message, size_t message_len, uint8_t *table, size_t table_len);
+
+/*
+ * Writes the shortest message of the first `rows` rows of a table, as hessian_read fills it. The source is the message in which the texts and
+ * byte strings of the rows lie: a row's place is an index into it. Accepted: the count is the bytes written, the place 0; bytes of the output
+ * past them stay as they were. HESSIAN_ROOM: the count is the bytes needed. An output of the source's length is enough for the rows that
+ * hessian_read stored of it.
+ */
+uint64_t hessian_write(const uint8_t *source, size_t source_len, const uint8_t *table, size_t table_len, uint64_t rows,
+                       uint8_t *output, size_t output_len);
 
 /* The parts of an answer. */
 #define HESSIAN_NUMBER(answer) ((unsigned)((uint64_t)(answer) >> 48))

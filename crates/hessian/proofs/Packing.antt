@@ -1,19 +1,21 @@
--- What the contract of `hessian_read` asks at each of its ways out: the parts of an answer are small.
+-- What the contracts of `hessian_read` and `hessian_write` ask at each of their ways out: the parts of an answer are small.
 use mathlib.Core.Path.{_≡_, sym, ap, _∙_}
 use mathlib.Core.List.{List}
 use Prim.Native.Nat.{ℕ, _≤_}
 use native.Mathlib.Omega.{arith}
-use lib.ListN.{getD}
+use lib.ListN.{length, getD}
 use mir.Syntax.{w8}
 use mir.Val.{Fits}
 use Rattle.flow.specs.Tests.{bytes-all}
-use Rattle.scalar.specs.Answers.{Report}
-use Rattle.record.specs.Answers.{base}
-use Rattle.record.specs.Tables.{asBytes, lentRows, readReport}
-use Rattle.record.specs.Bounds.{answer-small}
+use Rattle.flow.specs.Flow.{Report}
+use Rattle.record.specs.Answers.{base, asBytes, lentRows, readReport, writeReport}
+use Rattle.record.specs.Bounds.{answer-small, written-small}
 use Rattle.reader.specs.declared.ReadAnswer.{ReadAnswer}
 use Rattle.reader.specs.declared.ReadAnswer.the-variants.{Accepted, Refused, TooFew}
 use Rattle.reader.specs.Answers.{report}
+use Rattle.writer.specs.declared.WriteAnswer.{WriteAnswer}
+use Rattle.writer.specs.declared.WriteAnswer.the-variants as wrote
+use Rattle.writer.specs.Answers as writes
 use Rattle.hessian.specs.Packed.{packed, answer}
 
 module _ (m t : List ℕ) (bytes : (i : ℕ) → Fits w8 (getD m i 0)) (r : ReadAnswer) (e : report r ≡ readReport base 32 262144 asBytes m t) where
@@ -42,3 +44,32 @@ module _ (m t : List ℕ) (bytes : (i : ℕ) → Fits w8 (getD m i 0)) (r : Read
 
   pub packed-few : (n v : ℕ) → r ≡ TooFew n → v ≡ packed (answer 9 n 0) → v ≡ packed (readReport base 32 262144 asBytes m t)
   packed-few n v h q = q ∙ ap packed (ap report (sym h) ∙ e)
+
+-- ---- writing
+module _ (s t : List ℕ) (n : ℕ) (o : List ℕ) (r : WriteAnswer) (e : writes.report r ≡ writeReport base 48 32 262144 asBytes s t n o) where
+  count-small : (r′ : WriteAnswer) → r ≡ r′ → writes.report r′ .count ≤ 262144
+  count-small r′ h =
+      let f : writes.report r′ ≡ writeReport base 48 32 262144 asBytes s t n o = ap writes.report (sym h) ∙ e in
+      let c = ap (λ (x : Report). x .count) f in
+      omega (arith, written-small base 48 32 262144 asBytes s t n (length o))
+
+  pub small-written : (k : ℕ) → r ≡ wrote.Written k → (k ≤ 262144) × (0 ≤ 262144)
+  small-written k h = (count-small (wrote.Written k) h, omega arith)
+
+  pub small-needed : (k : ℕ) → r ≡ wrote.TooFew k → (k ≤ 262144) × (0 ≤ 262144)
+  small-needed k h = (count-small (wrote.TooFew k) h, omega arith)
+
+  packed-as : (r′ : WriteAnswer) → r ≡ r′ → (v : ℕ) → v ≡ packed (writes.report r′) → v ≡ packed (writeReport base 48 32 262144 asBytes s t n o)
+  packed-as r′ h v q = q ∙ ap packed (ap writes.report (sym h) ∙ e)
+
+  pub packed-written : (k v : ℕ) → r ≡ wrote.Written k → v ≡ packed (answer 0 k 0) → v ≡ packed (writeReport base 48 32 262144 asBytes s t n o)
+  packed-written k v h q = packed-as (wrote.Written k) h v q
+
+  pub packed-long : (v : ℕ) → r ≡ wrote.TooLong → v ≡ packed (answer 1 0 0) → v ≡ packed (writeReport base 48 32 262144 asBytes s t n o)
+  packed-long v h q = packed-as wrote.TooLong h v q
+
+  pub packed-none : (v : ℕ) → r ≡ wrote.NoRecord → v ≡ packed (answer 10 0 0) → v ≡ packed (writeReport base 48 32 262144 asBytes s t n o)
+  packed-none v h q = packed-as wrote.NoRecord h v q
+
+  pub packed-needed : (k v : ℕ) → r ≡ wrote.TooFew k → v ≡ packed (answer 9 k 0) → v ≡ packed (writeReport base 48 32 262144 asBytes s t n o)
+  packed-needed k v h q = packed-as (wrote.TooFew k) h v q

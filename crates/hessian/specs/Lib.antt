@@ -1,1 +1,5 @@
 pub mod Packed
+pub mod Terms
+pub mod Calls
+pub mod Called
+pub mod Demands

@@ -1,0 +1,152 @@
+-- What a call of a C function gives, by its cases. None of it has to be believed.
+use mathlib.Core.Path.{_≡_, refl, sym, ap, subst, _∙_}
+use mathlib.Core.Logic.{_⊎_, inl, inr}
+use mathlib.Core.List.{List, []}
+use mathlib.Core.Option.{Option, none, some}
+use Prim.Native.Nat.{ℕ, _+_, _*_, _/_, _%_, _^_, _≤_, _<_}
+use native.Mathlib.Omega.{arith}
+use lib.ListN.{length, take, drop}
+use borrow.Author.Tests.{lt-ltb, le-ltb}
+use Rattle.flow.specs.Tests.{split, pick-true, pick-false}
+use Rattle.flow.specs.Flow.{Bytes, stored, Report}
+use Rattle.record.specs.Records.{Item, Row, rows, ClaimAll}
+use Rattle.record.specs.Answers.{ReadAnswer, Accept, Refuse, read, WriteAnswer, Wrote, Refused, shortestOf, answeredTo, write, Accepts, base, asBytes, lentRows, rowsOf, reportRead, filled, readReport, readTable, reportWritten, outputWritten, written, writeReport, writeOutput}
+use Rattle.record.specs.Writing.{judged-done, own-rows}
+use Rattle.record.specs.Bounds.{answer-small}
+use Rattle.record.specs.Whole.{rows-length}
+use Rattle.record.specs.Answering.{by-read, by-answer}
+use Rattle.record.specs.Demands.{bytes-hold}
+use Rattle.hessian.specs.Packed.{packed, ReadGives, WriteGives}
+use Rattle.hessian.specs.Terms.{numberOf, countOf, placeOf}
+
+-- ---- the parts of an answer
+module _ (r : Report) (c : r .count ≤ 262_144) (p : r .place ≤ 262_144) where
+  pub number-is : numberOf (packed r) ≡ r .number
+  number-is = omega arith
+
+  pub count-is : countOf (packed r) ≡ r .count
+  count-is = omega arith
+
+  pub place-is : placeOf (packed r) ≡ r .place
+  place-is = omega arith
+
+-- ---- reading
+module _ (m t : List ℕ) (b : Bytes m) (a : ℕ) (t′ : List ℕ) (g : ReadGives m t a t′) where
+  -- the definitions' answer
+  abbrev Answer : ReadAnswer
+  Answer = read base 32 262_144 (lentRows asBytes t) m
+
+  small : (reportRead Answer .count ≤ 262_144) × (reportRead Answer .place ≤ 262_144) × (reportRead Answer .number ≤ 9)
+  small = answer-small base 32 262_144 (lentRows asBytes t) m b
+
+  pub read-number : numberOf a ≡ reportRead Answer .number
+  read-number = ap numberOf (g .0) ∙ number-is (reportRead Answer) (small .0) (small .1)
+
+  pub read-count : countOf a ≡ reportRead Answer .count
+  read-count = ap countOf (g .0) ∙ count-is (reportRead Answer) (small .0) (small .1)
+
+  pub read-place : placeOf a ≡ reportRead Answer .place
+  read-place = ap placeOf (g .0) ∙ place-is (reportRead Answer) (small .0) (small .1)
+
+  pub read-ten : numberOf a ≤ 9
+  read-ten = omega (arith, read-number, small .2)
+
+  -- accepted: the table's rows are those of the record that the message reads as
+  pub record Accepted : Type 0 where
+    pub record-of : List Item
+    pub accepts : Accepts base 32 262_144 m record-of
+    pub few : length m ≤ 262_144
+    pub all-rows : countOf a ≡ length (accepts .entries)
+    pub enough : length (accepts .entries) ≤ lentRows asBytes t
+    pub held : rowsOf asBytes (countOf a) t′ ≡ rows (accepts .entries)
+    pub whole : placeOf a ≡ length m
+
+  -- or refused: the table is as it was
+  abbrev pub ReadCases : Type 0
+  ReadCases = ((numberOf a ≡ 0) × Accepted) ⊎ ((numberOf a ≡ 0 → ⊥) × (t′ ≡ t))
+
+  refused : (x k o : ℕ) → 1 ≤ x → Answer ≡ Refuse x k o → ReadCases
+  refused x k o l e = let q = ap (λ (z : ReadAnswer). reportRead z .number) e in inr (λ z. omega (arith, read-number), g .1 ∙ ap (filled asBytes t) e)
+
+  pub read-cases : ReadCases
+  read-cases = by-read base 32 262_144 (lentRows asBytes t) m b (λ z. Answer ≡ z → ReadCases)
+      (λ h e. refused 1 0 0 (omega arith) e)
+      (λ x o h e. refused x 0 o (omega (arith, h .0)) e)
+      (λ r x h e. refused 9 (length (x .entries)) 0 (omega arith) e)
+      (λ r x h e. inl (read-number ∙ ap (λ (z : ReadAnswer). reportRead z .number) e, accepted r x h e))
+      refl
+    where
+      accepted : (r : List Item) (x : Accepts base 32 262_144 m r) → length (x .entries) ≤ lentRows asBytes t → Answer ≡ Accept (rows (x .entries)) (length m) → Accepted
+      accepted r x h e =
+          let l = judged-done base 32 262_144 m (length m) (x .entries) (x .known) (x .done) .0 in
+          let n : countOf a ≡ length (rows (x .entries)) = read-count ∙ ap (λ (z : ReadAnswer). reportRead z .count) e in
+          record {
+            record-of = r;
+            accepts = x;
+            few = l;
+            all-rows = n ∙ rows-length (x .entries);
+            enough = h;
+            held =
+                (λ i. rowsOf asBytes (n i) (g .1 i))
+                ∙ bytes-hold base 32 262_144 m t b (omega arith) (rows (x .entries)) (length m) e;
+            whole = read-place ∙ ap (λ (z : ReadAnswer). reportRead z .place) e;
+          }
+
+-- ---- writing
+module _ (s t : List ℕ) (n : ℕ) (o : List ℕ) (a : ℕ) (o′ : List ℕ) (g : WriteGives s t n o a o′) where
+  -- the shortest message of the rows claimed
+  abbrev Shortest : Option (List ℕ)
+  Shortest = shortestOf base 48 32 s (rowsOf asBytes n t)
+
+  -- how a call can end
+  pub data WriteCases : Type 0 where
+    long-source : 262_144 < length s → numberOf a ≡ 1 → o′ ≡ o → WriteCases
+    beyond : length s ≤ 262_144 → lentRows asBytes t < n → numberOf a ≡ 10 → o′ ≡ o → WriteCases
+    no-record : length s ≤ 262_144 → n ≤ lentRows asBytes t → Shortest ≡ none → numberOf a ≡ 10 → o′ ≡ o → WriteCases
+    too-long : length s ≤ 262_144 → n ≤ lentRows asBytes t → (w : List ℕ) → Shortest ≡ some w → 262_144 < length w → numberOf a ≡ 1 → o′ ≡ o → WriteCases
+    too-few : length s ≤ 262_144 → n ≤ lentRows asBytes t → (w : List ℕ) → Shortest ≡ some w → length w ≤ 262_144 → length o < length w → numberOf a ≡ 9 → countOf a ≡ length w → o′ ≡ o → WriteCases
+    wrote : length s ≤ 262_144 → n ≤ lentRows asBytes t → (w : List ℕ) → Shortest ≡ some w → length w ≤ 262_144 → length w ≤ length o → numberOf a ≡ 0 → countOf a ≡ length w → o′ ≡ stored o 0 w → WriteCases
+
+  -- the definitions' answer
+  abbrev Written : WriteAnswer
+  Written = written base 48 32 262_144 asBytes s t n (length o)
+
+  place-none : (x : WriteAnswer) → reportWritten x .place ≤ 262_144
+  place-none (Wrote w) = omega arith
+  place-none (Refused y k) = omega arith
+
+  number-as : (x : WriteAnswer) → Written ≡ x → reportWritten x .count ≤ 262_144 → numberOf a ≡ reportWritten x .number
+  number-as x e l = ap numberOf (g .0 ∙ ap (λ (z : WriteAnswer). packed (reportWritten z)) e) ∙ number-is (reportWritten x) l (place-none x)
+
+  count-as : (x : WriteAnswer) → Written ≡ x → reportWritten x .count ≤ 262_144 → countOf a ≡ reportWritten x .count
+  count-as x e l = ap countOf (g .0 ∙ ap (λ (z : WriteAnswer). packed (reportWritten z)) e) ∙ count-is (reportWritten x) l (place-none x)
+
+  output-as : (x : WriteAnswer) → Written ≡ x → o′ ≡ outputWritten o x
+  output-as x e = g .1 ∙ ap (outputWritten o) e
+
+  claimed-beyond : lentRows asBytes t < n → Written ≡ answeredTo 262_144 (length o) s none
+  unfolding written
+  claimed-beyond l = ap (answeredTo 262_144 (length o) s) (pick-true _ _ (lt-ltb (lentRows asBytes t) n l))
+
+  claimed-within : n ≤ lentRows asBytes t → Written ≡ write base 48 32 262_144 (length o) s (rowsOf asBytes n t)
+  unfolding written write
+  claimed-within l = ap (answeredTo 262_144 (length o) s) (pick-false _ _ (le-ltb (lentRows asBytes t) n l))
+
+  pub write-cases : WriteCases
+  write-cases = split (lentRows asBytes t) n over within
+    where
+      over : lentRows asBytes t < n → WriteCases
+      over l = split 262_144 (length s)
+          (λ i. let e : Written ≡ Refused 1 0 = claimed-beyond l ∙ pick-true _ _ (lt-ltb 262_144 (length s) i) in
+          long-source i (number-as (Refused 1 0) e (omega arith)) (output-as (Refused 1 0) e))
+          (λ i. let e : Written ≡ Refused 10 0 = claimed-beyond l ∙ pick-false _ _ (le-ltb 262_144 (length s) i) in
+          beyond i l (number-as (Refused 10 0) e (omega arith)) (output-as (Refused 10 0) e))
+
+      within : n ≤ lentRows asBytes t → WriteCases
+      within l = by-answer base 32 262_144 48 s (rowsOf asBytes n t) (length o) (λ x. Written ≡ x → WriteCases)
+          (λ i e. long-source i (number-as (Refused 1 0) e (omega arith)) (output-as (Refused 1 0) e))
+          (λ i q e. no-record i l q (number-as (Refused 10 0) e (omega arith)) (output-as (Refused 10 0) e))
+          (λ i w q j e. too-long i l w q j (number-as (Refused 1 0) e (omega arith)) (output-as (Refused 1 0) e))
+          (λ i w q j k e. too-few i l w q j k (number-as (Refused 9 (length w)) e j) (count-as (Refused 9 (length w)) e j) (output-as (Refused 9 (length w)) e))
+          (λ i w q j k e. wrote i l w q j k (number-as (Wrote w) e j) (count-as (Wrote w) e j) (output-as (Wrote w) e))
+          (claimed-within l)
