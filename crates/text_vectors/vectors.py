@@ -437,14 +437,14 @@ for message in (texts, octets):
     for kind in "ub":
         for at in range(len(message) + 3):
             case(kind, message, at)
-        for at in (255, 256, 65536, 2**31, 2**32 - 1, 2**63, 10**19 + 9):
+        for at in (255, 256, 65536, 2**31, 2**32 - 1, 2**63, 2**64 - 1):
             case(kind, message, at)
 for size in range(len(texts)):
     case("u", texts[:size], 1)
 for size in range(len(octets)):
     case("b", octets[:size], 1)
 case("u", b"", 1)
-case("b", b"", 10**19 + 9)
+case("b", b"", 2**64 - 1)
 
 # ---- strings and faults in them by chance
 seed = 1
@@ -538,7 +538,7 @@ spelled("b", (b"\x20", 1), (b"abc", 89999), (b"de", 1))
 BAD = ["", "u", "u ", "b", "b ", "u0", "u  0", " u 0", "u 0 ", "u 0  00", "u 0 0", "u 0 000", "u 0 00 ", "u 0 00 0", "u 0 0g", "u 0 g0"]
 BAD += ["u 0 0A", "u 0 A0", "u 0 /0", "u 0 :0", "u 0 `0", "u 0 @0", "U 0 00", "c 0 00", "t 0 00", "u -1 00", "u x 00", "u a 00", "u 0x 00"]
 BAD += ["u 0 00*", "u 0 *3", "u 0 00*a", "u 0 00*3a", "u 0 00*3 *3", "u 0 00*3*3", "u 0 00,00", "u\t0 00", "u 0\t00", "u 0 00\r"]
-BAD += [f"b 0 20*{10**19 + 10}", f"b {10**19 + 10} 20", "b 100000000000000000000 20", "b 0 20*99999999999999999999", "u 0 00 01*2 0"]
+BAD += [f"b 0 20*{2**64}", f"b {2**64} 20", "b 100000000000000000000 20", "b 0 20*99999999999999999999", "u 0 00 01*2 0"]
 BAD += ["uu 0 00", "u,0 00"]
 TOO_LONG = [f"b 0 20*{LARGEST + 1}", f"b 0 20*{LARGEST} 20", "b 0 616263*90001", f"u 0 00*{10**18}"]
 

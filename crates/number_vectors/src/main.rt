@@ -201,17 +201,6 @@ fn write_case(sort: Sort, value: u64) {
 
 // ---- cases
 
-// The worth of a hexadecimal digit; 16 for any other byte.
-fn digit(b: u8) -> u8
-    ensures { λ r. ⌜ r ≤ 16 ⌝ }
-{
-    match b {
-        b'0'..=b'9' => b - b'0',
-        b'a'..=b'f' => b - b'a' + 10,
-        _ => 16,
-    }
-}
-
 // The line's bytes, two digits each. Whether it is a line of 24 digits.
 fn parse(line: &[u8], case: &mut [u8; 12]) -> bool {
     if line.len() != 25 {
@@ -219,8 +208,8 @@ fn parse(line: &[u8], case: &mut [u8; 12]) -> bool {
     }
     let mut i = 0;
     while i < 12 {
-        let high = digit(line[2 * i]);
-        let low = digit(line[2 * i + 1]);
+        let high = vectors::digit(line[2 * i]);
+        let low = vectors::digit(line[2 * i + 1]);
         if 15 < high {
             return false;
         }

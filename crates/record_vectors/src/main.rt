@@ -1,7 +1,7 @@
 // Reads messages from standard input into a table, and prints a line for each.
 //
-// A case is a line: how many numbers are lent in the table, in decimal, and the message in segments, a space before each. A segment
-// is bytes, two hexadecimal digits each; `*` and a number after them say how often they stand there.
+// A case is a line: how many numbers are lent in the table, in decimal, and the message in groups, as vectors::groups
+// takes them.
 //
 // The line printed has the answer: number, count and place; a sum over the lent table as it then is; and `ok` where all past the
 // accepted rows, or the whole table after a refusal, is as it was. What is no case is `bad`.
@@ -9,8 +9,8 @@
 use libc::STDIN_FILENO;
 use libc::STDOUT_FILENO;
 use reader::ReadAnswer;
-ghost use Prim.Native.Nat.{_≤_, _<_};
-ghost use lib.ListN.{length};
+use vectors::Scanned;
+use vectors::Step;
 
 // The longest message that is looked at, and the most numbers lent.
 const LARGEST: usize = 270_000;
@@ -20,17 +20,6 @@ const MOST: usize = 8_000;
 // The most bytes of cases.
 const MOST_INPUT: usize = 400_000;
 
-enum Scanned {
-    Number { value: usize, next: usize },
-    NoNumber,
-}
-
-// How far a line is read: where it goes on, and the bytes of the message so far.
-enum Step {
-    On { next: usize, size: usize },
-    Stuck,
-}
-
 enum Case {
     Of { lent: usize, size: usize },
     NoCase,
@@ -38,149 +27,21 @@ enum Case {
 
 // ---- cases
 
-// The worth of a hexadecimal digit; 16 for any other byte.
-fn digit(b: u8) -> u8
-    ensures { λ r. ⌜ r ≤ 16 ⌝ }
-{
-    match b {
-        b'0'..=b'9' => b - b'0',
-        b'a'..=b'f' => b - b'a' + 10,
-        _ => 16,
-    }
-}
-
-// The number that the decimal digits from `at` on are.
-fn decimal(line: &[u8], at: usize) -> Scanned {
-    let mut here = at;
-    let mut value: usize = 0;
-    while here < line.len() {
-        let d = digit(line[here]);
-        if 9 < d {
-            break;
-        }
-        if 1_000_000_000_000_000_000 < value {
-            return Scanned::NoNumber;
-        }
-        value = value * 10 + wire::wide(d) as usize;
-        here += 1;
-    }
-    if here == at {
-        return Scanned::NoNumber;
-    }
-    Scanned::Number { value, next: here }
-}
-
-// The bytes that the hexadecimal digits from `at` on are, in the message from `from` on.
-fn take_bytes(line: &[u8], at: usize, message: &mut [u8], from: usize) -> Step {
-    let len = line.len();
-    let mut here = at;
-    let mut size = from;
-    while here < len {
-        let high = digit(line[here]);
-        if 15 < high {
-            break;
-        }
-        if len - here < 2 {
-            return Step::Stuck;
-        }
-        let low = digit(line[here + 1]);
-        if 15 < low {
-            return Step::Stuck;
-        }
-        if message.len() <= size {
-            return Step::Stuck;
-        }
-        message[size] = high * 16 + low;
-        size += 1;
-        here += 2;
-    }
-    Step::On { next: here, size }
-}
-
-// The bytes of the message from `from` to below `size`, that often in all. `next` is where the line goes on.
-fn repeat(message: &mut [u8], from: usize, size: usize, times: usize, next: usize) -> Step
-    requires { ⌜ from < size ⌝ }
-{
-    if times == 0 {
-        return Step::On { next, size: from };
-    }
-    let width = size - from;
-    let mut left = times - 1;
-    let mut phase = width;
-    let mut back = from;
-    let mut here = size;
-    while 0 < left {
-        if message.len() <= here {
-            return Step::Stuck;
-        }
-        message[here] = message[back];
-        here += 1;
-        back += 1;
-        phase -= 1;
-        if phase == 0 {
-            phase = width;
-            left -= 1;
-        }
-    }
-    Step::On { next, size: here }
-}
-
-// The segment at `at`, in the message from `from` on.
-fn segment(line: &[u8], at: usize, message: &mut [u8], from: usize) -> Step {
-    match take_bytes(line, at, message, from) {
-        Step::Stuck => Step::Stuck,
-        Step::On { next, size } => {
-            if size <= from {
-                return Step::Stuck;
-            }
-            if line.len() <= next {
-                return Step::On { next, size };
-            }
-            if line[next] != b'*' {
-                return Step::On { next, size };
-            }
-            match decimal(line, next + 1) {
-                Scanned::NoNumber => Step::Stuck,
-                Scanned::Number { value, next: end } => repeat(message, from, size, value, end),
-            }
-        }
-    }
-}
-
-// The segments from `at` on, a space before each: the whole message.
-fn segments(line: &[u8], at: usize, message: &mut [u8]) -> Step {
-    let mut here = at;
-    let mut held: usize = 0;
-    while here < line.len() {
-        if line[here] != b' ' {
-            return Step::Stuck;
-        }
-        match segment(line, here + 1, message, held) {
-            Step::Stuck => {
-                return Step::Stuck;
-            }
-            Step::On { next, size } => {
-                if next <= here {
-                    return Step::Stuck;
-                }
-                here = next;
-                held = size;
-            }
-        }
-    }
-    Step::On {
-        next: here,
-        size: held,
-    }
-}
-
 // The case that the line is, its message stored.
 fn parse(line: &[u8], message: &mut [u8]) -> Case {
-    match decimal(line, 0) {
+    match vectors::decimal(line, 0) {
         Scanned::NoNumber => Case::NoCase,
-        Scanned::Number { value, next } => match segments(line, next, message) {
+        Scanned::Number { value, next } => match vectors::groups(line, next, message) {
             Step::Stuck => Case::NoCase,
-            Step::On { next: _, size } => Case::Of { lent: value, size },
+            Step::On { next: end, size } => {
+                if end != line.len() {
+                    return Case::NoCase;
+                }
+                Case::Of {
+                    lent: value as usize,
+                    size,
+                }
+            }
         },
     }
 }
@@ -212,16 +73,11 @@ fn unchanged(table: &[u64], from: usize) -> bool {
     true
 }
 
-// The sum s with 32 bits more, below 2^31 - 1.
-fn summed(s: u64, bits: u64) -> u64 {
-    (s % 0x7fff_ffff * 1_000_003 + bits % 0x1_0000_0000) % 0x7fff_ffff
-}
-
 fn sum(table: &[u64]) -> u64 {
     let mut s: u64 = 7;
     let mut i = 0;
     while i < table.len() {
-        s = summed(summed(s, table[i] / 0x1_0000_0000), table[i]);
+        s = vectors::summed(vectors::summed(s, table[i] / 0x1_0000_0000), table[i]);
         i += 1;
     }
     s
@@ -296,25 +152,10 @@ fn run(line: &[u8], message: &mut [u8], table: &mut [u64]) {
     say(b"\n");
 }
 
-// Where the line that begins at `at` ends.
-fn line_end(input: &[u8], at: usize) -> usize
-    requires { ⌜ at ≤ length (now input) ⌝ }
-    ensures { λ r. ⌜ (at ≤ r) × (r ≤ length (now (input .entry))) ⌝ }
-{
-    let mut here = at;
-    while here < input.len() {
-        if input[here] == b'\n' {
-            return here;
-        }
-        here += 1;
-    }
-    here
-}
-
 fn run_all(input: &[u8], message: &mut [u8], table: &mut [u64]) {
     let mut at = 0;
     while at < input.len() {
-        let end = line_end(input, at);
+        let end = vectors::line_end(input, at);
         run(&input[at..end], message, table);
         at = end + 1;
     }

@@ -16,11 +16,10 @@ use libc::STDOUT_FILENO;
 use scalar::Written;
 use scalar::texts::Kind;
 use scalar::texts::StringRead;
+use vectors::Scanned;
+use vectors::Step;
 ghost use Prim.Native.Nat.{_≤_, _<_};
 ghost use lib.ListN.{length};
-
-// What the output holds before anything is stored.
-const BLANK: u8 = 0xee;
 
 // Where the form is stored.
 const PLACE: usize = 5;
@@ -37,17 +36,6 @@ const LONG: usize = 5_000;
 // Bytes that stand this often are a segment of their own.
 const OFTEN: usize = 4;
 
-enum Scanned {
-    Number { value: usize, next: usize },
-    NoNumber,
-}
-
-// How far a line is read: where it goes on, and the bytes of the message so far.
-enum Step {
-    On { next: usize, size: usize },
-    Stuck,
-}
-
 enum Case {
     Of { kind: Kind, at: usize, size: usize },
     NoCase,
@@ -61,142 +49,6 @@ struct Group {
 }
 
 // ---- cases
-
-// The worth of a hexadecimal digit; 16 for any other byte.
-fn digit(b: u8) -> u8
-    ensures { λ r. ⌜ r ≤ 16 ⌝ }
-{
-    match b {
-        b'0'..=b'9' => b - b'0',
-        b'a'..=b'f' => b - b'a' + 10,
-        _ => 16,
-    }
-}
-
-// The number that the decimal digits from `at` on are.
-fn decimal(line: &[u8], at: usize) -> Scanned {
-    let mut here = at;
-    let mut value: usize = 0;
-    while here < line.len() {
-        let d = digit(line[here]);
-        if 9 < d {
-            break;
-        }
-        if 1_000_000_000_000_000_000 < value {
-            return Scanned::NoNumber;
-        }
-        value = value * 10 + wire::wide(d) as usize;
-        here += 1;
-    }
-    if here == at {
-        return Scanned::NoNumber;
-    }
-    Scanned::Number { value, next: here }
-}
-
-// The bytes that the hexadecimal digits from `at` on are, in the message from `from` on.
-fn take_bytes(line: &[u8], at: usize, message: &mut [u8], from: usize) -> Step {
-    let len = line.len();
-    let mut here = at;
-    let mut size = from;
-    while here < len {
-        let high = digit(line[here]);
-        if 15 < high {
-            break;
-        }
-        if len - here < 2 {
-            return Step::Stuck;
-        }
-        let low = digit(line[here + 1]);
-        if 15 < low {
-            return Step::Stuck;
-        }
-        if message.len() <= size {
-            return Step::Stuck;
-        }
-        message[size] = high * 16 + low;
-        size += 1;
-        here += 2;
-    }
-    Step::On { next: here, size }
-}
-
-// The bytes of the message from `from` to below `size`, that often in all. `next` is where the line goes on.
-fn repeat(message: &mut [u8], from: usize, size: usize, times: usize, next: usize) -> Step
-    requires { ⌜ from < size ⌝ }
-{
-    if times == 0 {
-        return Step::On { next, size: from };
-    }
-    let width = size - from;
-    let mut left = times - 1;
-    let mut phase = width;
-    let mut back = from;
-    let mut here = size;
-    while 0 < left {
-        if message.len() <= here {
-            return Step::Stuck;
-        }
-        message[here] = message[back];
-        here += 1;
-        back += 1;
-        phase -= 1;
-        if phase == 0 {
-            phase = width;
-            left -= 1;
-        }
-    }
-    Step::On { next, size: here }
-}
-
-// The segment at `at`, in the message from `from` on.
-fn segment(line: &[u8], at: usize, message: &mut [u8], from: usize) -> Step {
-    match take_bytes(line, at, message, from) {
-        Step::Stuck => Step::Stuck,
-        Step::On { next, size } => {
-            if size <= from {
-                return Step::Stuck;
-            }
-            if line.len() <= next {
-                return Step::On { next, size };
-            }
-            if line[next] != b'*' {
-                return Step::On { next, size };
-            }
-            match decimal(line, next + 1) {
-                Scanned::NoNumber => Step::Stuck,
-                Scanned::Number { value, next: end } => repeat(message, from, size, value, end),
-            }
-        }
-    }
-}
-
-// The segments from `at` on, a space before each: the whole message.
-fn segments(line: &[u8], at: usize, message: &mut [u8]) -> Step {
-    let mut here = at;
-    let mut held: usize = 0;
-    while here < line.len() {
-        if line[here] != b' ' {
-            return Step::Stuck;
-        }
-        match segment(line, here + 1, message, held) {
-            Step::Stuck => {
-                return Step::Stuck;
-            }
-            Step::On { next, size } => {
-                if next <= here {
-                    return Step::Stuck;
-                }
-                here = next;
-                held = size;
-            }
-        }
-    }
-    Step::On {
-        next: here,
-        size: held,
-    }
-}
 
 fn case_of(letter: u8, at: usize, size: usize) -> Case {
     match letter {
@@ -222,11 +74,16 @@ fn parse(line: &[u8], message: &mut [u8]) -> Case {
     if line[1] != b' ' {
         return Case::NoCase;
     }
-    match decimal(line, 2) {
+    match vectors::decimal(line, 2) {
         Scanned::NoNumber => Case::NoCase,
-        Scanned::Number { value, next } => match segments(line, next, message) {
+        Scanned::Number { value, next } => match vectors::groups(line, next, message) {
             Step::Stuck => Case::NoCase,
-            Step::On { next: _, size } => case_of(line[0], value, size),
+            Step::On { next: end, size } => {
+                if end != line.len() {
+                    return Case::NoCase;
+                }
+                case_of(line[0], value as usize, size)
+            }
         },
     }
 }
@@ -336,33 +193,6 @@ fn say_segments(bytes: &[u8]) {
 
 // ---- reading and writing
 
-// Each byte from `from` on and below `to` is blank.
-fn blank(bytes: &[u8], from: usize, to: usize) -> bool {
-    let mut here = from;
-    while here < to {
-        if bytes.len() <= here {
-            return false;
-        }
-        if bytes[here] != BLANK {
-            return false;
-        }
-        here += 1;
-    }
-    true
-}
-
-// Makes the first `count` bytes blank.
-fn clear(bytes: &mut [u8], count: usize) {
-    let mut i = 0;
-    while i < count {
-        if bytes.len() <= i {
-            return;
-        }
-        bytes[i] = BLANK;
-        i += 1;
-    }
-}
-
 // Storing the string at `at`, of this length, where only `lent` bytes are lent is refused as it should be, and changes nothing.
 fn refused(
     kind: Kind,
@@ -376,7 +206,7 @@ fn refused(
         return false;
     }
     let written = scalar::text_writer::write_string(kind, message, at, &mut out[0..lent], PLACE);
-    if !blank(out, 0, lent) {
+    if !vectors::unchanged(&out[0..lent], 0) {
         return false;
     }
     match written {
@@ -412,7 +242,7 @@ fn say_stored(kind: Kind, out: &[u8], units: usize, bytes: usize, size: usize) {
         return;
     }
     say_segments(&out[PLACE..end]);
-    if blank(out, 0, PLACE) && blank(out, end, len) {
+    if vectors::unchanged(&out[0..PLACE], 0) && vectors::unchanged(out, end) {
         say(b" rest ok");
     }
     if read_again(kind, out, units, bytes, size) {
@@ -473,11 +303,11 @@ fn say_form(kind: Kind, message: &[u8], at: usize, units: usize, bytes: usize, o
         Written::NoRoom { needed: _ } => say(b" no room"),
         Written::NotSuch => say(b" none"),
     }
-    clear(out, lent);
+    vectors::fill(&mut out[0..lent]);
     if room_told(kind, message, at, length, out, end) {
         say(b" short ok");
     }
-    clear(out, lent);
+    vectors::fill(&mut out[0..lent]);
 }
 
 fn say_content(units: usize, bytes: usize, size: usize) {
@@ -539,25 +369,10 @@ fn run(line: &[u8], message: &mut [u8], out: &mut [u8]) {
     say(b"\n");
 }
 
-// Where the line that begins at `at` ends.
-fn line_end(input: &[u8], at: usize) -> usize
-    requires { ⌜ at ≤ length (now input) ⌝ }
-    ensures { λ r. ⌜ (at ≤ r) × (r ≤ length (now (input .entry))) ⌝ }
-{
-    let mut here = at;
-    while here < input.len() {
-        if input[here] == b'\n' {
-            return here;
-        }
-        here += 1;
-    }
-    here
-}
-
 fn run_all(input: &[u8], message: &mut [u8], out: &mut [u8]) {
     let mut at = 0;
     while at < input.len() {
-        let end = line_end(input, at);
+        let end = vectors::line_end(input, at);
         run(&input[at..end], message, out);
         at = end + 1;
     }
@@ -567,6 +382,7 @@ fn main() {
     let mut input = io::large_buffer();
     let n = io::read_full(STDIN_FILENO, &mut input);
     let mut message = [0u8; LARGEST];
-    let mut out = [BLANK; 270_100];
+    let mut out = [0u8; 270_100];
+    vectors::fill(&mut out);
     run_all(&input[..n], &mut message, &mut out);
 }
