@@ -246,15 +246,6 @@ void build_input(size_t number)
     builders[number]();
 }
 
-size_t find_input(const char *name)
-{
-    size_t i;
-
-    for (i = 0; i < INPUTS && strcmp(input_names[i], name) != 0; i++)
-        continue;
-    return i;
-}
-
 /* ---- timing */
 
 /* Processor time, so that other programs disturb less. */

@@ -22,9 +22,6 @@ extern const char *const input_names[INPUTS];
 /* Builds the input of this number. */
 void build_input(size_t number);
 
-/* The number of the input that has this name; INPUTS if none has. */
-size_t find_input(const char *name);
-
 /* What is timed: one call, and its answer. */
 typedef uint64_t call(void);
 

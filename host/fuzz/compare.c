@@ -1,0 +1,313 @@
+#include "compare.h"
+
+#include <inttypes.h>
+#include <stdio.h>
+#include <stdlib.h>
+#include <string.h>
+
+#include "baseline.h"
+#include "fence.h"
+#include "hessian.h"
+#include "packed.h"
+
+enum { LONGEST = HESSIAN_LONGEST, ROW_SIZE = HESSIAN_ROW_SIZE, MOST_MESSAGE = 300000, MOST_ALTERED = 4 };
+
+/* What the library is lent. The plain functions have blocks of their own, which AddressSanitizer watches. */
+static struct fence message_fence, table_fence, output_fence;
+
+/* A number from the input, so that an input always does the same. */
+static uint64_t state;
+
+static uint64_t pick(uint64_t n)
+{
+    state = state * UINT64_C(6364136223846793005) + UINT64_C(1442695040888963407);
+    return (state >> 33) % n;
+}
+
+static void start(const uint8_t *data, size_t size)
+{
+    size_t i;
+
+    if (message_fence.start == NULL) {
+        message_fence = new_fence(MOST_MESSAGE);
+        table_fence = new_fence((size_t)(LONGEST + 2) * ROW_SIZE);
+        output_fence = new_fence(LONGEST + 64);
+    }
+    state = size;
+    for (i = 0; i < size; i++)
+        state = (state ^ data[i]) * UINT64_C(1099511628211);
+}
+
+static void *block(size_t size)
+{
+    void *p = malloc(size > 0 ? size : 1);
+
+    if (p == NULL) {
+        fputs("fuzz: no memory\n", stderr);
+        exit(2);
+    }
+    return p;
+}
+
+static uint8_t *copy_of(const uint8_t *bytes, size_t len)
+{
+    uint8_t *p = block(len);
+
+    memcpy(p, bytes, len);
+    return p;
+}
+
+static bool differ(const char *what, uint64_t library, uint64_t plain)
+{
+    fprintf(stderr, "fuzz: %s: library %u %zu %zu, plain %u %zu %zu\n", what, HESSIAN_NUMBER(library),
+            HESSIAN_COUNT(library), HESSIAN_PLACE(library), HESSIAN_NUMBER(plain), HESSIAN_COUNT(plain), HESSIAN_PLACE(plain));
+    return false;
+}
+
+/* Lent bytes before a call: the same pattern for both. */
+static void fill(uint8_t *p, size_t len)
+{
+    size_t i;
+
+    for (i = 0; i < len; i++)
+        p[i] = (uint8_t)(i * 7 + 3);
+}
+
+/* Whether the bytes from `from` on are as `fill` left them. */
+static bool as_filled(const uint8_t *p, size_t from, size_t len)
+{
+    for (; from < len; from++)
+        if (p[from] != (uint8_t)(from * 7 + 3))
+            return false;
+    return true;
+}
+
+/* ---- what is lent to both */
+
+struct lent {
+    const struct fence *fence;
+    bool at_end;
+    size_t len;
+    uint8_t *library, *plain;
+};
+
+static struct lent lend(const struct fence *f, size_t len)
+{
+    struct lent l = {f, pick(4) != 0, len, NULL, block(len)};
+
+    l.library = fenced(f, len, l.at_end);
+    fill(l.library, len);
+    fill(l.plain, len);
+    return l;
+}
+
+/* Whether both answered the same and left the same, and nothing but the first `stored` bytes was changed. */
+static bool agree(const char *what, const struct lent *l, uint64_t library, uint64_t plain, size_t stored)
+{
+    if (library != plain)
+        return differ(what, library, plain);
+    if (memcmp(l->library, l->plain, l->len) != 0)
+        return differ("different bytes are left", library, plain);
+    if (!guarded(l->fence, l->len, l->at_end) || !as_filled(l->library, stored, l->len))
+        return differ("bytes are changed that must stay", library, plain);
+    return true;
+}
+
+/* ---- the reader */
+
+/* Reads with both, into a table of so many bytes. Its rows are copied to `rows`, unless that is NULL. */
+static bool compare_read(const uint8_t *data, size_t size, size_t table_len, uint8_t **rows, uint64_t *answer)
+{
+    struct lent l = lend(&table_fence, table_len);
+    bool at_end = pick(4) != 0, same;
+    uint8_t *message = fenced(&message_fence, size, at_end), *copy = copy_of(data, size);
+    size_t stored;
+
+    memcpy(message, data, size);
+    *answer = hessian_read(message, size, l.library, table_len);
+    stored = HESSIAN_NUMBER(*answer) == 0 ? HESSIAN_COUNT(*answer) * ROW_SIZE : 0;
+    same = agree("read", &l, *answer, baseline_read(copy, size, l.plain, table_len), stored);
+    if (memcmp(message, data, size) != 0 || !guarded(&message_fence, size, at_end))
+        same = differ("the message is changed", *answer, 0);
+    if (rows != NULL)
+        *rows = copy_of(l.library, stored);
+    free(copy);
+    free(l.plain);
+    return same;
+}
+
+/* The rows a message needs; 0 where it is refused. */
+static size_t rows_needed(const uint8_t *data, size_t size)
+{
+    uint8_t *copy = copy_of(data, size);
+    uint64_t answer = baseline_read(copy, size, NULL, 0);
+
+    free(copy);
+    return HESSIAN_NUMBER(answer) == HESSIAN_ROOM ? HESSIAN_COUNT(answer) : 0;
+}
+
+static size_t some_room(size_t needed)
+{
+    switch (pick(4)) {
+    case 0:
+        return needed > 0 ? needed - 1 : 0;
+    case 1:
+        return (size_t)pick(needed + 1);
+    case 2:
+        return needed + (size_t)pick(40);
+    default:
+        return 0;
+    }
+}
+
+/* ---- the writer */
+
+struct input {
+    const uint8_t *source;
+    size_t source_len;
+    const uint8_t *table;
+    size_t table_len;
+    uint64_t rows;
+};
+
+/* Writes with both, into an output of so many bytes. What is written is copied to `written`, unless that is NULL. */
+static bool compare_write(const struct input *in, size_t output_len, uint8_t **written, uint64_t *answer)
+{
+    struct lent l = lend(&output_fence, output_len);
+    bool at_end = pick(4) != 0, same;
+    uint8_t *source = fenced(&message_fence, in->source_len, at_end), *source_copy = copy_of(in->source, in->source_len);
+    uint8_t *table = fenced(&table_fence, in->table_len, at_end), *table_copy = copy_of(in->table, in->table_len);
+    uint64_t plain;
+    size_t stored;
+
+    memcpy(source, in->source, in->source_len);
+    memcpy(table, in->table, in->table_len);
+    *answer = hessian_write(source, in->source_len, table, in->table_len, in->rows, l.library, output_len);
+    stored = HESSIAN_NUMBER(*answer) == 0 ? HESSIAN_COUNT(*answer) : 0;
+    plain = baseline_write(source_copy, in->source_len, table_copy, in->table_len, in->rows, l.plain, output_len);
+    same = agree("write", &l, *answer, plain, stored);
+    if (memcmp(source, in->source, in->source_len) != 0 || memcmp(table, in->table, in->table_len) != 0 ||
+        !guarded(&message_fence, in->source_len, at_end) || !guarded(&table_fence, in->table_len, at_end))
+        same = differ("the source or the table is changed", *answer, 0);
+    if (written != NULL)
+        *written = copy_of(l.library, stored);
+    free(source_copy);
+    free(table_copy);
+    free(l.plain);
+    return same;
+}
+
+/* Writes into no room, into some, and into as much as is needed; what is then written is copied. */
+static bool compare_writes(const struct input *in, uint8_t **written, uint64_t *answer)
+{
+    uint64_t needed;
+
+    return compare_write(in, 0, NULL, &needed) && compare_write(in, some_room(HESSIAN_COUNT(needed)), NULL, answer) &&
+           compare_write(in, HESSIAN_COUNT(needed), written, answer);
+}
+
+/* ---- messages */
+
+/* Whether rows agree in all but their places. */
+static bool same_rows(const uint8_t *one, const uint8_t *two, size_t rows)
+{
+    size_t i;
+
+    for (i = 0; i < rows; i++, one += ROW_SIZE, two += ROW_SIZE)
+        if (memcmp(one, two, 8) != 0 || memcmp(one + 16, two + 16, 16) != 0)
+            return false;
+    return true;
+}
+
+/* What is written is no longer, reads back as the same rows, and is written from them again. */
+static bool check_shortest(const struct input *in, const uint8_t *shortest, size_t len)
+{
+    uint8_t *rows = NULL, *again = NULL;
+    uint64_t read, written;
+    struct input back = {shortest, len, NULL, in->table_len, in->rows};
+    bool good;
+
+    if (len > in->source_len)
+        return differ("the shortest form is longer", len, in->source_len);
+    good = compare_read(shortest, len, in->table_len, &rows, &read);
+    if (good && (HESSIAN_NUMBER(read) != 0 || HESSIAN_COUNT(read) != in->rows || !same_rows(rows, in->table, in->rows)))
+        good = differ("the shortest form reads otherwise", read, in->rows);
+    back.table = rows;
+    if (good)
+        good = compare_write(&back, len, &again, &written);
+    if (good && (HESSIAN_COUNT(written) != len || memcmp(again, shortest, len) != 0))
+        good = differ("the shortest form is written otherwise", written, len);
+    free(rows);
+    free(again);
+    return good;
+}
+
+/* Writes rows of which some numbers are altered, or more or fewer are claimed. */
+static bool compare_altered(const struct input *in)
+{
+    static const uint64_t edges[] = {0, 1, 7, 8, 15, 16, 47, 48, 255, 256, 0x7fffffff, 0x80000000, 0xffffffff80000000, UINT64_MAX};
+    uint8_t *table = copy_of(in->table, in->table_len);
+    struct input altered = *in;
+    size_t times = 1 + (size_t)pick(MOST_ALTERED);
+    uint64_t answer;
+    bool same;
+
+    altered.table = table;
+    if (pick(4) == 0)
+        altered.rows += pick(5) - 2;
+    for (; times > 0 && in->table_len > 0; times--) {
+        uint8_t *p = table + pick(in->table_len / 8) * 8;
+        uint64_t n = get_number(p);
+
+        put_number_at(p, pick(3) == 0 ? edges[pick(sizeof edges / sizeof edges[0])] : n + pick(5) - 2);
+    }
+    if (pick(8) == 0)
+        altered.source_len = (size_t)pick(in->source_len + 1);
+    same = compare_writes(&altered, NULL, &answer);
+    free(table);
+    return same;
+}
+
+static bool compare_message(const uint8_t *data, size_t size)
+{
+    size_t rows = rows_needed(data, size);
+    uint8_t *table, *shortest = NULL;
+    uint64_t answer, written;
+    struct input in = {data, size, NULL, rows * ROW_SIZE, rows};
+    bool same = compare_read(data, size, some_room(rows * ROW_SIZE), NULL, &answer);
+
+    if (!same || !compare_read(data, size, rows * ROW_SIZE, &table, &answer))
+        return false;
+    in.table = table;
+    if (HESSIAN_NUMBER(answer) == 0)
+        same = compare_writes(&in, &shortest, &written) && check_shortest(&in, shortest, HESSIAN_COUNT(written)) &&
+               compare_altered(&in);
+    free(shortest);
+    free(table);
+    return same;
+}
+
+static bool compare_packed(const struct packed *p)
+{
+    uint8_t *table = block(p->rows * ROW_SIZE);
+    struct input in = {p->source, p->source_len, table, p->rows * ROW_SIZE, p->claimed};
+    uint64_t answer;
+    bool same;
+
+    unpack_rows(p, table);
+    same = compare_writes(&in, NULL, &answer);
+    free(table);
+    return same;
+}
+
+bool compare(const uint8_t *data, size_t size)
+{
+    struct packed p;
+
+    if (size > MOST_MESSAGE)
+        return true;
+    start(data, size);
+    if (unpack(data, size, &p) && p.rows <= LONGEST)
+        return compare_packed(&p);
+    return compare_message(data, size);
+}

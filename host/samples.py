@@ -1,0 +1,175 @@
+#!/usr/bin/env python3
+"""Makes the records of samples/: `samples.py FOLDER` writes them there, and removes nothing.
+
+Each is spelled out by hand here, byte by byte, so that their spellings can differ: what is the same record and what is not is
+said beside each.
+"""
+import struct
+import sys
+from pathlib import Path
+
+
+# ---- forms: short ones, and wide ones that say the same
+
+def int_(n):
+    if -16 <= n <= 47:
+        return bytes([0x90 + n])
+    if -2048 <= n <= 2047:
+        return struct.pack(">H", 0xC800 + n)
+    if -262144 <= n <= 262143:
+        return (0xD40000 + n).to_bytes(3, "big")
+    return wide_int(n)
+
+
+def wide_int(n):
+    return b"\x49" + struct.pack(">i", n)
+
+
+def long_(n):
+    return b"\x4c" + struct.pack(">q", n)
+
+
+def double(x):
+    return b"\x44" + struct.pack(">d", x)
+
+
+def date(milliseconds):
+    return b"\x4a" + struct.pack(">q", milliseconds)
+
+
+def minutes(n):
+    return b"\x4b" + struct.pack(">i", n)
+
+
+def units(s):
+    return len(s.encode("utf-16-be")) // 2
+
+
+def text(s):
+    n, body = units(s), s.encode()
+    if n < 32:
+        return bytes([n]) + body
+    if n < 1024:
+        return struct.pack(">H", 0x3000 + n) + body
+    return b"\x53" + struct.pack(">H", n) + body
+
+
+def parted_text(*parts):
+    """A text in chunks."""
+    return b"".join(b"\x52" + struct.pack(">H", units(s)) + s.encode() for s in parts[:-1]) + \
+        b"\x53" + struct.pack(">H", units(parts[-1])) + parts[-1].encode()
+
+
+def binary(b):
+    if len(b) < 16:
+        return bytes([0x20 + len(b)]) + b
+    if len(b) < 1024:
+        return struct.pack(">H", 0x3400 + len(b)) + b
+    return b"\x42" + struct.pack(">H", len(b)) + b
+
+
+def parted_binary(size, b):
+    """A byte string in chunks of `size`."""
+    parts = [b[i:i + size] for i in range(0, len(b), size)]
+    return b"".join(b"\x41" + struct.pack(">H", len(p)) + p for p in parts[:-1]) + binary(parts[-1])
+
+
+def class_(name, *fields):
+    return b"\x43" + text(name) + int_(len(fields)) + b"".join(map(text, fields))
+
+
+def open_list(*values):
+    return b"\x57" + b"".join(values) + b"\x5a"
+
+
+def counted_list(*values):
+    return b"\x58" + int_(len(values)) + b"".join(values)
+
+
+def open_map(*values):
+    return b"\x48" + b"".join(values) + b"\x5a"
+
+
+NULL, FALSE, TRUE = b"\x4e", b"\x46", b"\x54"
+
+
+def reference(n):
+    return b"\x51" + int_(n)
+
+
+# ---- sweeps: a header, and blocks of samples
+
+def samples(block):
+    """A block of 96 samples of 8 bits, not the same for any two blocks."""
+    return bytes((17 * i + 31 * block + i * i // 7) % 256 for i in range(96))
+
+
+HEADER = class_("drive.Sweep", "vehicle", "started", "channel", "rate", "blocks")
+
+
+def sweep(blocks):
+    return HEADER + b"\x60" + text("Prüfwagen 7") + date(894621091000) + int_(3) + double(12.25) + \
+        bytes([0x78 + len(blocks)]) + b"".join(map(binary, blocks))
+
+
+def sweep_wide(blocks):
+    """The same record as sweep, in another spelling."""
+    return HEADER + b"\x4f" + wide_int(0) + parted_text("Prüf", "wagen 7") + date(894621091000) + wide_int(3) + \
+        b"\x5f" + struct.pack(">f", 12.25) + counted_list(*(parted_binary(40, b) for b in blocks))
+
+
+BLOCKS = [samples(k) for k in range(4)]
+OTHER_BLOCKS = BLOCKS[:2] + [samples(9)] + BLOCKS[3:]
+
+MARK = class_("drive.Mark", "lane", "at", "sweep")
+DRIVE = class_("drive.Drive", "name", "marks", "next")
+
+RECORDS = {
+    # 01's example of a class and an object, and the same record in a wider spelling
+    "car.rec": class_("Car", "color") + b"\x60" + text("red"),
+    "car_wide.rec": b"\x43" + parted_text("C", "ar") + wide_int(1) + parted_text("color") + b"\x4f\x90" + parted_text("r", "", "ed"),
+    # two sweeps that share their header and differ in the third of four blocks; the first once more, in another spelling
+    "sweep_1.rec": sweep(BLOCKS),
+    "sweep_2.rec": sweep(OTHER_BLOCKS),
+    "sweep_1_again.rec": sweep_wide(BLOCKS),
+    # the first, cut off within its last block
+    "sweep_1_cut.rec": sweep(BLOCKS)[:-30],
+    # an object that holds a list of objects; one of these, and the list, are referred to; an object that holds itself
+    "nested.rec": DRIVE + b"\x60" + text("night drive") +
+    open_list(MARK + b"\x61" + int_(2) + minutes(14910351) + NULL,
+              b"\x61" + int_(-1) + date(-1) + open_map(text("of"), reference(2), text("all"), reference(1))) +
+    b"\x60" + text("day drive") + b"\x78" + reference(5),
+    # lists and maps with types, spelled out and by number
+    "types.rec": open_list(b"\x72" + text("[int") + int_(1) + int_(2), b"\x73" + int_(0) + int_(300) + int_(-300) + int_(70000),
+                           b"\x4d" + text("drive.Lanes") + int_(1) + text("left") + int_(2) + text("right") + b"\x5a",
+                           b"\x55" + int_(1) + b"\x5a"),
+    # numbers at the edges of their forms
+    "numbers.rec": open_list(int_(-16), int_(47), int_(48), int_(-2048), int_(262143), int_(262144), wide_int(-2**31),
+                             long_(-8), long_(15), long_(16), long_(2047), long_(-2**31), long_(-2**63), double(0.0), double(-0.0),
+                             double(1.0), double(-128.0), double(0.1), double(float("inf")), b"\x5f\x7f\x80\x00\x01",
+                             double(5e-324), NULL, FALSE, TRUE, date(0), date(2**63 - 1), minutes(-2**31)),
+    # characters of one to four bytes, characters that are not to be seen, a text in chunks, an empty one
+    "texts.rec": open_list(text(""), text("Grüße, 東京 🚗"), text('"quoted" \\ tab\t line\n bell\x07 mark\u202e'),
+                           parted_text("one text ", "in ", "three parts"), binary(b""), binary(bytes(range(80)))),
+    # 60 elements: their count is spelled out here, and the open form is a byte shorter
+    "long_list.rec": counted_list(*(int_(n * n) for n in range(60))),
+    # what is no record: a reserved byte, a character that is not UTF-8, a second record, a reference to nothing, nothing
+    "bad_byte.rec": open_list(int_(1), text("two"), b"\x40", int_(4)),
+    "bad_text.rec": open_list(text("fine"), b"\x03a\xffb"),
+    "bad_after.rec": int_(1) + int_(2),
+    "bad_reference.rec": b"\x79" + reference(1),
+    "bad_empty.rec": b"",
+}
+
+
+def main():
+    if len(sys.argv) != 2:
+        sys.exit("usage: samples.py FOLDER")
+    folder = Path(sys.argv[1])
+    folder.mkdir(exist_ok=True)
+    for name, record in RECORDS.items():
+        (folder / name).write_bytes(record)
+
+
+if __name__ == "__main__":
+    main()
