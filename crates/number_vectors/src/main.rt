@@ -10,8 +10,8 @@
 use libc::STDIN_FILENO;
 use libc::STDOUT_FILENO;
 use scalar::Written;
-use scalar::numbers::NumberRead;
-use scalar::numbers::Sort;
+use numbers::NumberRead;
+use scalar::Sort;
 ghost use Prim.Native.Nat.{_≤_};
 
 // What a buffer holds before anything is stored.
@@ -83,7 +83,7 @@ fn say_read(read: NumberRead) {
 // The value at the place `at` of the message that is the first n bytes of data.
 fn read_case(sort: Sort, data: &[u8], n: usize, at: usize) {
     if n <= data.len() {
-        say_read(scalar::numbers::read_number(sort, &data[0..n], at));
+        say_read(numbers::read_number(sort, &data[0..n], at));
     } else {
         say(b"bad");
     }
@@ -112,7 +112,7 @@ fn refused(sort: Sort, value: u64, length: usize, at: usize, lent: usize) -> boo
         return false;
     }
     let mut out = [BLANK; 16];
-    let written = scalar::numbers::write_number(sort, value, &mut out[0..lent], at);
+    let written = numbers::write_number(sort, value, &mut out[0..lent], at);
     if !blank(&out, 0, 16) {
         return false;
     }
@@ -150,7 +150,7 @@ fn all_refused(sort: Sort, value: u64, length: usize) -> bool {
 
 // The value and its size are read again.
 fn read_again(sort: Sort, value: u64, length: usize, out: &[u8; 16]) -> bool {
-    match scalar::numbers::read_number(sort, out, PLACE) {
+    match numbers::read_number(sort, out, PLACE) {
         NumberRead::Value { value: v, size } => v == value && size == length,
         NumberRead::Refused {
             number: _,
@@ -190,9 +190,9 @@ fn say_none(sort: Sort, value: u64, length: usize, out: &[u8; 16]) {
 
 // The value's shortest form, stored in a larger buffer.
 fn write_case(sort: Sort, value: u64) {
-    let length = scalar::numbers::number_length(sort, value);
+    let length = numbers::number_length(sort, value);
     let mut out = [BLANK; 16];
-    match scalar::numbers::write_number(sort, value, &mut out, PLACE) {
+    match numbers::write_number(sort, value, &mut out, PLACE) {
         Written::Stored { size } => say_stored(sort, value, length, size, &out),
         Written::NoRoom { needed: _ } => say(b"no room"),
         Written::NotSuch => say_none(sort, value, length, &out),
@@ -226,7 +226,7 @@ fn answer(operation: u8, sort: Sort, n: usize, data: &[u8; 10]) {
     match operation {
         0 => read_case(sort, data, n, 0),
         1 => write_case(sort, wire::number_at(data, 0, 8, 0)),
-        2 => say_number(wire::wide(scalar::chart::entry(data[0]))),
+        2 => say_number(wire::wide(numbers::chart::entry(data[0]))),
         3 => read_case(sort, data, n, wire::wide(data[9]) as usize),
         _ => say(b"bad"),
     }

@@ -11,12 +11,13 @@ use lib.Seq.{getD-set-same, getD-set-other, take-set-le, take-suc-set, length-ta
 use borrow.Author.Tests.{eq-eqb, eqb-true, eqb-false}
 use Rattle.flow.specs.Flow.{pick, Done, byteAt}
 use Rattle.flow.specs.Tests.{by-cases}
-use Rattle.scalar.specs.declared.chart.Lead.the-variants as lead
-use Rattle.scalar.specs.declared.texts.Kind.the-variants.{Utf8}
-use Rattle.scalar.specs.declared.texts.StringRead.{StringRead}
-use Rattle.scalar.specs.declared.texts.StringRead.the-variants.{Content, Refused}
+use Rattle.scalar.specs.declared.Lead.the-variants as lead
+use Rattle.scalar.specs.declared.Kind.the-variants.{Utf8}
+use Rattle.texts.specs.declared.StringRead.{StringRead}
+use Rattle.texts.specs.declared.StringRead.the-variants.{Content, Refused}
 use Rattle.scalar.specs.Scalars.{ranges, rangeOf, leadOf, kindOf}
-use Rattle.scalar.specs.TextAnswers.{sized, measuredAt, toldString}
+use Rattle.scalar.specs.Answers.{sized, measuredAt}
+use Rattle.texts.specs.Answers.{toldString}
 use Rattle.record.specs.Records.{Known, Definition, defined, definition, valueFrom, Row, row}
 use Rattle.record.specs.Answers.{base}
 use Rattle.record.specs.Placed.{Placed, Got, Lost, run, front, on, topped, front-none, front-front}

@@ -11,14 +11,14 @@ use borrow.Author.Tests.{ne-eqb}
 use denote.Enum.Declared.{tagOf}
 use Rattle.flow.specs.Flow.{pick}
 use Rattle.flow.specs.Tests.{pick-either}
-use Rattle.scalar.specs.declared.numbers.Sort.{Sort}
-use Rattle.scalar.specs.declared.numbers.Sort.the-variants.{Int, Long}
-use Rattle.scalar.specs.declared.chart.Lead.{Lead}
-use Rattle.scalar.specs.declared.chart.Lead.the-variants as lead
+use Rattle.scalar.specs.declared.Sort.{Sort}
+use Rattle.scalar.specs.declared.Sort.the-variants.{Int, Long}
+use Rattle.scalar.specs.declared.Lead.{Lead}
+use Rattle.scalar.specs.declared.Lead.the-variants as lead
 use Rattle.scalar.specs.Scalars.{ranges, rangeOf, leadOf, kindOf}
 use Rattle.scalar.specs.ChartLaws.{lead-in}
 use Rattle.scalar.specs.ScalarLaws.{isScalar}
-use Rattle.scalar.proofs.chart.Lead.{the-type}
+use Rattle.scalar.proofs.Lead.{the-type}
 use Rattle.record.specs.Records.{Known}
 use Rattle.record.specs.Forms.{Form, leaf}
 use Rattle.record.specs.Answers.{base}

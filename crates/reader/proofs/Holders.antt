@@ -14,14 +14,15 @@ use mir.Syntax.{w64}
 use mir.Val.{Fits}
 use Rattle.flow.specs.Flow.{pick, Done, Fault, One, byteAt}
 use Rattle.flow.specs.Tests.{pick-true, pick-false, pick-either, by-cases, implies, implied, neqb, every, every-at}
-use Rattle.scalar.specs.declared.numbers.Sort.the-variants.{Int}
-use Rattle.scalar.specs.declared.numbers.NumberRead.{NumberRead}
-use Rattle.scalar.specs.declared.numbers.NumberRead.the-variants as number
-use Rattle.scalar.specs.declared.chart.Lead.{Lead}
-use Rattle.scalar.specs.declared.chart.Lead.the-variants as lead
+use Rattle.scalar.specs.declared.Sort.the-variants.{Int}
+use Rattle.numbers.specs.declared.NumberRead.{NumberRead}
+use Rattle.numbers.specs.declared.NumberRead.the-variants as number
+use Rattle.scalar.specs.declared.Lead.{Lead}
+use Rattle.scalar.specs.declared.Lead.the-variants as lead
 use Rattle.scalar.specs.Scalars.{ranges, rangeOf, leadOf, kindOf}
 use Rattle.scalar.specs.ChartLaws.{opens}
-use Rattle.scalar.specs.Answers.{numberAt, told}
+use Rattle.scalar.specs.Answers.{numberAt}
+use Rattle.numbers.specs.Answers.{told}
 use Rattle.record.specs.declared.Group.the-variants.{Fields}
 use Rattle.record.specs.Records.{Known, opened, Opening, typeFrom, plainFrom, valueFrom}
 use Rattle.record.specs.Forms.{Form, few, few-typed, few-object, counted, counted-typed, open-list, open-typed, object, formOf}

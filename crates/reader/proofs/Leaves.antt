@@ -9,25 +9,27 @@ use lib.ListN.{length, getD}
 use mir.Syntax.{w64}
 use mir.Val.{Fits}
 use Rattle.flow.specs.Flow.{Bytes, Done, Fault, byteAt}
-use Rattle.scalar.specs.declared.numbers.Sort.{Sort}
-use Rattle.scalar.specs.declared.numbers.Sort.the-variants.{Int}
-use Rattle.scalar.specs.declared.numbers.NumberRead.{NumberRead}
-use Rattle.scalar.specs.declared.numbers.NumberRead.the-variants as number
-use Rattle.scalar.specs.declared.texts.Kind.{Kind}
-use Rattle.scalar.specs.declared.texts.Kind.the-variants.{Utf8, Binary}
-use Rattle.scalar.specs.declared.texts.StringRead.{StringRead}
-use Rattle.scalar.specs.declared.texts.StringRead.the-variants as string
-use Rattle.scalar.specs.declared.chart.Lead.{Lead}
-use Rattle.scalar.specs.declared.chart.Lead.the-variants as lead
-use Rattle.scalar.specs.declared.numbers.Rule.the-variants.{Exactly}
-use Rattle.scalar.specs.declared.numbers.Begun.the-variants.{Starts, NoForm}
-use Rattle.scalar.specs.Answers.{followOf, numberAt, told}
+use Rattle.scalar.specs.declared.Sort.{Sort}
+use Rattle.scalar.specs.declared.Sort.the-variants.{Int}
+use Rattle.numbers.specs.declared.NumberRead.{NumberRead}
+use Rattle.numbers.specs.declared.NumberRead.the-variants as number
+use Rattle.scalar.specs.declared.Kind.{Kind}
+use Rattle.scalar.specs.declared.Kind.the-variants.{Utf8, Binary}
+use Rattle.texts.specs.declared.StringRead.{StringRead}
+use Rattle.texts.specs.declared.StringRead.the-variants as string
+use Rattle.scalar.specs.declared.Lead.{Lead}
+use Rattle.scalar.specs.declared.Lead.the-variants as lead
+use Rattle.scalar.specs.declared.Rule.the-variants.{Exactly}
+use Rattle.scalar.specs.declared.Begun.the-variants.{Starts, NoForm}
+use Rattle.scalar.specs.Answers.{followOf, numberAt}
+use Rattle.numbers.specs.Answers.{told}
 use Rattle.scalar.specs.ChartLaws.{number-lead}
 use Rattle.scalar.specs.Scalars.{Form, form, inside, value, formsOf, formAt, sortKind}
 use Rattle.scalar.specs.NumberLaws.{form-here, form-skip}
 use Rattle.scalar.specs.NumberAt.{number-there}
 use Rattle.scalar.specs.NumberTheorems.{within-message}
-use Rattle.scalar.specs.TextAnswers.{sized, measuredAt, toldString}
+use Rattle.scalar.specs.Answers.{sized, measuredAt}
+use Rattle.texts.specs.Answers.{toldString}
 use Rattle.record.specs.Records.{Known, plainFrom, row}
 use Rattle.record.specs.Forms.{formOf}
 use Rattle.record.specs.Answers.{base}

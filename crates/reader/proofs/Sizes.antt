@@ -6,11 +6,12 @@ use native.Mathlib.Omega.{arith}
 use lib.ListN.{length}
 use Rattle.flow.specs.Flow.{Bytes, Done, Fault}
 use Rattle.flow.specs.Steps.{Answer, renamed}
-use Rattle.scalar.specs.declared.texts.Kind.{Kind}
-use Rattle.scalar.specs.declared.texts.StringRead.{StringRead}
-use Rattle.scalar.specs.declared.texts.StringRead.the-variants.{Content}
+use Rattle.scalar.specs.declared.Kind.{Kind}
+use Rattle.texts.specs.declared.StringRead.{StringRead}
+use Rattle.texts.specs.declared.StringRead.the-variants.{Content}
 use Rattle.scalar.specs.Scalars.{stringAt}
-use Rattle.scalar.specs.TextAnswers.{sized, sizes, measuredAt, toldString}
+use Rattle.scalar.specs.Answers.{sized, sizes, measuredAt}
+use Rattle.texts.specs.Answers.{toldString}
 use Rattle.scalar.specs.TextTheorems.{text-within}
 
 pub measured-within : (k : Kind) (m : List ℕ) → Bytes m → (p n u b : ℕ) → measuredAt k m p ≡ Done n (sized u b) [] tt → (0 < n) × (p + n ≤ length m)

@@ -7,18 +7,20 @@ use native.Mathlib.Omega.{arith}
 use lib.Dec.{eqb}
 use lib.ListN.{length, getD}
 use borrow.Author.Tests.{ne-eqb}
-use Rattle.scalar.specs.declared.numbers.Sort.the-variants.{Int}
-use Rattle.scalar.specs.declared.numbers.NumberRead.{NumberRead}
-use Rattle.scalar.specs.declared.numbers.NumberRead.the-variants as number
-use Rattle.scalar.specs.declared.texts.Kind.the-variants.{Utf8}
-use Rattle.scalar.specs.declared.texts.StringRead.{StringRead}
-use Rattle.scalar.specs.declared.texts.StringRead.the-variants as string
-use Rattle.scalar.specs.declared.chart.Lead.{Lead}
-use Rattle.scalar.specs.declared.chart.Lead.the-variants as lead
+use Rattle.scalar.specs.declared.Sort.the-variants.{Int}
+use Rattle.numbers.specs.declared.NumberRead.{NumberRead}
+use Rattle.numbers.specs.declared.NumberRead.the-variants as number
+use Rattle.scalar.specs.declared.Kind.the-variants.{Utf8}
+use Rattle.texts.specs.declared.StringRead.{StringRead}
+use Rattle.texts.specs.declared.StringRead.the-variants as string
+use Rattle.scalar.specs.declared.Lead.{Lead}
+use Rattle.scalar.specs.declared.Lead.the-variants as lead
 use Rattle.scalar.specs.Scalars.{leadOf, kindOf, isText}
-use Rattle.scalar.specs.Answers.{entry, numberAt, told}
+use Rattle.scalar.specs.Answers.{entry, numberAt}
+use Rattle.numbers.specs.Answers.{told}
 use Rattle.scalar.specs.ChartLaws.{kind-is, entry-parts}
-use Rattle.scalar.specs.TextAnswers.{measuredAt, toldString}
+use Rattle.scalar.specs.Answers.{measuredAt}
+use Rattle.texts.specs.Answers.{toldString}
 use Rattle.record.specs.Records.{typed, row}
 use Rattle.record.specs.Answers.{base}
 use Rattle.record.specs.Placed.{Got}

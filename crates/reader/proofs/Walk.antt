@@ -15,7 +15,7 @@ use Rattle.record.specs.Placed.{Placed, Got, Lost, run, front, on, topped, fron
 use Rattle.record.specs.Runs.{rest, stops, past, parts, Room, room-first, room-next, past-within, rest-stop, rest-step}
 use Rattle.record.specs.Values.{heading}
 use Rattle.record.specs.Definitions.{value-plain}
-use Rattle.scalar.specs.declared.chart.Lead.the-variants as lead
+use Rattle.scalar.specs.declared.Lead.the-variants as lead
 use Rattle.reader.specs.declared.heads.TypeItem.{TypeItem}
 use Rattle.reader.specs.declared.heads.Plan.{Plan}
 use Rattle.reader.specs.declared.heads.Head.{Head}

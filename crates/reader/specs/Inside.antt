@@ -8,9 +8,9 @@ use Prim.Native.Nat.{ℕ, zero, suc, _+_, _-_, _^_, _≤_, _<_}
 use lib.Dec.{ltb, eqb}
 use lib.ListN.{length, take, getD}
 use Rattle.flow.specs.Flow.{pick, Bytes, Done, Fault, One, byteAt, overlay}
-use Rattle.scalar.specs.declared.chart.Lead.{Lead}
-use Rattle.scalar.specs.declared.chart.Lead.the-variants as lead
-use Rattle.scalar.specs.declared.numbers.Sort.the-variants.{Int}
+use Rattle.scalar.specs.declared.Lead.{Lead}
+use Rattle.scalar.specs.declared.Lead.the-variants as lead
+use Rattle.scalar.specs.declared.Sort.the-variants.{Int}
 use Rattle.scalar.specs.Scalars.{leadOf, isText}
 use Rattle.scalar.specs.Answers.{numberAt}
 use Rattle.record.specs.declared.Group.{Group}

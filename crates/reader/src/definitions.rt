@@ -1,11 +1,11 @@
 // Class definitions. The laws of their meaning are in record's specs/Definitions.antt.
 use crate::heads::Count;
-use scalar::texts::Kind;
-use scalar::texts::StringRead;
+use scalar::Kind;
+use texts::StringRead;
 ghost use mathlib.Core.Path.{_≡_};
 ghost use Prim.Native.Nat.{_+_, _^_, _≤_, _<_};
 ghost use lib.ListN.{getD};
-ghost use Rattle.scalar.specs.declared.chart.Lead.the-variants as lead;
+ghost use Rattle.scalar.specs.declared.Lead.the-variants as lead;
 ghost use Rattle.record.specs.KnownArray.{Kept, knownIn};
 ghost use Rattle.reader.specs.Inside.{At, Ready, Led, FieldsMet, ClassMet, NamesMet, Defined, DefinitionMet};
 
@@ -70,7 +70,7 @@ fn class_head(message: &[u8], known: &[u64; 259], at: usize) -> ClassRead
             place: at,
         };
     }
-    match scalar::texts::read_string(Kind::Utf8, message, at + 1) {
+    match texts::read_string(Kind::Utf8, message, at + 1) {
         StringRead::Refused { number, place } => ClassRead::Wrong { number, place },
         StringRead::Content { units, bytes, size } => field_count(
             message,
@@ -96,7 +96,7 @@ fn field_names(
     let mut here = at;
     let mut i: usize = 0;
     while i < count {
-        match scalar::texts::read_string(Kind::Utf8, message, here) {
+        match texts::read_string(Kind::Utf8, message, here) {
             StringRead::Refused { number, place } => {
                 return Names::Wrong { number, place };
             }

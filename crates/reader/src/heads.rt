@@ -1,17 +1,18 @@
 // What a value begins with, when no class definition stands before it. The laws of its meaning are in record's specs/Values.antt.
 //
 // What is known is kept in an array: each class's number of fields; then how many classes, types and references are given.
-use scalar::chart::Lead;
-use scalar::numbers::NumberRead;
-use scalar::numbers::Sort;
-use scalar::texts::Kind;
-use scalar::texts::StringRead;
+use scalar::Lead;
+use numbers::NumberRead;
+use scalar::Sort;
+use scalar::Kind;
+use texts::StringRead;
 ghost use mathlib.Core.Path.{_≡_};
 ghost use Prim.Native.Nat.{_+_, _^_, _<_};
 ghost use lib.ListN.{length, getD};
-ghost use Rattle.scalar.specs.declared.chart.Lead.the-variants as lead;
+ghost use Rattle.scalar.specs.declared.Lead.the-variants as lead;
 ghost use Rattle.scalar.specs.Scalars.{leadOf, sortKind};
-ghost use Rattle.scalar.specs.Answers.{numberAt, told};
+ghost use Rattle.scalar.specs.Answers.{numberAt};
+ghost use Rattle.numbers.specs.Answers.{told};
 ghost use Rattle.reader.specs.declared.heads.Head.the-variants as head;
 ghost use Rattle.record.specs.KnownArray.{Kept, knownIn};
 ghost use Rattle.reader.specs.Inside.{At, Led, High, NoName, Holding, CountMet, CountFits, TypeMet, ListAt, ListMet, holderOf, instanceOf, LeafMet, PlainMet, HolderMet, Heads, HeadMet};
@@ -80,7 +81,7 @@ pub(crate) fn count_at(message: &[u8], at: usize) -> Count
     requires { ⌜ At (now message) at ⌝ }
     ensures { λ r. ⌜ CountMet (now (message .entry)) at r ⌝ }
 {
-    match scalar::numbers::read_number(Sort::Int, message, at) {
+    match numbers::read_number(Sort::Int, message, at) {
         NumberRead::Refused { number, place } => Count::Wrong { number, place },
         NumberRead::Value { value, size } => {
             if value < 0x8000_0000_0000_0000 {
@@ -106,7 +107,7 @@ fn named_type(message: &[u8], known: &[u64; 259], at: usize) -> TypeRead
             place: at,
         };
     }
-    match scalar::texts::read_string(Kind::Utf8, message, at) {
+    match texts::read_string(Kind::Utf8, message, at) {
         StringRead::Refused { number, place } => TypeRead::Wrong { number, place },
         StringRead::Content { units, bytes, size } => TypeRead::Is {
             of: TypeItem::Named {
@@ -123,7 +124,7 @@ fn numbered_type(message: &[u8], known: &[u64; 259], at: usize) -> TypeRead
     requires { ⌜ NoName (now message) at ⌝ }
     ensures { λ r. ⌜ TypeMet (now (message .entry)) (getD (now (known .entry)) 257 0) at r ⌝ }
 {
-    match scalar::numbers::read_number(Sort::Int, message, at) {
+    match numbers::read_number(Sort::Int, message, at) {
         NumberRead::Refused { number, place } => TypeRead::Wrong { number, place },
         NumberRead::Value { value, size } => {
             if value < known[257] {
@@ -151,7 +152,7 @@ fn type_at(message: &[u8], known: &[u64; 259], at: usize) -> TypeRead
             place: at,
         };
     }
-    if scalar::chart::entry(message[at]) / 10 == 7 {
+    if numbers::chart::entry(message[at]) / 10 == 7 {
         return named_type(message, known, at);
     }
     numbered_type(message, known, at)
@@ -211,19 +212,19 @@ fn number_head(sort: Sort, message: &[u8], at: usize) -> Head
         Sort::False => single_leaf(1, at),
         Sort::True => single_leaf(2, at),
         Sort::Int => {
-            let n = scalar::direct::read_wide_int(message, at);
+            let n = numbers::direct::read_wide_int(message, at);
             number_leaf(Sort::Int, message, at, n)
         }
         Sort::Long => {
-            let n = scalar::direct::read_wide_long(message, at);
+            let n = numbers::direct::read_wide_long(message, at);
             number_leaf(Sort::Long, message, at, n)
         }
         Sort::Double => {
-            let n = scalar::direct::read_double(message, at);
+            let n = numbers::direct::read_double(message, at);
             number_leaf(Sort::Double, message, at, n)
         }
         Sort::Date => {
-            let n = scalar::direct::read_date(message, at);
+            let n = numbers::direct::read_date(message, at);
             number_leaf(Sort::Date, message, at, n)
         }
     }
@@ -235,10 +236,10 @@ fn high_head(message: &[u8], at: usize, b: u8) -> Head
     ensures { λ r. ⌜ LeafMet (now (message .entry)) at r ⌝ }
 {
     if b < 0xd8 {
-        let n = scalar::direct::read_int(message, at);
+        let n = numbers::direct::read_int(message, at);
         return number_leaf(Sort::Int, message, at, n);
     }
-    let n = scalar::direct::read_long(message, at);
+    let n = numbers::direct::read_long(message, at);
     number_leaf(Sort::Long, message, at, n)
 }
 
@@ -247,7 +248,7 @@ fn text_head(message: &[u8], at: usize) -> Head
     requires { ⌜ Led (now message) at lead.Text ⌝ }
     ensures { λ r. ⌜ LeafMet (now (message .entry)) at r ⌝ }
 {
-    match scalar::texts::read_text(message, at) {
+    match texts::read_text(message, at) {
         StringRead::Refused { number, place } => Head::Wrong { number, place },
         StringRead::Content { units, bytes, size } => Head::Leaf {
             kind: 7,
@@ -263,7 +264,7 @@ fn bytes_head(message: &[u8], at: usize) -> Head
     requires { ⌜ Led (now message) at lead.Bytes ⌝ }
     ensures { λ r. ⌜ LeafMet (now (message .entry)) at r ⌝ }
 {
-    match scalar::texts::read_string(Kind::Binary, message, at) {
+    match texts::read_string(Kind::Binary, message, at) {
         StringRead::Refused { number, place } => Head::Wrong { number, place },
         StringRead::Content {
             units: _,
@@ -283,7 +284,7 @@ fn reference_head(message: &[u8], known: &[u64; 259], at: usize) -> Head
     requires { ⌜ Led (now message) at lead.Reference ⌝ }
     ensures { λ r. ⌜ PlainMet (now (message .entry)) (knownIn (now (known .entry))) at r ⌝ }
 {
-    match scalar::numbers::read_number(Sort::Int, message, at + 1) {
+    match numbers::read_number(Sort::Int, message, at + 1) {
         NumberRead::Refused { number, place } => Head::Wrong { number, place },
         NumberRead::Value { value, size } => {
             if value < known[258] {
@@ -421,7 +422,7 @@ fn object_head(message: &[u8], known: &[u64; 259], at: usize) -> Head
 {
     let b = message[at];
     if b == 0x4f {
-        return match scalar::numbers::read_number(Sort::Int, message, at + 1) {
+        return match numbers::read_number(Sort::Int, message, at + 1) {
             NumberRead::Refused { number, place } => Head::Wrong { number, place },
             NumberRead::Value { value, size } => instance(known, at, value, at + 1 + size),
         };
@@ -463,7 +464,7 @@ fn lead_of(b: u8) -> Lead
     if b < 0x20 {
         return Lead::Text;
     }
-    scalar::chart::classify(b)
+    numbers::chart::classify(b)
 }
 
 // A refusal.

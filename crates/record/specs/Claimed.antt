@@ -8,8 +8,8 @@ use Prim.Native.Nat.{ℕ}
 use lib.Dec.{T, eqb, eqb→eq, eqb-refl}
 use Rattle.flow.specs.Tests.{by-test, pass, and-left, and-right, and-both}
 use Rattle.flow.specs.Flow.{pick}
-use Rattle.scalar.specs.declared.numbers.Sort.the-variants as sort
-use Rattle.scalar.specs.declared.texts.Kind.the-variants.{Utf8, Binary}
+use Rattle.scalar.specs.declared.Sort.the-variants as sort
+use Rattle.scalar.specs.declared.Kind.the-variants.{Utf8, Binary}
 use Rattle.scalar.specs.Scalars.{Num, Str}
 use Rattle.record.specs.Records.{Leaf, UntypedList, TypedList, UntypedMap, TypedMap, Object, Reference, Item, Val, Definition, ClassName, FieldName, TypeName, TypeNumber, Row, itemRow, contentOf, contentAt, Claims, ClaimAll, no-rows, a-row}
 

@@ -11,10 +11,10 @@ use borrow.Author.Tests.{lt-ltb, le-ltb, eq-eqb, ne-eqb}
 use Rattle.flow.specs.Flow.{pick, Done, Fault, One, give, fail, byteAt, changing, headed, after, many, preceded, precededBy}
 use Rattle.flow.specs.Steps.{Answer}
 use Rattle.flow.specs.Tests.{pick-true, pick-false, split}
-use Rattle.scalar.specs.declared.numbers.Sort.the-variants.{Int}
-use Rattle.scalar.specs.declared.texts.Kind.the-variants.{Utf8}
+use Rattle.scalar.specs.declared.Sort.the-variants.{Int}
+use Rattle.scalar.specs.declared.Kind.the-variants.{Utf8}
 use Rattle.scalar.specs.Answers.{numberAt}
-use Rattle.scalar.specs.TextAnswers.{Sizes, sized, measuredAt}
+use Rattle.scalar.specs.Answers.{Sizes, sized, measuredAt}
 use Rattle.record.specs.declared.Group.the-variants.{Counted}
 use Rattle.record.specs.Records.{Definition, ClassName, FieldName, Known, defined, Ceilings, Reader, Opening, count, name, plainFrom, fieldNames, definition, valueFrom, Row, row}
 use Rattle.record.specs.Placed.{Placed, Got, Lost, run, front, on, through, topped, on-same, run-give, run-fail, run-byte, run-end, run-changing, run-asking, run-test, run-headed, run-mapped, run-bind, run-bounded, run-same}

@@ -7,10 +7,10 @@ use lib.Dec.{T, eqb, eqb→eq}
 use lib.ListN.{getD}
 use Rattle.flow.specs.Flow.{pick}
 use Rattle.flow.specs.Tests.{every, every-at, and-left, and-right}
-use Rattle.scalar.specs.declared.chart.Lead.{Lead}
-use Rattle.scalar.specs.declared.chart.Lead.the-variants as lead
-use Rattle.scalar.specs.declared.numbers.Sort.the-variants as sort
-use Rattle.scalar.specs.declared.texts.Kind.the-variants.{Utf8, Binary}
+use Rattle.scalar.specs.declared.Lead.{Lead}
+use Rattle.scalar.specs.declared.Lead.the-variants as lead
+use Rattle.scalar.specs.declared.Sort.the-variants as sort
+use Rattle.scalar.specs.declared.Kind.the-variants.{Utf8, Binary}
 use Rattle.scalar.specs.Scalars.{ranges, rangeOf, leadOf, kindOf, Scalar, Num, Str}
 use Rattle.scalar.specs.ScalarLaws.{leadFor}
 use Rattle.record.specs.Records.{Leaf, Val, itemRow}

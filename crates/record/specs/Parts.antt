@@ -12,15 +12,15 @@ use Rattle.flow.specs.Flow.{pick, From, Done, Fault, One, give, fail, byteAt, c
 use Rattle.flow.specs.Steps.{Answer, renamed, alone}
 use Rattle.flow.specs.Tests.{pick-true, pick-false, split}
 use Rattle.flow.specs.Lifts.{Lifts, lifted, byte-lifts}
-use Rattle.scalar.specs.declared.numbers.Sort.{Sort}
-use Rattle.scalar.specs.declared.numbers.Sort.the-variants.{Int}
-use Rattle.scalar.specs.declared.texts.Kind.{Kind}
-use Rattle.scalar.specs.declared.texts.Kind.the-variants.{Utf8}
+use Rattle.scalar.specs.declared.Sort.{Sort}
+use Rattle.scalar.specs.declared.Sort.the-variants.{Int}
+use Rattle.scalar.specs.declared.Kind.{Kind}
+use Rattle.scalar.specs.declared.Kind.the-variants.{Utf8}
 use Rattle.scalar.specs.Scalars.{formsOf, numberFrom, stringFrom, stringAt, isText, intFrom, textFrom}
 use Rattle.scalar.specs.Answers.{numberAt}
 use Rattle.scalar.specs.NumberAt.{number-lifts}
 use Rattle.scalar.specs.TextLaws.{string-lifts}
-use Rattle.scalar.specs.TextAnswers.{Sizes, sized, sizes, measuredAt}
+use Rattle.scalar.specs.Answers.{Sizes, sized, sizes, measuredAt}
 use Rattle.record.specs.Records.{Item, TypeName, TypeNumber, Known, typed, Ceilings, Reader, Opening, int, count, name, typeNumber, typeName, typeFrom, Row, row, textRow, itemRow}
 use Rattle.record.specs.Placed.{Placed, Got, Lost, placed, run, on, through, topped, front-none, run-give, run-fail, run-byte, run-end, run-changing, run-asking, run-test, run-headed, run-mapped, run-bind}
 

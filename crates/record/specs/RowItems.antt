@@ -10,13 +10,13 @@ use lib.ListN.{length}
 use borrow.Author.Tests.{eq-eqb, ne-eqb}
 use Rattle.flow.specs.Flow.{pick, Done, Fault}
 use Rattle.flow.specs.Steps.{Answer, renamed}
-use Rattle.scalar.specs.declared.numbers.Sort.{Sort}
-use Rattle.scalar.specs.declared.numbers.Sort.the-variants as sort
-use Rattle.scalar.specs.declared.texts.Kind.{Kind}
-use Rattle.scalar.specs.declared.texts.Kind.the-variants.{Utf8, Binary}
+use Rattle.scalar.specs.declared.Sort.{Sort}
+use Rattle.scalar.specs.declared.Sort.the-variants as sort
+use Rattle.scalar.specs.declared.Kind.{Kind}
+use Rattle.scalar.specs.declared.Kind.the-variants.{Utf8, Binary}
 use Rattle.scalar.specs.Scalars.{units, stringAt, shortestString, Num, Str, sortKind}
-use Rattle.scalar.specs.TextAnswers.{Sizes, sized, sizes, measuredAt}
-use Rattle.scalar.specs.TextWriting.{itemForm, formOf}
+use Rattle.scalar.specs.Answers.{Sizes, sized, sizes, measuredAt}
+use Rattle.scalar.specs.Answers.{itemForm, formOf}
 use Rattle.record.specs.Records.{Leaf, UntypedList, TypedList, UntypedMap, TypedMap, Object, Reference, Item, Val, Definition, ClassName, FieldName, TypeName, TypeNumber, Row, row, itemRow, told, contentAt}
 use Rattle.record.specs.Claimed.{ofKind, sameList, onSome, itemAt, same-refl, claims-back}
 

@@ -1,7 +1,7 @@
 -- A row's other numbers do not depend on its place.
 use mathlib.Core.Path.{_≡_, refl}
 use Prim.Native.Nat.{ℕ}
-use Rattle.scalar.specs.declared.texts.Kind.the-variants.{Utf8, Binary}
+use Rattle.scalar.specs.declared.Kind.the-variants.{Utf8, Binary}
 use Rattle.scalar.specs.Scalars.{Num, Str}
 use Rattle.record.specs.Records.{Leaf, UntypedList, TypedList, UntypedMap, TypedMap, Object, Reference, Item, Val, Definition, ClassName, FieldName, TypeName, TypeNumber, Row, row, itemRow}
 

@@ -11,15 +11,15 @@ use borrow.Author.Tests.{lt-ltb, le-ltb}
 use Rattle.flow.specs.Flow.{pick, Outcome, Done, Fault, One, give, fail, byteAt, changing, mapped, headed, many, untilEnd}
 use Rattle.flow.specs.Steps.{Answer, top}
 use Rattle.flow.specs.Tests.{pick-true, pick-false}
-use Rattle.scalar.specs.declared.numbers.Sort.{Sort}
-use Rattle.scalar.specs.declared.numbers.Sort.the-variants.{Int}
-use Rattle.scalar.specs.declared.texts.Kind.{Kind}
-use Rattle.scalar.specs.declared.texts.Kind.the-variants.{Utf8, Binary}
-use Rattle.scalar.specs.declared.chart.Lead.{Lead}
-use Rattle.scalar.specs.declared.chart.Lead.the-variants as lead
+use Rattle.scalar.specs.declared.Sort.{Sort}
+use Rattle.scalar.specs.declared.Sort.the-variants.{Int}
+use Rattle.scalar.specs.declared.Kind.{Kind}
+use Rattle.scalar.specs.declared.Kind.the-variants.{Utf8, Binary}
+use Rattle.scalar.specs.declared.Lead.{Lead}
+use Rattle.scalar.specs.declared.Lead.the-variants as lead
 use Rattle.scalar.specs.Scalars.{leadOf, formsOf, numberFrom, sortKind, stringFrom, stringAt, Scalar, Num, Str, scalarBy, scalarFrom}
 use Rattle.scalar.specs.Answers.{numberAt}
-use Rattle.scalar.specs.TextAnswers.{Sizes, sized, sizes, measuredAt}
+use Rattle.scalar.specs.Answers.{Sizes, sized, sizes, measuredAt}
 use Rattle.scalar.specs.ScalarLaws.{isScalar, scalar-shut}
 use Rattle.record.specs.declared.Group.{Group}
 use Rattle.record.specs.declared.Group.the-variants.{Counted, Fields, Open, Pairs}

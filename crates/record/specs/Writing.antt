@@ -11,9 +11,9 @@ use borrow.Author.Tests.{le-ltb, ltb-false}
 use Rattle.flow.specs.Flow.{pick, Bytes, Entry, Outcome, Done, Fault, One, items, byteAt}
 use Rattle.flow.specs.Tests.{pick-false, pick-either}
 use Rattle.flow.specs.Laws.{leads-byte}
-use Rattle.scalar.specs.declared.numbers.Sort.the-variants as sort
-use Rattle.scalar.specs.declared.texts.Kind.{Kind}
-use Rattle.scalar.specs.declared.texts.Kind.the-variants.{Utf8, Binary}
+use Rattle.scalar.specs.declared.Sort.the-variants as sort
+use Rattle.scalar.specs.declared.Kind.{Kind}
+use Rattle.scalar.specs.declared.Kind.the-variants.{Utf8, Binary}
 use Rattle.scalar.specs.Scalars.{stringFrom, stringAt, Num, Str}
 use Rattle.scalar.specs.Grammar.{String, Spelt, a-string}
 use Rattle.scalar.specs.TextLaws.{string-makes}

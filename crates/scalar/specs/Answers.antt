@@ -1,24 +1,11 @@
--- What the answers of the code say, in 01's terms: number, count and place.
-use mathlib.Core.Bool.{Bool, true, false}
-use mathlib.Core.List.{List, [], _∷_}
-use mathlib.Core.Option.{Option, none}
-use mathlib.Core.Option as option
-use Prim.Native.Nat.{ℕ, _+_, _*_, _-_, _^_, _≤_, _<_}
-use lib.Dec.{leb}
-use lib.ListN.{length, take, drop}
+-- What the promises about single values, texts and byte strings speak of, in 01's terms: number, count and place.
+use mathlib.Core.{Bool._&&_, List.List, Option.Option, Option.none, Option.some}
+use Prim.Native.Nat.{ℕ, _+_, _*_}
+use lib.{Dec.leb, Dec.eqb, ListN.length}
 use Rattle.flow.specs.Flow.{pick, Done, Fault, byteAt, stored, Report}
-use Rattle.flow.specs.Steps.{Answer, alone}
-use Rattle.wire.specs.BigEndian.{joined, be, wider}
-use Rattle.scalar.specs.declared.numbers.Sort.{Sort}
-use Rattle.scalar.specs.declared.numbers.Rule.{Rule}
-use Rattle.scalar.specs.declared.numbers.Rule.the-variants.{Exactly, Plain, Offset, Signed, Minutes, WholeByte, WholePair, Float}
-use Rattle.scalar.specs.declared.numbers.NumberRead.{NumberRead}
-use Rattle.scalar.specs.declared.numbers.NumberRead.the-variants.{Value, Refused}
-use Rattle.scalar.specs.declared.numbers.Spelling.{Spelling}
-use Rattle.scalar.specs.declared.numbers.Spelling.the-variants as spelling
-use Rattle.scalar.specs.declared.Written.{Written}
-use Rattle.scalar.specs.declared.Written.the-variants.{Stored, NoRoom, NotSuch}
-use Rattle.scalar.specs.Scalars.{value, Form, form, formsOf, numberFrom, ranges, rangeOf, leadOf, kindOf}
+use Rattle.flow.specs.Steps.{Answer, alone, renamed}
+use Rattle.scalar.specs.declared.{Sort.Sort, Kind.Kind, Written.Written, Written.the-variants.Stored, Written.the-variants.NoRoom, Written.the-variants.NotSuch}
+use Rattle.scalar.specs.Scalars.{formsOf, numberFrom, ranges, rangeOf, leadOf, kindOf, units, stringAt, shortestString}
 
 -- how many bytes follow a first byte before any content; and its entry in the table: ten times the kind, and the bytes that follow
 unfoldable pub followOf : ℕ → ℕ
@@ -30,11 +17,6 @@ entry b = 10 * kindOf (leadOf b) + followOf b
 -- what stands at the place p of the message m, read as a value of this kind
 unfoldable pub numberAt : Sort → List ℕ → ℕ → Answer ℕ
 numberAt s m p = alone (byteAt (numberFrom (formsOf s))) m p
-
--- a value read, and the bytes it takes; or a refusal's number and place
-abbrev pub told : NumberRead → Answer ℕ
-told (Value v n) = Done n v [] tt
-told (Refused x o) = Fault x o
 
 -- a refusal's number, 0 where accepted; the bytes stored or needed; the place is 0
 abbrev pub reported : ℕ → ℕ → Report
@@ -48,53 +30,43 @@ report NotSuch = reported 10 0
 -- what storing a form from the index at on comes to, in a slice of len bytes; and what the slice then holds
 unfoldable pub reportOf : Option (List ℕ) → ℕ → ℕ → Report
 reportOf none len at = reported 10 0
-reportOf (option.some w) len at = pick (leb (at + length w) len) (reported 0 (length w)) (reported 9 (length w))
+reportOf (some w) len at = pick (leb (at + length w) len) (reported 0 (length w)) (reported 9 (length w))
 
 unfoldable pub outputOf : Option (List ℕ) → List ℕ → ℕ → List ℕ
 outputOf none l at = l
-outputOf (option.some w) l at = stored l at w
+outputOf (some w) l at = stored l at w
 
 unfoldable pub lengthOf : Option (List ℕ) → ℕ
 lengthOf none = 0
-lengthOf (option.some w) = length w
+lengthOf (some w) = length w
 
--- ---- inside the code
--- reading the form with k bytes after the first, which is at p and holds u
-abbrev pub formRead : List ℕ → ℕ → ℕ → ℕ → Rule → Answer ℕ
-formRead m p k u r = pick (leb (length m - p) k) (Fault 2 (length m)) (Done (k + 1) (value r (joined u (take k (drop (p + 1) m)))) [] tt)
+-- ---- a text or byte string: its units, and its content's bytes
+pub record Sizes : Type 0 where
+  pub units : ℕ
+  pub bytes : ℕ
 
--- the bytes that a spelling is
-abbrev pub spelled : Spelling → Option (List ℕ)
-spelled (spelling.Form c k u) = option.some (c ∷ be k u)
-spelled spelling.Absent = none
+abbrev pub sized : ℕ → ℕ → Sizes
+sized u b = record { units = u; bytes = b }
 
--- what was found first, or else the other
-unfoldable pub orElse : Option (List ℕ) → Option (List ℕ) → Option (List ℕ)
-orElse none other = other
-orElse (option.some w) other = option.some w
+abbrev pub sizes : Kind → List ℕ → Sizes
+sizes k cs = sized (units k cs) (length cs)
 
-abbrev pub some : Option (List ℕ) → Bool
-some none = false
-some (option.some w) = true
+-- what stands at the place p of the message m, by its sizes
+unfoldable pub measuredAt : Kind → List ℕ → ℕ → Answer Sizes
+measuredAt k m p = renamed (sizes k) (stringAt k m p)
 
--- the forms that ints and longs share
-abbrev pub wholeForms : ℕ → ℕ → ℕ → ℕ → ℕ → ℕ → List Form
-wholeForms one codes offset two three five =
-    form one codes 0 (Offset offset) ∷ form two 16 1 (Offset 0x800) ∷ form three 8 2 (Offset 0x4_0000) ∷ form five 1 4 Signed ∷ []
+-- ---- the shortest form of the text or byte string at the place p of the message m, if one stands there
+abbrev pub formOf : Kind → Answer (List ℕ) → Option (List ℕ)
+formOf k (Done n cs es c) = shortestString k cs
+formOf k (Fault x o) = none
 
--- the numbers that a rule takes
-abbrev pub Takes : Rule → ℕ → Type 0
-Takes (Exactly v) u = Unit {0}
-Takes Plain u = Unit {0}
-Takes (Offset k) u = (u < 2 ^ 63) × (k < 2 ^ 63)
-Takes Signed u = u < 2 ^ 32
-Takes Minutes u = u < 2 ^ 32
-Takes WholeByte u = u < 2 ^ 8
-Takes WholePair u = u < 2 ^ 16
-Takes Float u = u < 2 ^ 32
+unfoldable pub itemForm : Kind → List ℕ → ℕ → Option (List ℕ)
+itemForm k m p = formOf k (stringAt k m p)
 
--- a form of up to five bytes, whose rule takes what it can hold
-pub record Good (w : Form) : Type 0 where
-  pub codes : w .head + w .codes ≤ 256
-  pub few : w .extra ≤ 4
-  pub takes : (u : ℕ) → u < wider (w .extra) (w .codes) → Takes (w .rule) u
+-- the same, if its content has u units and b bytes
+abbrev pub sizedOf : Kind → ℕ → ℕ → Answer (List ℕ) → Option (List ℕ)
+sizedOf k u b (Done n cs es c) = pick (eqb (units k cs) u && eqb (length cs) b) (shortestString k cs) none
+sizedOf k u b (Fault x o) = none
+
+unfoldable pub sizedForm : Kind → List ℕ → ℕ → ℕ → ℕ → Option (List ℕ)
+sizedForm k m p u b = sizedOf k u b (stringAt k m p)

@@ -7,16 +7,16 @@ use lib.IntN.{pos, _-ℤ_, _*ℤ_}
 use mir.Syntax.{w8, w16, w32, w64}
 use mir.Val.{toZ}
 use mir.ValLaws.{ofZ-fits, toZ-fits}
-use Rattle.scalar.specs.declared.numbers.Sort.{Sort}
-use Rattle.scalar.specs.declared.numbers.Sort.the-variants.{Null, False, True, Int, Long, Double, Date}
-use Rattle.scalar.specs.declared.numbers.Rule.the-variants.{Offset, Signed}
-use Rattle.scalar.specs.declared.texts.Kind.{Kind}
+use Rattle.scalar.specs.declared.Sort.{Sort}
+use Rattle.scalar.specs.declared.Sort.the-variants.{Null, False, True, Int, Long, Double, Date}
+use Rattle.scalar.specs.declared.Rule.the-variants.{Offset, Signed}
+use Rattle.scalar.specs.declared.Kind.{Kind}
 use Rattle.scalar.specs.Signed.{minus-fits, fits-32, widen-fits, mul-fits}
 use Rattle.scalar.specs.DoubleLaws.{whole-lt, widened-lt}
 use Rattle.scalar.specs.Scalars.{value, formsOf, units}
-use Rattle.scalar.specs.Grammar.{Number, String, last-chunk, chunk-before}
+use Rattle.scalar.specs.Grammar.{Number, follows, Char, one-byte, one-unit, two-units, Body, empty, with-char, String, last-chunk, chunk-before}
 use Rattle.scalar.specs.NumberLaws.{EachForm, number-fact}
-use Rattle.scalar.specs.TextUnits.{weight-few}
+use Rattle.scalar.specs.TextUnits.{weight-few, units-append, body-units}
 
 offset-bits : (k u : ℕ) → u < 2 ^ 63 → k < 2 ^ 63 → value (Offset k) u < 2 ^ 64
 unfolding value
@@ -46,3 +46,17 @@ content-length (chunk-before {h = h} {cs = cs} {v = v} {ds = ds} n b r) = omega 
 pub units-few : (k : Kind) (cs : List ℕ) → units k cs ≤ 2 * length cs
 units-few k [] = omega arith
 units-few k (b ∷ cs) = omega (arith, weight-few k b, units-few k cs)
+
+-- a text has no more units than bytes
+char-few : {k : Kind} {u : ℕ} {w : List ℕ} → Char k u w → u ≤ length w
+char-few (one-byte l) = omega arith
+char-few (one-unit e c) = omega arith
+char-few (two-units e (follows l h c)) = omega arith
+
+body-few : {k : Kind} {n : ℕ} {cs : List ℕ} → Body k n cs → n ≤ length cs
+body-few empty = omega arith
+body-few (with-char {w = w} {v = v} c b) = omega (arith, length-append w v, char-few c, body-few b)
+
+pub string-few : {k : Kind} {w cs : List ℕ} → String k w cs → units k cs ≤ length cs
+string-few {k} (last-chunk n b) = omega (arith, body-units b, body-few b)
+string-few {k} (chunk-before {cs = cs} {ds = ds} n b r) = omega (arith, units-append k cs ds, length-append cs ds, body-units b, body-few b, string-few r)

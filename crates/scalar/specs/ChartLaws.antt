@@ -8,13 +8,13 @@ use lib.Dec.{T, T-not, eqb, leb, eqb→eq, eqb-refl, leb→le}
 use lib.ListN.{getD}
 use Rattle.flow.specs.Flow.{pick}
 use Rattle.flow.specs.Tests.{every, every-at, and-left, and-right}
-use Rattle.scalar.specs.declared.numbers.Sort.{Sort}
-use Rattle.scalar.specs.declared.numbers.Sort.the-variants.{Null, False, True, Int, Long, Double, Date}
-use Rattle.scalar.specs.declared.numbers.Rule.{Rule}
-use Rattle.scalar.specs.declared.numbers.Begun.{Begun}
-use Rattle.scalar.specs.declared.numbers.Begun.the-variants.{Starts, NoForm}
-use Rattle.scalar.specs.declared.chart.Lead.{Lead}
-use Rattle.scalar.specs.declared.chart.Lead.the-variants as lead
+use Rattle.scalar.specs.declared.Sort.{Sort}
+use Rattle.scalar.specs.declared.Sort.the-variants.{Null, False, True, Int, Long, Double, Date}
+use Rattle.scalar.specs.declared.Rule.{Rule}
+use Rattle.scalar.specs.declared.Begun.{Begun}
+use Rattle.scalar.specs.declared.Begun.the-variants.{Starts, NoForm}
+use Rattle.scalar.specs.declared.Lead.{Lead}
+use Rattle.scalar.specs.declared.Lead.the-variants as lead
 use Rattle.scalar.specs.Scalars.{formsOf, formAt, ranges, rangeOf, leadOf, kindOf}
 use Rattle.scalar.specs.Answers.{followOf, entry}
 

@@ -6,8 +6,8 @@ use lib.IntN.{pos}
 use lib.Signed.{quotZ}
 use mir.Syntax.{w64}
 use mir.Val.{ofZ, toZ}
-use Rattle.scalar.specs.declared.numbers.Rule.{Rule}
-use Rattle.scalar.specs.declared.numbers.Rule.the-variants.{Exactly, Plain, Offset, Signed, Minutes, WholeByte, WholePair, Float}
+use Rattle.scalar.specs.declared.Rule.{Rule}
+use Rattle.scalar.specs.declared.Rule.the-variants.{Exactly, Plain, Offset, Signed, Minutes, WholeByte, WholePair, Float}
 
 -- the m of `scaled c m`, from the double's exponent x and fraction t
 abbrev pub unscaled : ℕ → ℕ → ℕ → ℕ

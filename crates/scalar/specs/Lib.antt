@@ -2,8 +2,6 @@ pub mod Guesses
 pub mod Scalars
 pub mod Grammar
 pub mod Answers
-pub mod TextAnswers
-pub mod TextWriting
 pub mod Signed
 pub mod DoubleLaws
 pub mod Ieee
@@ -17,10 +15,6 @@ pub mod TextUnits
 pub mod TextLaws
 pub mod TextShort
 pub mod TextTheorems
-pub mod TextAt
-pub mod TextHeads
-pub mod TextCursor
-pub mod TextLaying
 pub mod ScalarLaws
 pub mod Bits
 pub mod Refusals

@@ -10,10 +10,10 @@ use Rattle.flow.specs.Flow.{Outcome, Done, Fault, One, byteAt}
 use Rattle.flow.specs.Steps.{stepped, alone}
 use Rattle.flow.specs.Lifts.{Lifts, give-lifts, fail-lifts, byte-lifts, map-lifts}
 use Rattle.wire.specs.BigEndian.{joined}
-use Rattle.scalar.specs.declared.numbers.Sort.{Sort}
-use Rattle.scalar.specs.declared.numbers.Rule.{Rule}
-use Rattle.scalar.specs.declared.numbers.Begun.{Begun}
-use Rattle.scalar.specs.declared.numbers.Begun.the-variants.{Starts, NoForm}
+use Rattle.scalar.specs.declared.Sort.{Sort}
+use Rattle.scalar.specs.declared.Rule.{Rule}
+use Rattle.scalar.specs.declared.Begun.{Begun}
+use Rattle.scalar.specs.declared.Begun.the-variants.{Starts, NoForm}
 use Rattle.scalar.specs.Scalars.{value, Form, formsOf, formAt, bytesOf, numberFrom}
 use Rattle.scalar.specs.NumberLaws.{numberBy}
 use Rattle.scalar.specs.Answers.{numberAt}

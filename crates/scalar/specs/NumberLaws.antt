@@ -12,8 +12,8 @@ use Rattle.flow.specs.Flow.{pick, within, Bytes, Read, fail, mapped}
 use Rattle.flow.specs.Laws.{Goal, Parsed, gives, takes, maps, Makes, byte-makes, map-makes, Quiet, quiet}
 use Rattle.wire.specs.BigEndian.{joined, be, high, wider}
 use Rattle.wire.specs.Laws.{be-length, be-bytes, joined-be, high-below, joined-below}
-use Rattle.scalar.specs.declared.numbers.Begun.{Begun}
-use Rattle.scalar.specs.declared.numbers.Begun.the-variants.{Starts, NoForm}
+use Rattle.scalar.specs.declared.Begun.{Begun}
+use Rattle.scalar.specs.declared.Begun.the-variants.{Starts, NoForm}
 use Rattle.scalar.specs.Scalars.{value, Form, inside, formAt, bytesOf, numberFrom, spelling, fits, shortest}
 use Rattle.scalar.specs.Grammar.{Held, held, Number, here, later}
 use Rattle.scalar.specs.Guesses.{guess}

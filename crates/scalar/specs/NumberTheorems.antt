@@ -10,7 +10,7 @@ use Rattle.flow.specs.Flow.{Bytes, Entry, Done, One, items, byteAt}
 use Rattle.flow.specs.Steps.{Answer}
 use Rattle.flow.specs.Tests.{bytes-drop}
 use Rattle.flow.specs.Laws.{Parsed, takes, quietly, Makes, byte-makes}
-use Rattle.scalar.specs.declared.numbers.Sort.{Sort}
+use Rattle.scalar.specs.declared.Sort.{Sort}
 use Rattle.scalar.specs.Scalars.{formsOf, numberFrom, shortest}
 use Rattle.scalar.specs.Grammar.{Number}
 use Rattle.scalar.specs.Answers.{numberAt}

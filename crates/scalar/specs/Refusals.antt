@@ -7,15 +7,15 @@ use native.Mathlib.Omega.{arith}
 use lib.ListN.{length}
 use Rattle.flow.specs.Flow.{within, Read, From, mapped, fail, bind}
 use Rattle.flow.specs.Refusals.{Tells, TellsFrom, cond-tells, byte-tells, mapped-tells, bind-tells}
-use Rattle.scalar.specs.declared.numbers.Sort.the-variants as sort
-use Rattle.scalar.specs.declared.numbers.Begun.{Begun}
-use Rattle.scalar.specs.declared.numbers.Begun.the-variants.{Starts, NoForm}
-use Rattle.scalar.specs.declared.chart.Lead.{Lead}
-use Rattle.scalar.specs.declared.chart.Lead.the-variants as lead
-use Rattle.scalar.specs.declared.texts.Kind.{Kind}
-use Rattle.scalar.specs.declared.texts.Kind.the-variants.{Utf8, Binary}
-use Rattle.scalar.specs.declared.texts.CharLead.{CharLead}
-use Rattle.scalar.specs.declared.texts.CharLead.the-variants.{Basic, Supplementary, NoChar}
+use Rattle.scalar.specs.declared.Sort.the-variants as sort
+use Rattle.scalar.specs.declared.Begun.{Begun}
+use Rattle.scalar.specs.declared.Begun.the-variants.{Starts, NoForm}
+use Rattle.scalar.specs.declared.Lead.{Lead}
+use Rattle.scalar.specs.declared.Lead.the-variants as lead
+use Rattle.scalar.specs.declared.Kind.{Kind}
+use Rattle.scalar.specs.declared.Kind.the-variants.{Utf8, Binary}
+use Rattle.scalar.specs.declared.CharLead.{CharLead}
+use Rattle.scalar.specs.declared.CharLead.the-variants.{Basic, Supplementary, NoChar}
 use Rattle.scalar.specs.Scalars.{Form, formsOf, formAt, inside, value, bytesOf, numberFrom, leadOf, partHead, lastHeads, charLead, continued, character, characters, octets, body, chunk, chunks, stringFrom, Num, Str, scalarBy, scalarFrom, intFrom, textFrom}
 use Rattle.scalar.specs.NumberLaws.{numberBy}
 

@@ -12,12 +12,12 @@ use lib.ListN.{length}
 use Rattle.flow.specs.Tests.{by-test, pass, every, every-at, implies, implied, within-yes, First}
 use Rattle.flow.specs.Flow.{pick, Bytes, From, Fault, mapped}
 use Rattle.flow.specs.Laws.{Parsed, maps, Quiet, quiet, quietly, map-makes, Leads}
-use Rattle.scalar.specs.declared.numbers.Sort.{Sort}
-use Rattle.scalar.specs.declared.numbers.Sort.the-variants as sort
-use Rattle.scalar.specs.declared.texts.Kind.{Kind}
-use Rattle.scalar.specs.declared.texts.Kind.the-variants.{Utf8, Binary}
-use Rattle.scalar.specs.declared.chart.Lead.{Lead}
-use Rattle.scalar.specs.declared.chart.Lead.the-variants as lead
+use Rattle.scalar.specs.declared.Sort.{Sort}
+use Rattle.scalar.specs.declared.Sort.the-variants as sort
+use Rattle.scalar.specs.declared.Kind.{Kind}
+use Rattle.scalar.specs.declared.Kind.the-variants.{Utf8, Binary}
+use Rattle.scalar.specs.declared.Lead.{Lead}
+use Rattle.scalar.specs.declared.Lead.the-variants as lead
 use Rattle.scalar.specs.Scalars.{ranges, rangeOf, leadOf, kindOf, Form, compact, inside, formsOf, numberFrom, fits, shortest, partHead, lastHeads, stringFrom, shortestString, Scalar, Num, Str, isText, scalarBy, scalarFrom, intFrom, textFrom, shortestScalar, shortestInt, shortestText}
 use Rattle.scalar.specs.Grammar.{held, Number, here, later, String, last-chunk, chunk-before, Spelt, a-number, a-string, Int, Text}
 use Rattle.scalar.specs.ChartLaws.{kind-is}

@@ -5,13 +5,13 @@ use lib.{Dec.ltb, Dec.eqb, ListN.length, ListN.take, ListN.drop, Count.leadingZe
 use mir.{Syntax.w8, Syntax.w16, Syntax.w32, Syntax.w64, Val.ofZ, Val.toZ}
 use Rattle.flow.specs.Flow.{pick, within, Outcome, Done, Fault, Read, From, One, give, fail, byteAt, mapped, bind}
 use Rattle.wire.specs.BigEndian.{be, high, wider}
-use Rattle.scalar.specs.declared.numbers.{Sort.Sort, Rule.Rule, Begun.Begun, Begun.the-variants.Starts, Begun.the-variants.NoForm}
-use Rattle.scalar.specs.declared.numbers.Sort.the-variants.{Null, False, True, Int, Long, Double, Date}
-use Rattle.scalar.specs.declared.numbers.Rule.the-variants.{Exactly, Plain, Offset, Signed, Minutes, WholeByte, WholePair, Float}
-use Rattle.scalar.specs.declared.texts.Kind.{Kind, the-variants.Utf8, the-variants.Binary}
-use Rattle.scalar.specs.declared.texts.CharLead.{CharLead, the-variants.Basic, the-variants.Supplementary, the-variants.NoChar}
-use Rattle.scalar.specs.declared.chart.Lead.{Lead}
-use Rattle.scalar.specs.declared.chart.Lead.the-variants as lead
+use Rattle.scalar.specs.declared.{Sort.Sort, Rule.Rule, Begun.Begun, Begun.the-variants.Starts, Begun.the-variants.NoForm}
+use Rattle.scalar.specs.declared.Sort.the-variants.{Null, False, True, Int, Long, Double, Date}
+use Rattle.scalar.specs.declared.Rule.the-variants.{Exactly, Plain, Offset, Signed, Minutes, WholeByte, WholePair, Float}
+use Rattle.scalar.specs.declared.Kind.{Kind, the-variants.Utf8, the-variants.Binary}
+use Rattle.scalar.specs.declared.CharLead.{CharLead, the-variants.Basic, the-variants.Supplementary, the-variants.NoChar}
+use Rattle.scalar.specs.declared.Lead.{Lead}
+use Rattle.scalar.specs.declared.Lead.the-variants as lead
 use Rattle.scalar.specs.Guesses.{guess}
 
 -- ---- the chart: what each byte opens, and how many bytes follow before any content

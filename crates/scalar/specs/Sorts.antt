@@ -14,9 +14,9 @@ use mir.Val.{SFits, ofZ}
 use Rattle.flow.specs.Tests.{split}
 use Rattle.wire.specs.BigEndian.{high, wider}
 use Rattle.wire.specs.Laws.{high-below}
-use Rattle.scalar.specs.declared.numbers.Sort.{Sort}
-use Rattle.scalar.specs.declared.numbers.Sort.the-variants.{Null, False, True, Int, Long, Double, Date}
-use Rattle.scalar.specs.declared.numbers.Rule.the-variants.{Exactly, Plain, Offset, Signed, Minutes, WholeByte, WholePair, Float}
+use Rattle.scalar.specs.declared.Sort.{Sort}
+use Rattle.scalar.specs.declared.Sort.the-variants.{Null, False, True, Int, Long, Double, Date}
+use Rattle.scalar.specs.declared.Rule.the-variants.{Exactly, Plain, Offset, Signed, Minutes, WholeByte, WholePair, Float}
 use Rattle.scalar.specs.Signed.{minus-bits, signed-back, minutes-back}
 use Rattle.scalar.specs.DoubleLaws.{byte-back, pair-back, float-back}
 use Rattle.scalar.specs.Scalars.{value, Form, form, compact, formsOf, fits, shortest}

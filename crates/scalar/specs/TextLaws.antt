@@ -12,10 +12,10 @@ use Rattle.flow.specs.Flow.{within, Bytes, Read, From, One, then, give, fail, m
 use Rattle.flow.specs.Steps.{before}
 use Rattle.flow.specs.Lifts.{Lifts, give-lifts, fail-lifts, byte-lifts, map-lifts, bind-lifts, test-lifts}
 use Rattle.flow.specs.Laws.{Goal, Parsed, gives, takes, maps, Quiet, quiet, quietly, binds-quiet, Makes, byte-makes, bind-makes, map-makes, pass-makes, skip-makes, bound-makes, Leads}
-use Rattle.scalar.specs.declared.texts.Kind.{Kind}
-use Rattle.scalar.specs.declared.texts.Kind.the-variants.{Utf8, Binary}
-use Rattle.scalar.specs.declared.texts.CharLead.{CharLead}
-use Rattle.scalar.specs.declared.texts.CharLead.the-variants.{Basic, Supplementary, NoChar}
+use Rattle.scalar.specs.declared.Kind.{Kind}
+use Rattle.scalar.specs.declared.Kind.the-variants.{Utf8, Binary}
+use Rattle.scalar.specs.declared.CharLead.{CharLead}
+use Rattle.scalar.specs.declared.CharLead.the-variants.{Basic, Supplementary, NoChar}
 use Rattle.scalar.specs.Scalars.{Form, inside, numberFrom, partHead, lastHeads, charLead, continued, character, characters, octets, body, chunk, chunks, stringFrom}
 use Rattle.scalar.specs.Grammar.{Number, here, held, Continued, no-more, follows, Char, one-byte, one-unit, two-units, Body, empty, with-char, String, last-chunk, chunk-before}
 use Rattle.scalar.specs.NumberLaws.{proper, clear, number-apart, number-scans, NumberLed, number-makes, number-bytes, number-some}

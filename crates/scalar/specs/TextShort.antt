@@ -14,9 +14,9 @@ use Rattle.flow.specs.Flow.{Bytes, One, Done, Fault, items}
 use Rattle.flow.specs.Steps.{Answer}
 use Rattle.flow.specs.Laws.{Parsed, quiet}
 use Rattle.wire.specs.BigEndian.{high}
-use Rattle.scalar.specs.declared.numbers.Rule.the-variants.{Plain}
-use Rattle.scalar.specs.declared.texts.Kind.{Kind}
-use Rattle.scalar.specs.declared.texts.Kind.the-variants.{Utf8, Binary}
+use Rattle.scalar.specs.declared.Rule.the-variants.{Plain}
+use Rattle.scalar.specs.declared.Kind.{Kind}
+use Rattle.scalar.specs.declared.Kind.the-variants.{Utf8, Binary}
 use Rattle.scalar.specs.Scalars.{value, Form, form, shortest, partHead, lastHeads, weight, units, body, longest, span, shortestHead, spelled, content, shortestString}
 use Rattle.scalar.specs.Grammar.{Held, Number, here, later, Body, empty, with-char, String, last-chunk, chunk-before}
 use Rattle.scalar.specs.Guesses.{guess}

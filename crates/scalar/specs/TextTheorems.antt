@@ -10,7 +10,7 @@ use Rattle.flow.specs.Flow.{Bytes, Entry, Done, One}
 use Rattle.flow.specs.Steps.{Answer}
 use Rattle.flow.specs.Tests.{bytes-drop}
 use Rattle.flow.specs.Laws.{Parsed, takes, quietly, leads-byte}
-use Rattle.scalar.specs.declared.texts.Kind.{Kind}
+use Rattle.scalar.specs.declared.Kind.{Kind}
 use Rattle.scalar.specs.NumberTheorems.{no-entries}
 use Rattle.scalar.specs.Scalars.{stringFrom, stringAt, shortestString}
 use Rattle.scalar.specs.Grammar.{String}

@@ -10,10 +10,10 @@ use lib.ListN.{length, take, drop}
 use lib.Seq.{take-append-add, drop-append-add}
 use Rattle.flow.specs.Tests.{by-test, pick-either, within-yes, within-below, within-above, within-is, bytes-append}
 use Rattle.flow.specs.Flow.{pick, within, Bytes}
-use Rattle.scalar.specs.declared.texts.Kind.{Kind}
-use Rattle.scalar.specs.declared.texts.Kind.the-variants.{Utf8, Binary}
-use Rattle.scalar.specs.declared.texts.CharLead.{CharLead}
-use Rattle.scalar.specs.declared.texts.CharLead.the-variants.{Basic, Supplementary, NoChar}
+use Rattle.scalar.specs.declared.Kind.{Kind}
+use Rattle.scalar.specs.declared.Kind.the-variants.{Utf8, Binary}
+use Rattle.scalar.specs.declared.CharLead.{CharLead}
+use Rattle.scalar.specs.declared.CharLead.the-variants.{Basic, Supplementary, NoChar}
 use Rattle.scalar.specs.Scalars.{charLead, weight, total, units, span}
 use Rattle.scalar.specs.Grammar.{Continued, no-more, follows, Char, one-byte, one-unit, two-units, Body, empty, with-char}
 use Rattle.scalar.specs.Greedy.{Chars}

@@ -14,8 +14,8 @@
 use libc::STDIN_FILENO;
 use libc::STDOUT_FILENO;
 use scalar::Written;
-use scalar::texts::Kind;
-use scalar::texts::StringRead;
+use scalar::Kind;
+use texts::StringRead;
 use vectors::Scanned;
 use vectors::Step;
 ghost use Prim.Native.Nat.{_≤_, _<_};
@@ -205,7 +205,7 @@ fn refused(
     if out.len() < lent {
         return false;
     }
-    let written = scalar::text_writer::write_string(kind, message, at, &mut out[0..lent], PLACE);
+    let written = text_writer::write_string(kind, message, at, &mut out[0..lent], PLACE);
     if !vectors::unchanged(&out[0..lent], 0) {
         return false;
     }
@@ -218,7 +218,7 @@ fn refused(
 
 // The string at PLACE is read as one of these sizes.
 fn read_again(kind: Kind, out: &[u8], units: usize, bytes: usize, size: usize) -> bool {
-    match scalar::texts::read_string(kind, out, PLACE) {
+    match texts::read_string(kind, out, PLACE) {
         StringRead::Content {
             units: u,
             bytes: b,
@@ -255,7 +255,7 @@ fn fits(kind: Kind, message: &[u8], at: usize, length: usize, out: &mut [u8], le
     if out.len() < lent {
         return false;
     }
-    match scalar::text_writer::write_string(kind, message, at, &mut out[0..lent], PLACE) {
+    match text_writer::write_string(kind, message, at, &mut out[0..lent], PLACE) {
         Written::Stored { size } => size == length,
         Written::NoRoom { needed: _ } => false,
         Written::NotSuch => false,
@@ -288,7 +288,7 @@ fn room_told(
 
 // The shortest form of the string at `at`, of these units and bytes, stored in `out`.
 fn say_form(kind: Kind, message: &[u8], at: usize, units: usize, bytes: usize, out: &mut [u8]) {
-    let length = scalar::text_writer::string_length(kind, message, at);
+    let length = text_writer::string_length(kind, message, at);
     say_number(length);
     if LARGEST < length {
         return;
@@ -298,7 +298,7 @@ fn say_form(kind: Kind, message: &[u8], at: usize, units: usize, bytes: usize, o
     if out.len() < lent {
         return;
     }
-    match scalar::text_writer::write_string(kind, message, at, &mut out[0..lent], PLACE) {
+    match text_writer::write_string(kind, message, at, &mut out[0..lent], PLACE) {
         Written::Stored { size } => say_stored(kind, &out[0..lent], units, bytes, size),
         Written::NoRoom { needed: _ } => say(b" no room"),
         Written::NotSuch => say(b" none"),
@@ -328,14 +328,14 @@ fn say_refused(number: u8, place: usize) {
 
 // No string at `at` has a length or is stored.
 fn none_told(kind: Kind, message: &[u8], at: usize, out: &mut [u8]) -> bool {
-    if scalar::text_writer::string_length(kind, message, at) != 0 {
+    if text_writer::string_length(kind, message, at) != 0 {
         return false;
     }
     refused(kind, message, at, 0, out, PLACE + BEHIND)
 }
 
 fn answer(kind: Kind, message: &[u8], at: usize, out: &mut [u8]) {
-    match scalar::texts::read_string(kind, message, at) {
+    match texts::read_string(kind, message, at) {
         StringRead::Content { units, bytes, size } => {
             say_content(units, bytes, size);
             say_form(kind, message, at, units, bytes, out);

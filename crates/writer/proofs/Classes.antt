@@ -11,7 +11,7 @@ use borrow.Author.Tests.{eqb-true, eqb-false}
 use mir.Syntax.{w64}
 use mir.Val.{Fits}
 use Rattle.flow.specs.Tests.{by-cases}
-use Rattle.scalar.specs.declared.texts.Kind.the-variants.{Utf8}
+use Rattle.scalar.specs.declared.Kind.the-variants.{Utf8}
 use Rattle.scalar.specs.Scalars.{shortestInt}
 use Rattle.record.specs.Records.{Item, Val, Definition, ClassName, FieldName, TypeName, TypeNumber, Known, start, itemRow}
 use Rattle.record.specs.Answers.{base, definition?, className?, fieldName?, putName, putDefinition, putValue}

@@ -11,9 +11,9 @@ use borrow.Author.Tests.{eqb-true, eq-eqb}
 use Rattle.flow.specs.Steps.{Answer}
 use Rattle.flow.specs.Flow.{Done, Fault, pick}
 use Rattle.flow.specs.Tests.{pick-true, pick-false, by-cases}
-use Rattle.scalar.specs.declared.texts.Kind.{Kind}
+use Rattle.scalar.specs.declared.Kind.{Kind}
 use Rattle.scalar.specs.Scalars.{units, stringAt, shortestString}
-use Rattle.scalar.specs.TextWriting.{sizedOf, sizedForm}
+use Rattle.scalar.specs.Answers.{sizedOf, sizedForm}
 use Rattle.record.specs.Records.{told}
 use Rattle.writer.specs.declared.puts.Put.{Put}
 use Rattle.writer.specs.declared.puts.Put.the-variants as put

@@ -17,9 +17,9 @@ use Rattle.flow.specs.Tests.{split}
 use Rattle.flow.specs.OverlayLaws.{stored-out, stored-sets}
 use Rattle.wire.specs.BigEndian.{be, high, wider}
 use Rattle.wire.specs.Laws.{be-length, be-bytes, joined-be, joined-below, high-below}
-use Rattle.scalar.specs.declared.numbers.Sort.{Sort}
-use Rattle.scalar.specs.declared.numbers.Sort.the-variants.{Null, False, True, Int, Long, Double, Date}
-use Rattle.scalar.specs.declared.numbers.Rule.the-variants.{Exactly, Plain, Offset, Signed, Minutes, WholeByte, WholePair, Float}
+use Rattle.scalar.specs.declared.Sort.{Sort}
+use Rattle.scalar.specs.declared.Sort.the-variants.{Null, False, True, Int, Long, Double, Date}
+use Rattle.scalar.specs.declared.Rule.the-variants.{Exactly, Plain, Offset, Signed, Minutes, WholeByte, WholePair, Float}
 use Rattle.scalar.specs.Signed.{minus-bits}
 use Rattle.scalar.specs.DoubleLaws.{powers, by-magnitude}
 use Rattle.scalar.specs.Scalars.{value, Form, form, formsOf, shortest, scaled, whole, widened}

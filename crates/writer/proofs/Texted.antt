@@ -7,7 +7,7 @@ use lib.Dec.{eqb}
 use lib.ListN.{length}
 use borrow.Author.Tests.{eqb-true, eqb-false}
 use Rattle.flow.specs.Tests.{by-cases}
-use Rattle.scalar.specs.declared.texts.Kind.the-variants.{Utf8}
+use Rattle.scalar.specs.declared.Kind.the-variants.{Utf8}
 use Rattle.scalar.specs.Scalars.{units, stringAt, shortestText}
 use Rattle.record.specs.Records.{Item, told}
 use Rattle.record.specs.Claimed.{itemAt}

@@ -6,7 +6,7 @@ use Prim.Native.Nat.{ℕ, suc, _+_, _≤_, _<_}
 use native.Mathlib.Numerals.{add-one}
 use native.Mathlib.Omega.{arith}
 use lib.ListN.{length, getD, set}
-use Rattle.scalar.specs.declared.texts.Kind.the-variants.{Utf8}
+use Rattle.scalar.specs.declared.Kind.the-variants.{Utf8}
 use Rattle.scalar.specs.Scalars.{shortestInt}
 use Rattle.record.specs.Records.{Item, Val, Definition, ClassName, FieldName, TypeName, TypeNumber, Known, typed, itemRow}
 use Rattle.record.specs.Answers.{base, putType}

@@ -8,9 +8,9 @@ use Prim.Native.Nat.{ℕ, suc, _+_, _-_, _*_, _/_, _≤_, _<_, min}
 use lib.Dec.{ltb, eqb}
 use lib.ListN.{length, take, drop, getD}
 use Rattle.flow.specs.Flow.{pick, stored}
-use Rattle.scalar.specs.declared.numbers.Sort.{Sort}
-use Rattle.scalar.specs.declared.numbers.Rule.the-variants.{Exactly, Offset}
-use Rattle.scalar.specs.declared.texts.Kind.{Kind}
+use Rattle.scalar.specs.declared.Sort.{Sort}
+use Rattle.scalar.specs.declared.Rule.the-variants.{Exactly, Offset}
+use Rattle.scalar.specs.declared.Kind.{Kind}
 use Rattle.scalar.specs.Scalars.{units, stringAt, shortestString, shortestInt, sortKind, Form, form, formsOf}
 use Rattle.record.specs.declared.Contents.{Contents}
 use Rattle.record.specs.Records.{Item, Definition, Known, Row, row, told}

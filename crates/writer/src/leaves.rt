@@ -1,7 +1,7 @@
 // Values that hold no others: numbers, texts, byte strings and references.
 use crate::puts::Put;
 use crate::rows::RowRead;
-use scalar::numbers::Sort;
+use scalar::Sort;
 ghost use mathlib.Core.Path.{_≡_};
 ghost use Prim.Native.Nat.{_≤_, _<_};
 ghost use Rattle.scalar.specs.Scalars.{sortKind};

@@ -2,7 +2,7 @@
 use crate::puts::Put;
 use crate::rows::Fetched;
 use crate::rows::RowRead;
-use scalar::texts::Kind;
+use scalar::Kind;
 ghost use mathlib.Core.Path.{_≡_};
 ghost use Prim.Native.Nat.{_≤_};
 ghost use lib.ListN.{length};

@@ -1,15 +1,15 @@
 // Bytes put behind those so far: stored where they fit, and counted. The count stops above the longest message, so that it cannot
 // overflow, whatever the rows claim.
 use scalar::Written;
-use scalar::numbers::Sort;
-use scalar::texts::Kind;
+use scalar::Sort;
+use scalar::Kind;
 ghost use mathlib.Core.Path.{_≡_};
 ghost use mathlib.Core.List.{[], _∷_};
 ghost use Prim.Native.Nat.{_+_, _≤_, min};
 ghost use Rattle.wire.specs.BigEndian.{be};
-ghost use Rattle.scalar.specs.declared.numbers.Sort.the-variants as kinds;
+ghost use Rattle.scalar.specs.declared.Sort.the-variants as kinds;
 ghost use Rattle.scalar.specs.Scalars.{shortest, formsOf};
-ghost use Rattle.scalar.specs.TextWriting.{sizedForm};
+ghost use Rattle.scalar.specs.Answers.{sizedForm};
 ghost use Rattle.writer.specs.Inside.{Puts, PutMet, Single, Whole};
 
 // One more than the bytes of the longest message.
@@ -109,7 +109,7 @@ fn put_form(sort: Sort, value: u64, out: &mut [u8], size: usize) -> Put
     requires { ⌜ size ≤ 262145 ⌝ }
     ensures { λ r. ⌜ PutMet (shortest (formsOf sort) value) (now (out .entry)) size r (now (out .exit)) ⌝ }
 {
-    match scalar::numbers::write_number(sort, value, out, size) {
+    match numbers::write_number(sort, value, out, size) {
         Written::NotSuch => Put::NoRecord,
         Written::Stored { size: n } => Put::Done {
             size: grown(size, n),
@@ -236,7 +236,7 @@ pub(crate) fn put_string(
     requires { ⌜ size ≤ 262145 ⌝ }
     ensures { λ r. ⌜ PutMet (sizedForm kind (now (source .entry)) at units bytes) (now (out .entry)) size r (now (out .exit)) ⌝ }
 {
-    match scalar::text_writer::write_sized(kind, source, at, units, bytes, out, size) {
+    match text_writer::write_sized(kind, source, at, units, bytes, out, size) {
         Written::NotSuch => Put::NoRecord,
         Written::Stored { size: n } => Put::Done {
             size: grown(size, n),

@@ -1,7 +1,7 @@
 -- Each kind is read by its own function: proofs/Leaves.antt.
 use mathlib.Core.Path.{refl}
 use borrow.Author.Needs.{needs}
-use Rattle.scalar.specs.declared.numbers.Sort.the-variants.{Null, False, True}
+use Rattle.scalar.specs.declared.Sort.the-variants.{Null, False, True}
 use Rattle.scalar.specs.Scalars.{formsOf}
 use Rattle.reader.proofs.Leaves.{led-sort, single-fits, single-head}
 use Rattle.reader.proofs.heads.number_head.Statement.{statement}

@@ -1,0 +1,64 @@
+-- What the answers of the code on single values say.
+use mathlib.Core.Bool.{Bool, true, false}
+use mathlib.Core.List.{List, [], _∷_}
+use mathlib.Core.Option.{Option, none}
+use mathlib.Core.Option as option
+use Prim.Native.Nat.{ℕ, _+_, _-_, _^_, _≤_, _<_}
+use lib.Dec.{leb}
+use lib.ListN.{length, take, drop}
+use Rattle.flow.specs.Flow.{pick, Done, Fault}
+use Rattle.flow.specs.Steps.{Answer}
+use Rattle.wire.specs.BigEndian.{joined, be, wider}
+use Rattle.scalar.specs.declared.Rule.{Rule}
+use Rattle.scalar.specs.declared.Rule.the-variants.{Exactly, Plain, Offset, Signed, Minutes, WholeByte, WholePair, Float}
+use Rattle.scalar.specs.Scalars.{value, Form, form}
+use Rattle.numbers.specs.declared.NumberRead.{NumberRead}
+use Rattle.numbers.specs.declared.NumberRead.the-variants.{Value, Refused}
+use Rattle.numbers.specs.declared.Spelling.{Spelling}
+use Rattle.numbers.specs.declared.Spelling.the-variants as spelling
+
+-- a value read, and the bytes it takes; or a refusal's number and place
+abbrev pub told : NumberRead → Answer ℕ
+told (Value v n) = Done n v [] tt
+told (Refused x o) = Fault x o
+
+-- ---- inside the code
+-- reading the form with k bytes after the first, which is at p and holds u
+abbrev pub formRead : List ℕ → ℕ → ℕ → ℕ → Rule → Answer ℕ
+formRead m p k u r = pick (leb (length m - p) k) (Fault 2 (length m)) (Done (k + 1) (value r (joined u (take k (drop (p + 1) m)))) [] tt)
+
+-- the bytes that a spelling is
+abbrev pub spelled : Spelling → Option (List ℕ)
+spelled (spelling.Form c k u) = option.some (c ∷ be k u)
+spelled spelling.Absent = none
+
+-- what was found first, or else the other
+unfoldable pub orElse : Option (List ℕ) → Option (List ℕ) → Option (List ℕ)
+orElse none other = other
+orElse (option.some w) other = option.some w
+
+abbrev pub some : Option (List ℕ) → Bool
+some none = false
+some (option.some w) = true
+
+-- the forms that ints and longs share
+abbrev pub wholeForms : ℕ → ℕ → ℕ → ℕ → ℕ → ℕ → List Form
+wholeForms one codes offset two three five =
+    form one codes 0 (Offset offset) ∷ form two 16 1 (Offset 0x800) ∷ form three 8 2 (Offset 0x4_0000) ∷ form five 1 4 Signed ∷ []
+
+-- the numbers that a rule takes
+abbrev pub Takes : Rule → ℕ → Type 0
+Takes (Exactly v) u = Unit {0}
+Takes Plain u = Unit {0}
+Takes (Offset k) u = (u < 2 ^ 63) × (k < 2 ^ 63)
+Takes Signed u = u < 2 ^ 32
+Takes Minutes u = u < 2 ^ 32
+Takes WholeByte u = u < 2 ^ 8
+Takes WholePair u = u < 2 ^ 16
+Takes Float u = u < 2 ^ 32
+
+-- a form of up to five bytes, whose rule takes what it can hold
+pub record Good (w : Form) : Type 0 where
+  pub codes : w .head + w .codes ≤ 256
+  pub few : w .extra ≤ 4
+  pub takes : (u : ℕ) → u < wider (w .extra) (w .codes) → Takes (w .rule) u

@@ -1,9 +1,0 @@
--- The forms are those of ints.
-use borrow.Author.Needs.{needs}
-use Rattle.scalar.specs.Scalars.{formsOf}
-use Rattle.scalar.proofs.numbers.spell_int.Statement.{statement}
-use Rattle.scalar.proofs.numbers.spell_int.Tie as tie
-
-pub spell-int-spec : {M : Type 1} → statement M
-unfolding formsOf
-spell-int-spec = tie.close (tie.spec (λ c κs. search needs) (λ c. c .spell-whole .ensures))

@@ -1,0 +1,4 @@
+pub mod Writing
+pub mod Heads
+pub mod Cursor
+pub mod Laying

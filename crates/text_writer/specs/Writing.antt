@@ -1,0 +1,83 @@
+-- What the answers of the code that writes texts and byte strings say.
+use mathlib.Core.Path.{_≡_}
+use mathlib.Core.Bool.{false, cond, _&&_}
+use mathlib.Core.List.{List, [], _∷_, _++_}
+use mathlib.Core.Option.{Option, none}
+use Prim.Native.Nat.{ℕ, suc, _+_, _≤_, _<_}
+use lib.Dec.{eqb}
+use lib.ListN.{length, take, drop}
+use Rattle.flow.specs.Steps.{Answer}
+use Rattle.flow.specs.Flow.{Done, Fault, stored, pick}
+use Rattle.scalar.specs.declared.Rule.the-variants.{Plain}
+use Rattle.scalar.specs.declared.Kind.{Kind}
+use Rattle.text_writer.specs.declared.Cursor.{Cursor}
+use Rattle.text_writer.specs.declared.Heads.{Heads}
+use Rattle.text_writer.specs.declared.Span.{Span}
+use Rattle.text_writer.specs.declared.Found.{Found}
+use Rattle.text_writer.specs.declared.Found.the-variants.{There, Nothing}
+use Rattle.scalar.specs.Scalars.{form, partHead, lastHeads, units, span, stringAt, spelled, shortestString}
+use Rattle.scalar.specs.TextUnits.{weights}
+
+-- ---- inside the code
+abbrev pub contentOf : Answer (List ℕ) → List ℕ
+contentOf (Done n cs es c) = cs
+contentOf (Fault x o) = []
+
+abbrev pub IsDone : Answer (List ℕ) → Type 0
+IsDone (Done n cs es c) = Unit {0}
+IsDone (Fault x o) = ⊥
+
+-- the content from the cursor on: the rest of its chunk, and the chunks after
+unfoldable pub rest : Kind → List ℕ → Cursor → List ℕ
+rest k m c = take (c .left) (drop (c .here) m) ++ cond (c .last) [] (contentOf (stringAt k m (c .here + c .left)))
+
+-- a cursor in a text or byte string
+pub record Going (k : Kind) (m : List ℕ) (c : Cursor) : Type 0 where
+  pub inside : c .here + c .left ≤ length m
+  pub behind : c .last ≡ false → IsDone (stringAt k m (c .here + c .left))
+
+-- the cursor r at the start of the content of the string at p
+pub record Opens (k : Kind) (m : List ℕ) (p : ℕ) (r : Cursor) : Type 0 where
+  pub opens : IsDone (stringAt k m p) → Going k m r × (rest k m r ≡ contentOf (stringAt k m p)) × (p < r .here)
+
+-- how much of the content cs fits cap units
+pub record Spans (k : Kind) (cs : List ℕ) (cap : ℕ) (r : Span) : Type 0 where
+  pub bytes : r .bytes ≡ span cap (weights k cs)
+  pub units-are : r .units ≡ units k (take (r .bytes) cs)
+
+-- n bytes of the content from the cursor c on are in the list, where they fit; the cursor r is after them
+pub record Copies (k : Kind) (m : List ℕ) (c : Cursor) (n : ℕ) (l : List ℕ) (to : ℕ) (l′ : List ℕ) (r : Cursor) : Type 0 where
+  pub going : Going k m r
+  pub behind : rest k m r ≡ drop n (rest k m c)
+  pub same : length l′ ≡ length l
+  pub holds : to + n ≤ length l → l′ ≡ stored l to (take n (rest k m c))
+
+-- the heads of chunks, by their codes
+pub record HeadsOf (k : Kind) (r : Heads) : Type 0 where
+  pub last : lastHeads k ≡ form (r .one) (r .few) 0 Plain ∷ form (r .two) 4 1 Plain ∷ form (r .three) 1 2 Plain ∷ []
+  pub part : partHead k ≡ form (r .part) 1 2 Plain
+  pub bytes : (r .one + r .few ≤ 256) × (r .two + 4 ≤ 256) × (r .three < 256) × (r .part < 256)
+
+-- the shortest form of the string at p
+unfoldable pub laid : Kind → List ℕ → ℕ → List ℕ
+laid k m p = spelled k (suc (length (contentOf (stringAt k m p)))) (contentOf (stringAt k m p))
+
+-- a string of so many units and bytes stands at p, and its content begins at the cursor c
+pub record Item (k : Kind) (m : List ℕ) (p : ℕ) (c : Cursor) (u b : ℕ) : Type 0 where
+  pub done : IsDone (stringAt k m p)
+  pub going : Going k m c
+  pub content-is : rest k m c ≡ contentOf (stringAt k m p)
+  pub units-are : u ≡ units k (contentOf (stringAt k m p))
+  pub bytes-are : b ≡ length (contentOf (stringAt k m p))
+
+abbrev pub FoundSays : Kind → List ℕ → ℕ → Found → Type 0
+FoundSays k m p (There c u b) = Item k m p c u b
+FoundSays k m p Nothing = IsDone (stringAt k m p) → ⊥
+
+pub record FoundMet (k : Kind) (m : List ℕ) (p : ℕ) (r : Found) : Type 0 where
+  pub says : FoundSays k m p r
+
+-- its shortest form is in the list, where it fits; r is how long it is
+pub record Lays (k : Kind) (m : List ℕ) (p : ℕ) (l : List ℕ) (to : ℕ) (l′ : List ℕ) (r : ℕ) : Type 0 where
+  pub long : r ≡ length (laid k m p)
+  pub holds : to + r ≤ length l → l′ ≡ stored l to (laid k m p)

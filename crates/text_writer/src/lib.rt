@@ -1,0 +1,524 @@
+// The shortest form of a text or byte string, from a place in a source: its length, and the form stored in a lent slice.
+use scalar::Written;
+use texts::ChunkRead;
+use scalar::Kind;
+use texts::StringRead;
+ghost use mathlib.Core.Path.{_≡_};
+ghost use mathlib.Core.List.{[], _∷_};
+ghost use Prim.Native.Nat.{_+_, _^_, _≤_, _<_, min};
+ghost use lib.ListN.{length, take, drop};
+ghost use Rattle.flow.specs.Flow.{stored};
+ghost use Rattle.scalar.specs.Scalars.{weight as weightOf, partHead, lastHeads, shortestHead};
+ghost use Rattle.scalar.specs.Answers.{report, reportOf, outputOf, lengthOf};
+ghost use Rattle.texts.specs.Answers.{Joining};
+ghost use Rattle.scalar.specs.Answers.{itemForm, sizedForm};
+ghost use Rattle.text_writer.specs.Writing.{Opens, Going, rest as restOf, Spans, Copies, HeadsOf, laid as laidOf, Item, FoundMet, Lays};
+
+// Where the content of a text or byte string goes on: the place of its next byte, the bytes left in that chunk, and whether the
+// chunk is the last.
+pub struct Cursor {
+    pub here: usize,
+    pub left: usize,
+    pub last: bool,
+}
+
+// The codes of heads: of a last chunk's, of one byte, up to `few` units, of two and of three bytes; and of another chunk's.
+pub struct Heads {
+    pub one: u64,
+    pub few: usize,
+    pub two: u64,
+    pub three: u64,
+    pub part: u64,
+}
+
+// How far a chunk of the shortest form goes: its bytes and its units.
+pub struct Span {
+    pub bytes: usize,
+    pub units: usize,
+}
+
+// A text or byte string at a place: where its content begins, its units and its bytes; or there is none.
+pub enum Found {
+    There {
+        first: Cursor,
+        units: usize,
+        bytes: usize,
+    },
+    Nothing,
+}
+
+// The units that a byte of a content adds to its length.
+fn weight(kind: Kind, b: u8) -> usize
+    ensures { λ r. ⌜ r ≡ weightOf kind b ⌝ }
+{
+    match kind {
+        Kind::Binary => 1,
+        Kind::Utf8 => match b {
+            0x80..=0xbf => 0,
+            0xf0..=0xff => 2,
+            _ => 1,
+        },
+    }
+}
+
+// The content of the chunk at `at`.
+fn open(kind: Kind, source: &[u8], at: usize) -> Cursor
+    requires { ⌜ at ≤ length (now source) ⌝ }
+    ensures { λ r. ⌜ Opens kind (now (source .entry)) at r ⌝ }
+{
+    match texts::chunk(kind, source, at) {
+        ChunkRead::Refused {
+            number: _,
+            place: _,
+        } => Cursor {
+            here: at,
+            left: 0,
+            last: true,
+        },
+        ChunkRead::Chunk {
+            head: h,
+            size,
+            units: _,
+            last,
+        } => Cursor {
+            here: at + h,
+            left: size,
+            last,
+        },
+    }
+}
+
+// How many bytes from the cursor on fit `cap` units, and how many units they are.
+fn span_of(kind: Kind, source: &[u8], from: Cursor, cap: usize) -> Span
+    requires { ⌜ Going kind (now source) from ⌝ }
+    ensures { λ r. ⌜ Spans kind (restOf kind (now (source .entry)) from) cap r ⌝ }
+{
+    let mut c = from;
+    let mut bytes: usize = 0;
+    let mut units: usize = 0;
+    loop {
+        let here = c.here;
+        let left = c.left;
+        let last = c.last;
+        if left == 0 {
+            if last {
+                return Span { bytes, units };
+            }
+            c = open(kind, source, here);
+        } else {
+            let w = weight(kind, source[here]);
+            if cap - units < w {
+                return Span { bytes, units };
+            }
+            bytes += 1;
+            units += w;
+            c = Cursor {
+                here: here + 1,
+                left: left - 1,
+                last,
+            };
+        }
+    }
+}
+
+// `count` bytes of the source from `from` on, in `out` from `to` on, where all of them fit.
+fn copy_bytes(source: &[u8], from: usize, count: usize, out: &mut [u8], to: usize)
+    requires { ⌜ from + count ≤ length (now source) ⌝ }
+    ensures { λ r. ⌜ now (out .exit) ≡ stored (now (out .entry)) to (take count (drop from (now (source .entry)))) ⌝ }
+{
+    let len = out.len();
+    if len < to {
+        return;
+    }
+    if len - to < count {
+        return;
+    }
+    let mut i: usize = 0;
+    while i < count {
+        out[to + i] = source[from + i];
+        i += 1;
+    }
+}
+
+// The block of the source from `from` on.
+fn block_at(source: &[u8], from: usize) -> [u8; 4096]
+    requires { ⌜ from + 4096 ≤ length (now source) ⌝ }
+    ensures { λ r. ⌜ (length r ≡ 4096) × (r ≡ take (length r) (drop from (now (source .entry)))) ⌝ }
+{
+    let mut block: [u8; 4096] = [0; 4096];
+    let mut i: usize = 0;
+    while i < 4096 {
+        block[i] = source[from + i];
+        i += 1;
+    }
+    block
+}
+
+// The block, in `out` from `to` on.
+fn put_block(block: [u8; 4096], out: &mut [u8], to: usize)
+    requires { ⌜ (length block ≡ 4096) × (to + 4096 ≤ length (now out)) ⌝ }
+    ensures { λ r. ⌜ now (out .exit) ≡ stored (now (out .entry)) to block ⌝ }
+{
+    let mut i: usize = 0;
+    while i < 4096 {
+        out[to + i] = block[i];
+        i += 1;
+    }
+}
+
+// The whole blocks of `count` bytes of the source from `from` on, in `out` from `to` on. How many bytes they are. A block goes
+// through an array of its own, which overlaps nothing, so that the compiler makes one move of it.
+fn copy_blocks(source: &[u8], from: usize, count: usize, out: &mut [u8], to: usize) -> usize
+    requires { ⌜ (from + count ≤ length (now source)) × (to + count ≤ length (now out)) ⌝ }
+    ensures { λ r. ⌜ (r ≤ count) × (now (out .exit) ≡ stored (now (out .entry)) to (take r (drop from (now (source .entry))))) ⌝ }
+{
+    let mut i: usize = 0;
+    while 4096 <= count - i {
+        let block = block_at(source, from + i);
+        put_block(block, out, to + i);
+        i += 4096;
+    }
+    i
+}
+
+// The same as copy_bytes, by blocks where there are many bytes.
+fn copy_run(source: &[u8], from: usize, count: usize, out: &mut [u8], to: usize)
+    requires { ⌜ from + count ≤ length (now source) ⌝ }
+    ensures { λ r. ⌜ now (out .exit) ≡ stored (now (out .entry)) to (take count (drop from (now (source .entry)))) ⌝ }
+{
+    let len = out.len();
+    if len < to {
+        return;
+    }
+    if len - to < count {
+        return;
+    }
+    let n = copy_blocks(source, from, count, out, to);
+    copy_bytes(source, from + n, count - n, out, to + n);
+}
+
+// The smaller of two numbers.
+fn least(a: usize, b: usize) -> usize
+    ensures { λ r. ⌜ r ≡ min a b ⌝ }
+{
+    if a < b { a } else { b }
+}
+
+// `count` bytes of the content from the cursor on, in `out` from `to` on, where they fit. The cursor after them.
+fn copy(kind: Kind, source: &[u8], from: Cursor, count: usize, out: &mut [u8], to: usize) -> Cursor
+    requires { ⌜ Going kind (now source) from × (count ≤ length (restOf kind (now source) from)) × (to + count < 2 ^ 64) ⌝ }
+    ensures { λ r. ⌜ Copies kind (now (source .entry)) from count (now (out .entry)) to (now (out .exit)) r ⌝ }
+{
+    let mut c = from;
+    let mut n = count;
+    let mut place = to;
+    while 0 < n {
+        let here = c.here;
+        let left = c.left;
+        let last = c.last;
+        if left == 0 {
+            c = open(kind, source, here);
+        } else {
+            let run = least(left, n);
+            copy_run(source, here, run, out, place);
+            place += run;
+            n -= run;
+            c = Cursor {
+                here: here + run,
+                left: left - run,
+                last,
+            };
+        }
+    }
+    c
+}
+
+// The heads of this kind of chunks.
+fn heads_of(kind: Kind) -> Heads
+    ensures { λ r. ⌜ HeadsOf kind r ⌝ }
+{
+    match kind {
+        Kind::Utf8 => Heads {
+            one: 0x00,
+            few: 32,
+            two: 0x30,
+            three: 0x53,
+            part: 0x52,
+        },
+        Kind::Binary => Heads {
+            one: 0x20,
+            few: 16,
+            two: 0x34,
+            three: 0x42,
+            part: 0x41,
+        },
+    }
+}
+
+// The head of a last chunk of so many units, in `out` at `to`, where it fits. How many bytes it takes.
+fn put_last_head(kind: Kind, units: usize, out: &mut [u8], to: usize) -> usize
+    requires { ⌜ units < 65536 ⌝ }
+    ensures { λ r. ⌜ (r ≡ length (shortestHead (lastHeads kind) units)) × (now (out .exit) ≡ stored (now (out .entry)) to (shortestHead (lastHeads kind) units)) ⌝ }
+{
+    let h = heads_of(kind);
+    let u = units as u64;
+    if units < h.few {
+        wire::store_number(out, to, 1, h.one + u);
+        return 1;
+    }
+    if units < 1024 {
+        wire::store_number(out, to, 2, h.two * 0x100 + u);
+        return 2;
+    }
+    wire::store_number(out, to, 3, h.three * 0x1_0000 + u);
+    3
+}
+
+// The head of a chunk that is not the last: three bytes.
+fn put_part_head(kind: Kind, units: usize, out: &mut [u8], to: usize)
+    requires { ⌜ units < 65536 ⌝ }
+    ensures { λ r. ⌜ (3 ≡ length (shortestHead (partHead kind ∷ []) units)) × (now (out .exit) ≡ stored (now (out .entry)) to (shortestHead (partHead kind ∷ []) units)) ⌝ }
+{
+    let h = heads_of(kind);
+    wire::store_number(out, to, 3, h.part * 0x1_0000 + (units as u64));
+}
+
+// How many bytes the head of a last chunk of so many units takes.
+fn last_head_size(kind: Kind, units: usize) -> usize
+    requires { ⌜ units < 65536 ⌝ }
+    ensures { λ r. ⌜ r ≡ length (shortestHead (lastHeads kind) units) ⌝ }
+{
+    let h = heads_of(kind);
+    if units < h.few {
+        return 1;
+    }
+    if units < 1024 {
+        return 2;
+    }
+    3
+}
+
+// The shortest form of the string at `at`, of so many units and bytes, in `out` from `to` on, where it fits. How many bytes it takes.
+fn lay(
+    kind: Kind,
+    source: &[u8],
+    at: usize,
+    first: Cursor,
+    units: usize,
+    bytes: usize,
+    out: &mut [u8],
+    to: usize,
+) -> usize
+    requires { ⌜ Item kind (now source) at first units bytes × (to + length (laidOf kind (now source) at) < 2 ^ 64) ⌝ }
+    ensures { λ r. ⌜ Lays kind (now (source .entry)) at (now (out .entry)) to (now (out .exit)) r ⌝ }
+{
+    let mut c = first;
+    let mut rest = units;
+    let mut content = bytes;
+    let mut place = to;
+    while 65535 < rest {
+        let s = span_of(kind, source, c, 65535);
+        let n = s.bytes;
+        let u = s.units;
+        put_part_head(kind, u, out, place);
+        let start = place + 3;
+        c = copy(kind, source, c, n, out, start);
+        place = start + n;
+        content -= n;
+        rest -= u;
+    }
+    let h = put_last_head(kind, rest, out, place);
+    let start = place + h;
+    copy(kind, source, c, content, out, start);
+    start + content - to
+}
+
+// The string at `at`, whose content begins at the cursor: the chunks up to `from` are read, of u units and b bytes, and more follow.
+fn find_more(
+    kind: Kind,
+    source: &[u8],
+    at: usize,
+    first: Cursor,
+    from: usize,
+    u: usize,
+    b: usize,
+) -> Found
+    requires { ⌜ Opens kind (now source) at first × Joining kind (now source) at from u b ⌝ }
+    ensures { λ r. ⌜ FoundMet kind (now (source .entry)) at r ⌝ }
+{
+    match texts::read_string(kind, source, from) {
+        StringRead::Refused {
+            number: _,
+            place: _,
+        } => Found::Nothing,
+        StringRead::Content {
+            units,
+            bytes,
+            size: _,
+        } => Found::There {
+            first,
+            units: u + units,
+            bytes: b + bytes,
+        },
+    }
+}
+
+// The string at `at`: where its content begins, and its sizes.
+fn find(kind: Kind, source: &[u8], at: usize) -> Found
+    ensures { λ r. ⌜ FoundMet kind (now (source .entry)) at r ⌝ }
+{
+    if source.len() <= at {
+        return Found::Nothing;
+    }
+    match texts::first_chunk(kind, source, at) {
+        ChunkRead::Refused {
+            number: _,
+            place: _,
+        } => Found::Nothing,
+        ChunkRead::Chunk {
+            head: h,
+            size,
+            units,
+            last,
+        } => {
+            let first = Cursor {
+                here: at + h,
+                left: size,
+                last,
+            };
+            if last {
+                return Found::There {
+                    first,
+                    units,
+                    bytes: size,
+                };
+            }
+            find_more(kind, source, at, first, at + (h + size), units, size)
+        }
+    }
+}
+
+// The same as lay, straight where the form has one chunk.
+fn store(
+    kind: Kind,
+    source: &[u8],
+    at: usize,
+    first: Cursor,
+    units: usize,
+    bytes: usize,
+    out: &mut [u8],
+    to: usize,
+) -> usize
+    requires { ⌜ Item kind (now source) at first units bytes × (to + length (laidOf kind (now source) at) < 2 ^ 64) ⌝ }
+    ensures { λ r. ⌜ Lays kind (now (source .entry)) at (now (out .entry)) to (now (out .exit)) r ⌝ }
+{
+    if 65535 < units {
+        return lay(kind, source, at, first, units, bytes, out, to);
+    }
+    let h = put_last_head(kind, units, out, to);
+    copy(kind, source, first, bytes, out, to + h);
+    h + bytes
+}
+
+// How many bytes the shortest form of the string at `at` takes. It is laid only where it has more than one chunk.
+fn form_size(
+    kind: Kind,
+    source: &[u8],
+    at: usize,
+    first: Cursor,
+    units: usize,
+    bytes: usize,
+) -> usize
+    requires { ⌜ Item kind (now source) at first units bytes × (length (laidOf kind (now source) at) < 2 ^ 64) ⌝ }
+    ensures { λ r. ⌜ r ≡ length (laidOf kind (now (source .entry)) at) ⌝ }
+{
+    if units <= 65535 {
+        return last_head_size(kind, units) + bytes;
+    }
+    let mut none: [u8; 0] = [];
+    lay(kind, source, at, first, units, bytes, &mut none, 0)
+}
+
+// The shortest form of the string found at `at`, in `out` from `to` on: stored whole or not at all.
+fn write_found(
+    kind: Kind,
+    source: &[u8],
+    at: usize,
+    first: Cursor,
+    units: usize,
+    bytes: usize,
+    out: &mut [u8],
+    to: usize,
+) -> Written
+    requires { ⌜ Item kind (now source) at first units bytes ⌝ }
+    ensures { λ r. ⌜ (report r ≡ reportOf (itemForm kind (now (source .entry)) at) (length (now (out .entry))) to) × (now (out .exit) ≡ outputOf (itemForm kind (now (source .entry)) at) (now (out .entry)) to) ⌝ }
+{
+    let needed = form_size(kind, source, at, first, units, bytes);
+    let len = out.len();
+    if len < to {
+        return Written::NoRoom { needed };
+    }
+    if len - to < needed {
+        return Written::NoRoom { needed };
+    }
+    store(kind, source, at, first, units, bytes, out, to);
+    Written::Stored { size: needed }
+}
+
+// How many bytes the shortest form of the string at `at` takes; 0 where none stands there.
+pub fn string_length(kind: Kind, source: &[u8], at: usize) -> usize
+    ensures { λ r. ⌜ r ≡ lengthOf (itemForm kind (now (source .entry)) at) ⌝ }
+{
+    match find(kind, source, at) {
+        Found::Nothing => 0,
+        Found::There {
+            first,
+            units,
+            bytes,
+        } => form_size(kind, source, at, first, units, bytes),
+    }
+}
+
+// The shortest form of the string at the place `at` of the source, in `out` from `to` on: stored whole or not at all.
+pub fn write_string(kind: Kind, source: &[u8], at: usize, out: &mut [u8], to: usize) -> Written
+    ensures { λ r. ⌜ (report r ≡ reportOf (itemForm kind (now (source .entry)) at) (length (now (out .entry))) to) × (now (out .exit) ≡ outputOf (itemForm kind (now (source .entry)) at) (now (out .entry)) to) ⌝ }
+{
+    match find(kind, source, at) {
+        Found::Nothing => Written::NotSuch,
+        Found::There {
+            first,
+            units,
+            bytes,
+        } => write_found(kind, source, at, first, units, bytes, out, to),
+    }
+}
+
+// The same, if the string has so many units and bytes.
+pub fn write_sized(
+    kind: Kind,
+    source: &[u8],
+    at: usize,
+    units: usize,
+    bytes: usize,
+    out: &mut [u8],
+    to: usize,
+) -> Written
+    ensures { λ r. ⌜ (report r ≡ reportOf (sizedForm kind (now (source .entry)) at units bytes) (length (now (out .entry))) to) × (now (out .exit) ≡ outputOf (sizedForm kind (now (source .entry)) at units bytes) (now (out .entry)) to) ⌝ }
+{
+    match find(kind, source, at) {
+        Found::Nothing => Written::NotSuch,
+        Found::There {
+            first,
+            units: u,
+            bytes: b,
+        } => {
+            if u != units {
+                return Written::NotSuch;
+            }
+            if b != bytes {
+                return Written::NotSuch;
+            }
+            write_found(kind, source, at, first, u, b, out, to)
+        }
+    }
+}

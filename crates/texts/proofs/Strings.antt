@@ -1,0 +1,282 @@
+-- What the contracts on texts and byte strings ask at each way out of the code.
+use mathlib.Core.Path.{_≡_, refl, sym, _∙_, ap, subst}
+use mathlib.Core.Bool.{Bool, true, false}
+use mathlib.Core.List.{List, [], _∷_, _++_, map, append-assoc}
+use Prim.Native.Nat.{ℕ, zero, suc, _+_, _-_, _%_, _^_, _≤_, _<_}
+use native.Mathlib.Nat.{mod-eq-of-lt}
+use native.Mathlib.Omega.{arith}
+use lib.Dec.{T}
+use lib.ListN.{length, take, drop, getD, length-append, length-take, length-drop}
+use lib.Seq.{length-take-le}
+use mir.Syntax.{w8, w64}
+use mir.Val.{Fits}
+use Rattle.flow.specs.Flow.{pick, Done, Fault}
+use Rattle.flow.specs.Steps.{Answer}
+use Rattle.flow.specs.Tests.{bytes-take, bytes-drop, bytes-all}
+use Rattle.wire.specs.BigEndian.{joined, wider}
+use Rattle.wire.specs.Laws.{joined-below}
+use Rattle.scalar.specs.declared.Begun.{Begun}
+use Rattle.scalar.specs.declared.Begun.the-variants as begun
+use Rattle.scalar.specs.declared.Kind.{Kind}
+use Rattle.scalar.specs.declared.Kind.the-variants.{Utf8, Binary}
+use Rattle.scalar.specs.declared.CharLead.{CharLead}
+use Rattle.scalar.specs.declared.CharLead.the-variants.{Basic, Supplementary, NoChar}
+use Rattle.texts.specs.declared.Extent.{Extent}
+use Rattle.texts.specs.declared.Extent.the-variants as extent
+use Rattle.texts.specs.declared.CharRead.{CharRead}
+use Rattle.texts.specs.declared.CharRead.the-variants as char
+use Rattle.texts.specs.declared.HeadForm.{HeadForm}
+use Rattle.texts.specs.declared.HeadForm.the-variants.{Starts, NoHead}
+use Rattle.texts.specs.declared.HeadRead.{HeadRead}
+use Rattle.texts.specs.declared.HeadRead.the-variants as head
+use Rattle.texts.specs.declared.ChunkRead.{ChunkRead}
+use Rattle.texts.specs.declared.ChunkRead.the-variants as chunk
+use Rattle.scalar.specs.Scalars.{Form, formAt, inside, partHead, lastHeads, charLead, units, continued, characters, body, stringAt}
+use Rattle.scalar.specs.TextUnits.{units-append}
+use Rattle.scalar.specs.Answers.{sized, measuredAt}
+use Rattle.texts.specs.Answers.{extentAt, toldExtent, shifted, CharSays, CharMet, lastForm, headForm, prefixed, chunked, HeadSays, HeadMet, ChunkSays, ChunkMet, Joining}
+use Rattle.texts.specs.At.{Opens, basic, supplementary, opens-units, continued-size, characters-ends, characters-other, characters-half, characters-fault, characters-next, octets-done, octets-fault, body-there, body-fault, head-small, string-ends, string-none, string-cut, string-there, measured-as}
+use Rattle.texts.proofs.Rows.{Row, row, chosen, nth, apart, Outside, chosen-at, chosen-none}
+
+-- ---- a loop over what is read: what is left reads as the whole does, but for the bytes so far
+pub record Along (whole rest : Answer ℕ) (m : List ℕ) (at here : ℕ) : Type 0 where
+  pub says : shifted (here - at) rest ≡ whole
+  pub onward : at ≤ here
+  pub inside : here ≤ length m
+
+shifted-none : (r : Answer ℕ) → shifted 0 r ≡ r
+shifted-none (Done n a es c) = let e : 0 + n ≡ n = omega arith in let d : 0 + a ≡ a = omega arith in rw (e, d) refl
+shifted-none (Fault x o) = refl
+
+shifted-twice : (i j : ℕ) (r : Answer ℕ) → shifted i (shifted j r) ≡ shifted (i + j) r
+shifted-twice i j (Done n a es c) = let e : i + (j + n) ≡ i + j + n = omega arith in let d : i + (j + a) ≡ i + j + a = omega arith in rw (e, d) refl
+shifted-twice i j (Fault x o) = refl
+
+pub along-start : (whole : Answer ℕ) (m : List ℕ) (at : ℕ) → at ≤ length m → Along whole whole m at at
+along-start whole m at l = let e : at - at ≡ 0 = omega arith in record { says = rw e (shifted-none whole); onward = omega arith; inside = l }
+
+module _ {whole rest : Answer ℕ} {m : List ℕ} {at here : ℕ} (R : Along whole rest m at here) where
+  pub along-end : rest ≡ Done 0 0 [] tt → Done (here - at) (here - at) [] tt ≡ whole
+  along-end e = let d : here - at + 0 ≡ here - at = omega arith in rw (e, d) at (R .says)
+
+  pub along-fault : (x o : ℕ) → rest ≡ Fault x o → Fault x o ≡ whole
+  along-fault x o e = rw e at (R .says)
+
+  pub along-more : (j : ℕ) (left : Answer ℕ) → rest ≡ shifted j left → here + j ≤ length m → Along whole left m at (here + j)
+  along-more j left e l =
+      let d : here + j - at ≡ here - at + j = omega (arith, R .onward) in
+      record { says = rw d (sym (shifted-twice (here - at) j left) ∙ ap (shifted (here - at)) (sym e) ∙ R .says); onward = omega (arith, R .onward); inside = l }
+
+-- ---- a character's first byte: the table of specs/Scalars.antt
+abbrev leadRows : List (Row CharLead)
+leadRows =
+    row 0x00 0x80 (λ b. Basic 0 0 0)
+    ∷ row 0xc2 0xe0 (λ b. Basic 1 0x80 0xc0)
+    ∷ row 0xe0 0xe1 (λ b. Basic 2 0xa0 0xc0)
+    ∷ row 0xe1 0xed (λ b. Basic 2 0x80 0xc0)
+    ∷ row 0xed 0xee (λ b. Basic 2 0x80 0xa0)
+    ∷ row 0xee 0xf0 (λ b. Basic 2 0x80 0xc0)
+    ∷ row 0xf0 0xf1 (λ b. Supplementary 0x90 0xc0)
+    ∷ row 0xf1 0xf4 (λ b. Supplementary 0x80 0xc0)
+    ∷ row 0xf4 0xf5 (λ b. Supplementary 0x80 0x90)
+    ∷ []
+
+pub leads-at : (i : ℕ) → T (apart NoChar leadRows i) → {b : ℕ} {x : CharLead} → nth NoChar leadRows i .from ≤ b → b < nth NoChar leadRows i .below
+    → x ≡ nth NoChar leadRows i .says b → x ≡ charLead b
+unfolding charLead
+leads-at i t h k s = s ∙ chosen-at NoChar leadRows i t h k
+
+pub leads-none : (b : ℕ) → Outside NoChar leadRows b → NoChar ≡ charLead b
+unfolding charLead
+leads-none b h = chosen-none NoChar leadRows b h
+
+-- ---- a character
+-- the bytes after the first lie in the message
+module _ (o k lo hi : ℕ) (m : List ℕ) (p : ℕ) (l : p < length m) (x : Extent) (t : toldExtent x ≡ extentAt (continued o k lo hi) m (p + 1)) (j : ℕ) (e : x ≡ extent.Takes j) where
+  char-room : p + (j + 1) ≤ length m
+  char-room = let w = continued-size o k lo hi m (p + 1) j (omega arith) (ap toldExtent (sym e) ∙ t) in omega (arith, w .0)
+
+  pub char-fits : Fits w64 (length m) → Fits w64 (j + 1)
+  char-fits f = let r = char-room in omega arith
+
+module _ {b : ℕ} (x : CharLead) (is : x ≡ charLead b) where
+  pub opens-one : (k lo hi : ℕ) → x ≡ Basic k lo hi → Opens b k lo hi 1
+  opens-one k lo hi e = basic (sym is ∙ e)
+
+  pub opens-two : (lo hi : ℕ) → x ≡ Supplementary lo hi → Opens b 3 lo hi 2
+  opens-two lo hi e = supplementary (sym is ∙ e)
+
+module _ (n : ℕ) (m : List ℕ) (p : ℕ) (z : 0 < n) where
+  pub char-ends : length m ≤ p → p ≤ length m → CharMet n m p (char.Refused 2 (length m))
+  char-ends l r = record { says = characters-ends n m p z l r }
+
+  module _ (l : p < length m) where
+    module _ (x : CharLead) (is : x ≡ charLead (getD m p 0)) where
+      pub char-other : x ≡ NoChar → CharMet n m p (char.Refused 4 p)
+      char-other e = record { says = characters-other n m p z l (sym is ∙ e) }
+
+      pub char-half : (lo hi : ℕ) → x ≡ Supplementary lo hi → n ≡ 1 → CharMet n m p (char.Refused 4 p)
+      char-half lo hi e u = record { says = characters-half n m p z l lo hi (sym is ∙ e) u }
+
+    -- x: what is read of the bytes after the first
+    module _ (k lo hi u : ℕ) (o : Opens (getD m p 0) k lo hi u) (h : u ≤ n) (x : Extent) (t : toldExtent x ≡ extentAt (continued p k lo hi) m (p + 1)) where
+      pub char-fault : (y q : ℕ) → x ≡ extent.Refused y q → CharMet n m p (char.Refused y q)
+      char-fault y q e = record { says = characters-fault n m p z l k lo hi u o h y q (ap toldExtent (sym e) ∙ t) }
+
+      pub char-next : (j : ℕ) → x ≡ extent.Takes j → CharMet n m p (char.Char (j + 1) u)
+      char-next j e =
+          let d = ap toldExtent (sym e) ∙ t in
+          let w = continued-size p k lo hi m (p + 1) j (omega arith) d in
+          let v = opens-units o in
+          record { says = (characters-next n m p z l k lo hi u o h j d, omega arith, char-room p k lo hi m p l x t j e, omega (arith, v .0), h, omega (arith, v .1, w .1)) }
+
+-- what is said of a character, by what it is
+pub char-says : {n : ℕ} {m : List ℕ} {p : ℕ} {x y : CharRead} → CharMet n m p x → x ≡ y → CharSays n m p y
+char-says {n} {m} {p} t e = subst (CharSays n m p) e (t .says)
+
+-- ---- a chunk's first byte: the head of a chunk that is not the last, and those of the last
+abbrev headRow : Form → (ℕ → HeadForm) → Row HeadForm
+headRow w f = row (w .head) (w .head + w .codes) f
+
+abbrev lastRow : Form → Row HeadForm
+lastRow w = headRow w (λ b. Starts (w .extra) (b - w .head) true)
+
+abbrev pub headRows : Kind → List (Row HeadForm)
+headRows k = headRow (partHead k) (λ b. Starts 2 0 false) ∷ map lastRow (lastHeads k)
+
+head-rows : (k : Kind) (b : ℕ) → headForm k b ≡ chosen NoHead (headRows k) b
+unfolding headForm formAt pick
+head-rows k b = ap (pick (inside (partHead k) b) (Starts 2 0 false)) (go (lastHeads k))
+  where
+    each : (t : Bool) (x y : Begun) → lastForm (pick t x y) ≡ pick t (lastForm x) (lastForm y)
+    each true x y = refl
+    each false x y = refl
+
+    go : (ws : List Form) → lastForm (formAt ws b) ≡ chosen NoHead (map lastRow ws) b
+    go [] = refl
+    go (w ∷ ws) = each (inside w b) (begun.Starts (w .extra) (b - w .head) (w .rule)) (formAt ws b) ∙ ap (pick (inside w b) (Starts (w .extra) (b - w .head) true)) (go ws)
+
+pub head-at : (k : Kind) (i : ℕ) → T (apart NoHead (headRows k) i) → {b : ℕ} {x : HeadForm} → nth NoHead (headRows k) i .from ≤ b → b < nth NoHead (headRows k) i .below
+    → x ≡ nth NoHead (headRows k) i .says b → x ≡ headForm k b
+head-at k i t {b} h l s = s ∙ chosen-at NoHead (headRows k) i t h l ∙ sym (head-rows k b)
+
+pub head-none : (k : Kind) (b : ℕ) → Outside NoHead (headRows k) b → NoHead ≡ headForm k b
+head-none k b h = chosen-none NoHead (headRows k) b h ∙ sym (head-rows k b)
+
+pub starts : {j u v : ℕ} {l : Bool} → u ≡ v → Starts j u l ≡ Starts j v l
+starts {j} {l = l} e = ap (λ (n : ℕ). Starts j n l) e
+
+-- ---- a chunk's content
+module _ (k : Kind) (n : ℕ) (m : List ℕ) (p : ℕ) where
+  pub content-text : (x : Extent) → k ≡ Utf8 → toldExtent x ≡ extentAt (characters n) m p → toldExtent x ≡ extentAt (body k n) m p
+  content-text x e t = rw e t
+
+  pub content-there : k ≡ Binary → p ≤ length m → n ≤ length m - p → Done n n [] tt ≡ extentAt (body k n) m p
+  content-there e l h = rw e (sym (octets-done n m p l h))
+
+  pub content-cut : k ≡ Binary → p ≤ length m → length m - p < n → Fault 2 (length m) ≡ extentAt (body k n) m p
+  content-cut e l h = rw e (sym (octets-fault n m p l h))
+
+-- ---- a chunk's head
+module _ (k : Kind) (m : List ℕ) (p : ℕ) where
+  pub head-ends : length m ≤ p → HeadMet k m p (head.Refused 2 (length m))
+  head-ends l = record { says = string-ends k m p l }
+
+  module _ (l : p < length m) (x : HeadForm) (is : x ≡ headForm k (getD m p 0)) where
+    pub head-other : x ≡ NoHead → HeadMet k m p (head.Refused 3 p)
+    head-other e = record { says = string-none k m p l (sym is ∙ e) }
+
+    module _ (j u : ℕ) (a : Bool) (e : x ≡ Starts j u a) where
+      pub head-cut : length m - p ≤ j → HeadMet k m p (head.Refused 2 (length m))
+      head-cut h = record { says = string-cut k m p l j u a (sym is ∙ e) h }
+
+      -- n: the number that the head holds, in 64 bits
+      module _ (bytes : (i : ℕ) → Fits w8 (getD m i 0)) (h : j < length m - p) (n : ℕ) (at : n ≡ joined u (take j (drop (p + 1) m)) % 2 ^ 64) where
+        fits : joined u (take j (drop (p + 1) m)) < 2 ^ 64
+        fits = go j (s .0) (joined-below (take j (drop (p + 1) m)) j u 256 (simp (length-take, length-drop) (omega arith)) (bytes-take j (drop (p + 1) m) (bytes-drop (p + 1) m (bytes-all m (λ i. bytes i .fits)))) (omega (arith, s .1, bytes p .fits)))
+          where
+            s : (j ≤ 2) × (u ≤ getD m p 0)
+            s = head-small k (getD m p 0) j u a (sym is ∙ e)
+
+            go : {v : ℕ} (j : ℕ) → j ≤ 2 → v < wider j 256 → v < 2 ^ 64
+            go zero l w = omega arith
+            go (suc zero) l w = omega arith
+            go (suc (suc zero)) l w = omega arith
+            go (suc (suc (suc j))) l w = absurd (omega arith)
+
+        pub head-there : HeadMet k m p (head.Head (j + 1) n a)
+        head-there = record { says = (string-there k m p l j u a (sym is ∙ e) h n (at ∙ mod-eq-of-lt fits), omega arith, omega arith) }
+
+pub head-says : {k : Kind} {m : List ℕ} {p : ℕ} {x y : HeadRead} → HeadMet k m p x → x ≡ y → HeadSays k m p y
+head-says {k} {m} {p} t e = subst (HeadSays k m p) e (t .says)
+
+-- ---- a chunk
+module _ (k : Kind) (m : List ℕ) (p : ℕ) (x : HeadRead) (t : HeadMet k m p x) where
+  pub chunk-headless : (y o : ℕ) → x ≡ head.Refused y o → ChunkMet k m p (chunk.Refused y o)
+  chunk-headless y o e = record { says = head-says t e }
+
+  -- r: what is read of the content
+  module _ (h u : ℕ) (a : Bool) (e : x ≡ head.Head h u a) (r : Extent) (s : toldExtent r ≡ extentAt (body k u) m (p + h)) where
+    pub chunk-cut : (y o : ℕ) → r ≡ extent.Refused y o → ChunkMet k m p (chunk.Refused y o)
+    chunk-cut y o d = record { says = head-says t e .0 ∙ ap (chunked k m p h a) (body-fault k u m (p + h) y o (ap toldExtent (sym d) ∙ s)) ∙ go a }
+      where
+        go : (a : Bool) → chunked k m p h a (Fault y o) ≡ Fault y o
+        go true = refl
+        go false = refl
+
+    pub chunk-there : ((i : ℕ) → Fits w8 (getD m i 0)) → (n : ℕ) → r ≡ extent.Takes n → ChunkMet k m p (chunk.Chunk h n u a)
+    chunk-there bytes n d =
+        let w = head-says t e in
+        let z = body-there k u m (p + h) (bytes-all m (λ i. bytes i .fits)) n (w .2) (ap toldExtent (sym d) ∙ s) in
+        record { says = (w .0 ∙ ap (chunked k m p h a) (z .0), w .1, omega (arith, z .1), z .2, z .3) }
+
+pub chunk-says : {k : Kind} {m : List ℕ} {p : ℕ} {x y : ChunkRead} → ChunkMet k m p x → x ≡ y → ChunkSays k m p y
+chunk-says {k} {m} {p} t e = subst (ChunkSays k m p) e (t .says)
+
+-- ---- the loop over the chunks: what is left reads as the whole does, but for the content and the bytes so far
+prefixed-none : (r : Answer (List ℕ)) → prefixed 0 [] r ≡ r
+prefixed-none (Done n cs es c) = let e : 0 + n ≡ n = omega arith in rw e refl
+prefixed-none (Fault x o) = refl
+
+prefixed-twice : (i j : ℕ) (bs cs : List ℕ) (r : Answer (List ℕ)) → prefixed i bs (prefixed j cs r) ≡ prefixed (i + j) (bs ++ cs) r
+prefixed-twice i j bs cs (Done n ds es c) = let e : i + (j + n) ≡ i + j + n = omega arith in rw (e, append-assoc bs cs ds) refl
+prefixed-twice i j bs cs (Fault x o) = refl
+
+pub joining-start : (k : Kind) (m : List ℕ) (at : ℕ) → at < length m → Joining k m at at 0 0
+joining-start k m at l = let e : at - at ≡ 0 = omega arith in
+    record { front = []; says = rw e (prefixed-none (stringAt k m at)); units-are = refl; bytes-are = refl; few = omega arith; onward = omega arith; inside = omega arith }
+
+module _ {k : Kind} {m : List ℕ} {at here total bytes : ℕ} (R : Joining k m at here total bytes) {x : ChunkRead} (t : ChunkMet k m here x) where
+  pub joining-fault : (y o : ℕ) → x ≡ chunk.Refused y o → Fault y o ≡ measuredAt k m at
+  joining-fault y o e = sym (measured-as k m at (rw (chunk-says t e) at (sym (R .says))))
+
+  module _ (h n u : ℕ) (a : Bool) (e : x ≡ chunk.Chunk h n u a) where
+    abbrev joint : List ℕ
+    joint = R .front ++ take n (drop (here + h) m)
+
+    joint-units : units k joint ≡ total + u
+    joint-units = omega (arith, units-append k (R .front) (take n (drop (here + h) m)), R .units-are, chunk-says t e .4)
+
+    joint-length : length joint ≡ bytes + n
+    joint-length =
+        let s = chunk-says t e in
+        omega (arith, length-append (R .front) (take n (drop (here + h) m)), R .bytes-are, length-take-le n (drop (here + h) m) (omega (arith, length-drop (here + h) m, s .2)))
+
+    size : here + (h + n) - at ≡ here - at + (h + n)
+    size = omega (arith, R .onward)
+
+    pub joining-last : a ≡ true → Done (here + (h + n) - at) (sized (total + u) (bytes + n)) [] tt ≡ measuredAt k m at
+    joining-last d = rw (size, ← joint-units, ← joint-length) (sym (measured-as k m at (rw (chunk-says t e .0, d) at (sym (R .says)))))
+
+    pub joining-more : a ≡ false → Joining k m at (here + (h + n)) (total + u) (bytes + n)
+    joining-more d =
+        let s = chunk-says t e in
+        record {
+          front = joint;
+          says = rw size (sym (prefixed-twice (here - at) (h + n) (R .front) (take n (drop (here + h) m)) (stringAt k m (here + (h + n)))) ∙ rw (s .0, d) at (R .says));
+          units-are = joint-units;
+          bytes-are = joint-length;
+          few = omega (arith, R .few, s .3);
+          onward = omega (arith, R .onward);
+          inside = s .2;
+        }

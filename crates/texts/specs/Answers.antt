@@ -1,0 +1,97 @@
+-- What the answers of the code on texts and byte strings say.
+use mathlib.Core.Path.{_≡_}
+use mathlib.Core.Bool.{Bool, true, false}
+use mathlib.Core.List.{List, [], _++_}
+use Prim.Native.Nat.{ℕ, _+_, _-_, _≤_, _<_}
+use lib.ListN.{length, take, drop}
+use Rattle.flow.specs.Flow.{Read, One, Done, Fault, pick}
+use Rattle.flow.specs.Steps.{Answer, renamed}
+use Rattle.scalar.specs.declared.Begun.{Begun}
+use Rattle.scalar.specs.declared.Begun.the-variants as begun
+use Rattle.scalar.specs.declared.Kind.{Kind}
+use Rattle.texts.specs.declared.Extent.{Extent}
+use Rattle.texts.specs.declared.Extent.the-variants as extent
+use Rattle.texts.specs.declared.CharRead.{CharRead}
+use Rattle.texts.specs.declared.CharRead.the-variants as char
+use Rattle.texts.specs.declared.HeadForm.{HeadForm}
+use Rattle.texts.specs.declared.HeadForm.the-variants.{Starts, NoHead}
+use Rattle.texts.specs.declared.HeadRead.{HeadRead}
+use Rattle.texts.specs.declared.HeadRead.the-variants as head
+use Rattle.texts.specs.declared.ChunkRead.{ChunkRead}
+use Rattle.texts.specs.declared.ChunkRead.the-variants as chunk
+use Rattle.texts.specs.declared.StringRead.{StringRead}
+use Rattle.texts.specs.declared.StringRead.the-variants.{Content, Refused}
+use Rattle.scalar.specs.Scalars.{formAt, inside, partHead, lastHeads, units, characters, body, stringAt}
+use Rattle.scalar.specs.Answers.{Sizes, sized}
+
+-- a text or byte string read: its units, its content's bytes and the bytes it takes; or a refusal's number and place
+abbrev pub toldString : StringRead → Answer Sizes
+toldString (Content u b n) = Done n (sized u b) [] tt
+toldString (Refused x o) = Fault x o
+
+-- ---- inside the code
+-- how many bytes f reads at the place p of the message m: its content is those bytes
+abbrev pub extentAt : Read One One (List ℕ) → List ℕ → ℕ → Answer ℕ
+extentAt f m p = renamed length (f tt p (drop p m))
+
+abbrev pub toldExtent : Extent → Answer ℕ
+toldExtent (extent.Takes n) = Done n n [] tt
+toldExtent (extent.Refused x o) = Fault x o
+
+-- n bytes before it
+abbrev pub shifted : ℕ → Answer ℕ → Answer ℕ
+shifted n (Done m a es c) = Done (n + m) (n + a) es c
+shifted n (Fault x o) = Fault x o
+
+-- the first character of n units at p, and what is left
+abbrev pub CharSays : ℕ → List ℕ → ℕ → CharRead → Type 0
+CharSays n m p (char.Char j u) = (extentAt (characters n) m p ≡ shifted j (extentAt (characters (n - u)) m (p + j))) × (0 < j) × (p + j ≤ length m) × (0 < u) × (u ≤ n) × (u ≤ j)
+CharSays n m p (char.Refused x o) = extentAt (characters n) m p ≡ Fault x o
+
+pub record CharMet (n : ℕ) (m : List ℕ) (p : ℕ) (r : CharRead) : Type 0 where
+  pub says : CharSays n m p r
+
+-- a chunk's head, by its first byte: of a chunk that is not the last, or of the last
+abbrev pub lastForm : Begun → HeadForm
+lastForm (begun.Starts k u r) = Starts k u true
+lastForm begun.NoForm = NoHead
+
+unfoldable pub headForm : Kind → ℕ → HeadForm
+headForm k b = pick (inside (partHead k) b) (Starts 2 0 false) (lastForm (formAt (lastHeads k) b))
+
+-- so many bytes before it, of which cs are content
+abbrev pub prefixed : ℕ → List ℕ → Answer (List ℕ) → Answer (List ℕ)
+prefixed n cs (Done m ds es c) = Done (n + m) (cs ++ ds) es c
+prefixed n cs (Fault x o) = Fault x o
+
+-- a chunk at p, by the bytes of its head and what is read of its content: the last, or one before others
+abbrev pub chunked : Kind → List ℕ → ℕ → ℕ → Bool → Answer (List ℕ) → Answer (List ℕ)
+chunked k m p h true (Done n cs es c) = Done (h + n) cs [] tt
+chunked k m p h false (Done n cs es c) = prefixed (h + n) cs (stringAt k m (p + (h + n)))
+chunked k m p h l (Fault x o) = Fault x o
+
+abbrev pub HeadSays : Kind → List ℕ → ℕ → HeadRead → Type 0
+HeadSays k m p (head.Head h u l) = (stringAt k m p ≡ chunked k m p h l (body k u tt (p + h) (drop (p + h) m))) × (0 < h) × (p + h ≤ length m)
+HeadSays k m p (head.Refused x o) = stringAt k m p ≡ Fault x o
+
+pub record HeadMet (k : Kind) (m : List ℕ) (p : ℕ) (r : HeadRead) : Type 0 where
+  pub says : HeadSays k m p r
+
+-- its content is the n bytes after the head
+abbrev pub ChunkSays : Kind → List ℕ → ℕ → ChunkRead → Type 0
+ChunkSays k m p (chunk.Chunk h n u l) =
+    (stringAt k m p ≡ chunked k m p h l (Done n (take n (drop (p + h) m)) [] tt)) × (0 < h) × (p + (h + n) ≤ length m) × (u ≤ n) × (units k (take n (drop (p + h) m)) ≡ u)
+ChunkSays k m p (chunk.Refused x o) = stringAt k m p ≡ Fault x o
+
+pub record ChunkMet (k : Kind) (m : List ℕ) (p : ℕ) (r : ChunkRead) : Type 0 where
+  pub says : ChunkSays k m p r
+
+-- the chunks before `here` are read: what is left reads as the whole does, but for the content and the bytes so far
+pub record Joining (k : Kind) (m : List ℕ) (at here total bytes : ℕ) : Type 0 where
+  pub front : List ℕ
+  pub says : prefixed (here - at) front (stringAt k m here) ≡ stringAt k m at
+  pub units-are : units k front ≡ total
+  pub bytes-are : length front ≡ bytes
+  pub few : total ≤ bytes
+  pub onward : at + bytes ≤ here
+  pub inside : here ≤ length m

@@ -1,0 +1,603 @@
+// Texts and byte strings: reading one at a place. The definitions are in scalar's specs/Scalars.antt.
+use scalar::CharLead;
+use scalar::Kind;
+ghost use mathlib.Core.Path.{_≡_};
+ghost use mathlib.Core.Bool.{true};
+ghost use Prim.Native.Nat.{ℕ, _+_, _-_, _*_, _^_, _≤_, _<_};
+ghost use lib.ListN.{length, getD};
+ghost use Rattle.scalar.specs.declared.Kind.the-variants as Kind;
+ghost use Rattle.scalar.specs.Scalars.{charLead, continued as continuedBy, characters as charactersOf, body as bodyOf};
+ghost use Rattle.texts.specs.Answers.{extentAt, toldExtent, CharMet, headForm, HeadMet, ChunkMet, toldString, Joining};
+ghost use Rattle.scalar.specs.Answers.{measuredAt};
+ghost use Rattle.texts.specs.At.{Opens, Ascii};
+
+// How many bytes something takes; or a refusal's number and place.
+pub enum Extent {
+    Takes { size: usize },
+    Refused { number: u8, place: usize },
+}
+
+// A character: its bytes and its units; or a refusal's number and place.
+pub enum CharRead {
+    Char { size: usize, units: usize },
+    Refused { number: u8, place: usize },
+}
+
+// What the byte begins as a chunk's head: how many bytes follow, what it holds itself, and whether the chunk is the last.
+pub enum HeadForm {
+    Starts { more: usize, held: u64, last: bool },
+    NoHead,
+}
+
+// A chunk's head: how many bytes it takes, the units that it counts, and whether the chunk is the last; or a refusal.
+pub enum HeadRead {
+    Head {
+        size: usize,
+        units: usize,
+        last: bool,
+    },
+    Refused {
+        number: u8,
+        place: usize,
+    },
+}
+
+// A chunk: the bytes of its head and of its content, its units, and whether it is the last; or a refusal.
+pub enum ChunkRead {
+    Chunk {
+        head: usize,
+        size: usize,
+        units: usize,
+        last: bool,
+    },
+    Refused {
+        number: u8,
+        place: usize,
+    },
+}
+
+// What reading a text or byte string finds: its units, its content's bytes, and the bytes that it takes in all; or a refusal.
+pub enum StringRead {
+    Content {
+        units: usize,
+        bytes: usize,
+        size: usize,
+    },
+    Refused {
+        number: u8,
+        place: usize,
+    },
+}
+
+// What the byte says as the first of three.
+fn three_lead(b: u8) -> CharLead
+    requires { ⌜ (0xe0 ≤ b) × (b < 0xf0) ⌝ }
+    ensures { λ r. ⌜ r ≡ charLead b ⌝ }
+{
+    match b {
+        0xe0 => CharLead::Basic {
+            more: 2,
+            from: 0xa0,
+            below: 0xc0,
+        },
+        0xed => CharLead::Basic {
+            more: 2,
+            from: 0x80,
+            below: 0xa0,
+        },
+        _ => CharLead::Basic {
+            more: 2,
+            from: 0x80,
+            below: 0xc0,
+        },
+    }
+}
+
+// What the byte says as the first of four.
+fn four_lead(b: u8) -> CharLead
+    requires { ⌜ (0xf0 ≤ b) × (b < 0xf5) ⌝ }
+    ensures { λ r. ⌜ r ≡ charLead b ⌝ }
+{
+    match b {
+        0xf0 => CharLead::Supplementary {
+            from: 0x90,
+            below: 0xc0,
+        },
+        0xf4 => CharLead::Supplementary {
+            from: 0x80,
+            below: 0x90,
+        },
+        _ => CharLead::Supplementary {
+            from: 0x80,
+            below: 0xc0,
+        },
+    }
+}
+
+// What the byte says as a character's first.
+fn char_lead(b: u8) -> CharLead
+    ensures { λ r. ⌜ r ≡ charLead b ⌝ }
+{
+    match b {
+        0x00..=0x7f => CharLead::Basic {
+            more: 0,
+            from: 0,
+            below: 0,
+        },
+        0xc2..=0xdf => CharLead::Basic {
+            more: 1,
+            from: 0x80,
+            below: 0xc0,
+        },
+        0xe0..=0xef => three_lead(b),
+        0xf0..=0xf4 => four_lead(b),
+        _ => CharLead::NoChar,
+    }
+}
+
+// `more` bytes from `at` on, after the first of the character at `place`.
+fn continued(message: &[u8], place: usize, at: usize, more: usize, from: u8, below: u8) -> Extent
+    requires { ⌜ at ≤ length (now message) ⌝ }
+    ensures { λ r. ⌜ toldExtent r ≡ extentAt (continuedBy place more from below) (now (message .entry)) at ⌝ }
+{
+    let len = message.len();
+    let mut here = at;
+    let mut left = more;
+    let mut lo = from;
+    let mut hi = below;
+    while 0 < left {
+        if len <= here {
+            return Extent::Refused {
+                number: 2,
+                place: len,
+            };
+        }
+        let b = message[here];
+        if b < lo || hi <= b {
+            return Extent::Refused { number: 4, place };
+        }
+        here += 1;
+        left -= 1;
+        lo = 0x80;
+        hi = 0xc0;
+    }
+    Extent::Takes { size: here - at }
+}
+
+// The character at `at`, of so many units, with `more` bytes after its first.
+fn opened(message: &[u8], at: usize, more: usize, from: u8, below: u8, units: usize) -> CharRead
+    requires { ⌜ (at < length (now message)) × Opens (getD (now message) at 0) more from below units ⌝ }
+    ensures { λ r. ⌜ ((left : ℕ) → units ≤ left → CharMet left (now (message .entry)) at r) ⌝ }
+{
+    match continued(message, at, at + 1, more, from, below) {
+        Extent::Refused { number, place } => CharRead::Refused { number, place },
+        Extent::Takes { size } => CharRead::Char {
+            size: size + 1,
+            units,
+        },
+    }
+}
+
+// The character at `at`, where so many units are left.
+fn character(message: &[u8], at: usize, left: usize) -> CharRead
+    requires { ⌜ (at ≤ length (now message)) × (0 < left) ⌝ }
+    ensures { λ r. ⌜ CharMet left (now (message .entry)) at r ⌝ }
+{
+    let len = message.len();
+    if len <= at {
+        return CharRead::Refused {
+            number: 2,
+            place: len,
+        };
+    }
+    match char_lead(message[at]) {
+        CharLead::NoChar => CharRead::Refused {
+            number: 4,
+            place: at,
+        },
+        CharLead::Basic { more, from, below } => opened(message, at, more, from, below, 1),
+        CharLead::Supplementary { from, below } => {
+            if left == 1 {
+                return CharRead::Refused {
+                    number: 4,
+                    place: at,
+                };
+            }
+            opened(message, at, 3, from, below, 2)
+        }
+    }
+}
+
+// Four bytes as one number, the lowest first.
+fn four(a: u8, b: u8, c: u8, d: u8) -> u64
+    ensures { λ r. ⌜ (r < 2 ^ 32) × (r ≡ ((d * 256 + c) * 256 + b) * 256 + a) ⌝ }
+{
+    ((wire::wide(d) * 256 + wire::wide(c)) * 256 + wire::wide(b)) * 256 + wire::wide(a)
+}
+
+// Whether the four bytes from `at` on are ASCII.
+fn four_ascii(message: &[u8], at: usize) -> bool
+    requires { ⌜ at + 4 ≤ length (now message) ⌝ }
+    ensures { λ r. ⌜ (r ≡ true → Ascii (now (message .entry)) at 4) ⌝ }
+{
+    let word = four(
+        message[at],
+        message[at + 1],
+        message[at + 2],
+        message[at + 3],
+    );
+    word & 0x8080_8080 == 0
+}
+
+// Whether the eight bytes from `at` on are ASCII.
+fn eight_ascii(message: &[u8], at: usize) -> bool
+    requires { ⌜ at + 8 ≤ length (now message) ⌝ }
+    ensures { λ r. ⌜ (r ≡ true → Ascii (now (message .entry)) at 8) ⌝ }
+{
+    let low = four(
+        message[at],
+        message[at + 1],
+        message[at + 2],
+        message[at + 3],
+    );
+    let high = four(
+        message[at + 4],
+        message[at + 5],
+        message[at + 6],
+        message[at + 7],
+    );
+    let word = high * 0x1_0000_0000 + low;
+    word & 0x8080_8080_8080_8080 == 0
+}
+
+// How many bytes from `at` on are ASCII, eight by eight, up to `most`.
+fn ascii_eights(message: &[u8], at: usize, most: usize) -> usize
+    requires { ⌜ at + most ≤ length (now message) ⌝ }
+    ensures { λ r. ⌜ (r ≤ most) × Ascii (now (message .entry)) at r ⌝ }
+{
+    let mut n: usize = 0;
+    while 8 <= most - n {
+        if !eight_ascii(message, at + n) {
+            break;
+        }
+        n += 8;
+    }
+    n
+}
+
+// How many bytes from `at` on are ASCII, up to `most`.
+fn ascii_bytes(message: &[u8], at: usize, most: usize) -> usize
+    requires { ⌜ at + most ≤ length (now message) ⌝ }
+    ensures { λ r. ⌜ (r ≤ most) × Ascii (now (message .entry)) at r ⌝ }
+{
+    let mut n = ascii_eights(message, at, most);
+    while n < most {
+        if 0x80 <= message[at + n] {
+            break;
+        }
+        n += 1;
+    }
+    n
+}
+
+// How many characters from `at` on are ASCII, up to so many units: of one byte and one unit each.
+fn ascii(message: &[u8], at: usize, units: usize) -> usize
+    requires { ⌜ at ≤ length (now message) ⌝ }
+    ensures { λ r. ⌜ (r ≤ units) × (at + r ≤ length (now (message .entry))) × Ascii (now (message .entry)) at r ⌝ }
+{
+    let len = message.len();
+    if len <= at {
+        return 0;
+    }
+    if 0x80 <= message[at] {
+        return 0;
+    }
+    let room = len - at;
+    let most = if room < units { room } else { units };
+    ascii_bytes(message, at, most)
+}
+
+// Characters of so many units from `at` on.
+fn characters(message: &[u8], at: usize, units: usize) -> Extent
+    requires { ⌜ at ≤ length (now message) ⌝ }
+    ensures { λ r. ⌜ toldExtent r ≡ extentAt (charactersOf units) (now (message .entry)) at ⌝ }
+{
+    let mut here = at;
+    let mut left = units;
+    while 0 < left {
+        let n = ascii(message, here, left);
+        if 0 < n {
+            here += n;
+            left -= n;
+        } else {
+            match character(message, here, left) {
+                CharRead::Refused { number, place } => {
+                    return Extent::Refused { number, place };
+                }
+                CharRead::Char { size, units: u } => {
+                    here += size;
+                    left -= u;
+                }
+            }
+        }
+    }
+    Extent::Takes { size: here - at }
+}
+
+// The content of a chunk of so many units from `at` on. The bytes of a byte string are not looked at.
+fn body(kind: Kind, message: &[u8], at: usize, units: usize) -> Extent
+    requires { ⌜ at ≤ length (now message) ⌝ }
+    ensures { λ r. ⌜ toldExtent r ≡ extentAt (bodyOf kind units) (now (message .entry)) at ⌝ }
+{
+    match kind {
+        Kind::Utf8 => characters(message, at, units),
+        Kind::Binary => {
+            let len = message.len();
+            if len - at < units {
+                Extent::Refused {
+                    number: 2,
+                    place: len,
+                }
+            } else {
+                Extent::Takes { size: units }
+            }
+        }
+    }
+}
+
+// What the byte begins as the head of a text's chunk.
+fn text_head(b: u8) -> HeadForm
+    ensures { λ r. ⌜ r ≡ headForm Kind.Utf8 b ⌝ }
+{
+    let w = wire::wide(b);
+    match b {
+        0x00..=0x1f => HeadForm::Starts {
+            more: 0,
+            held: w,
+            last: true,
+        },
+        0x30..=0x33 => HeadForm::Starts {
+            more: 1,
+            held: w - 0x30,
+            last: true,
+        },
+        0x53 => HeadForm::Starts {
+            more: 2,
+            held: 0,
+            last: true,
+        },
+        0x52 => HeadForm::Starts {
+            more: 2,
+            held: 0,
+            last: false,
+        },
+        _ => HeadForm::NoHead,
+    }
+}
+
+// What the byte begins as the head of a byte string's chunk.
+fn bytes_head(b: u8) -> HeadForm
+    ensures { λ r. ⌜ r ≡ headForm Kind.Binary b ⌝ }
+{
+    let w = wire::wide(b);
+    match b {
+        0x20..=0x2f => HeadForm::Starts {
+            more: 0,
+            held: w - 0x20,
+            last: true,
+        },
+        0x34..=0x37 => HeadForm::Starts {
+            more: 1,
+            held: w - 0x34,
+            last: true,
+        },
+        0x42 => HeadForm::Starts {
+            more: 2,
+            held: 0,
+            last: true,
+        },
+        0x41 => HeadForm::Starts {
+            more: 2,
+            held: 0,
+            last: false,
+        },
+        _ => HeadForm::NoHead,
+    }
+}
+
+// What the byte begins as the head of a chunk of this kind.
+fn head_form(kind: Kind, b: u8) -> HeadForm
+    ensures { λ r. ⌜ r ≡ headForm kind b ⌝ }
+{
+    match kind {
+        Kind::Utf8 => text_head(b),
+        Kind::Binary => bytes_head(b),
+    }
+}
+
+// The head of the chunk at `at`.
+fn head(kind: Kind, message: &[u8], at: usize) -> HeadRead
+    ensures { λ r. ⌜ HeadMet kind (now (message .entry)) at r ⌝ }
+{
+    let len = message.len();
+    if len <= at {
+        return HeadRead::Refused {
+            number: 2,
+            place: len,
+        };
+    }
+    match head_form(kind, message[at]) {
+        HeadForm::NoHead => HeadRead::Refused {
+            number: 3,
+            place: at,
+        },
+        HeadForm::Starts { more, held, last } => {
+            if len - at <= more {
+                return HeadRead::Refused {
+                    number: 2,
+                    place: len,
+                };
+            }
+            HeadRead::Head {
+                size: more + 1,
+                units: wire::number_at(message, at + 1, more, held) as usize,
+                last,
+            }
+        }
+    }
+}
+
+// Whether the n bytes from `at` on are ASCII. Up to sixteen are told by the first and the last eight or four of them.
+fn short_ascii(message: &[u8], at: usize, n: usize) -> bool
+    requires { ⌜ at + n ≤ length (now message) ⌝ }
+    ensures { λ r. ⌜ (r ≡ true → Ascii (now (message .entry)) at n) ⌝ }
+{
+    if 4 <= n {
+        if n <= 8 {
+            if !four_ascii(message, at) {
+                return false;
+            }
+            return four_ascii(message, at + n - 4);
+        }
+        if n <= 16 {
+            if !eight_ascii(message, at) {
+                return false;
+            }
+            return eight_ascii(message, at + n - 8);
+        }
+    }
+    n <= ascii_bytes(message, at, n)
+}
+
+// The bytes of the short text at `at` where all its characters are ASCII: of the byte that counts them, and theirs. Else 0.
+fn short_text(message: &[u8], at: usize) -> usize
+    ensures { λ r. ⌜ (0 < r → (r ≡ getD (now (message .entry)) at 0 + 1) × (r ≤ 0x20) × (at + r ≤ length (now (message .entry))) × Ascii (now (message .entry)) (at + 1) (r - 1)) ⌝ }
+{
+    let len = message.len();
+    if len <= at {
+        return 0;
+    }
+    let n = wire::wide(message[at]) as usize;
+    if 0x20 <= n {
+        return 0;
+    }
+    if len - at <= n {
+        return 0;
+    }
+    if !short_ascii(message, at + 1, n) {
+        return 0;
+    }
+    n + 1
+}
+
+// The chunk at `at`, by its head and then its content.
+pub fn chunk(kind: Kind, message: &[u8], at: usize) -> ChunkRead
+    ensures { λ r. ⌜ ChunkMet kind (now (message .entry)) at r ⌝ }
+{
+    match head(kind, message, at) {
+        HeadRead::Refused { number, place } => ChunkRead::Refused { number, place },
+        HeadRead::Head {
+            size: h,
+            units,
+            last,
+        } => {
+            match body(kind, message, at + h, units) {
+                Extent::Refused { number, place } => ChunkRead::Refused { number, place },
+                Extent::Takes { size } => ChunkRead::Chunk {
+                    head: h,
+                    size,
+                    units,
+                    last,
+                },
+            }
+        }
+    }
+}
+
+// The chunk at `at`. A short text of ASCII is tried first.
+pub fn first_chunk(kind: Kind, message: &[u8], at: usize) -> ChunkRead
+    ensures { λ r. ⌜ ChunkMet kind (now (message .entry)) at r ⌝ }
+{
+    if let Kind::Utf8 = kind {
+        let s = short_text(message, at);
+        if 0 < s {
+            return ChunkRead::Chunk {
+                head: 1,
+                size: s - 1,
+                units: s - 1,
+                last: true,
+            };
+        }
+    }
+    chunk(kind, message, at)
+}
+
+// The text or byte string at `at`: the chunks up to `from` are read, of u units and b bytes, and more follow.
+fn read_on(
+    kind: Kind,
+    message: &[u8],
+    at: usize,
+    from: usize,
+    u: usize,
+    b: usize,
+) -> StringRead
+    requires { ⌜ Joining kind (now message) at from u b ⌝ }
+    ensures { λ r. ⌜ toldString r ≡ measuredAt kind (now (message .entry)) at ⌝ }
+{
+    let mut here = from;
+    let mut total = u;
+    let mut bytes = b;
+    loop {
+        match chunk(kind, message, here) {
+            ChunkRead::Refused { number, place } => {
+                return StringRead::Refused { number, place };
+            }
+            ChunkRead::Chunk {
+                head: h,
+                size,
+                units,
+                last,
+            } => {
+                here += h + size;
+                total += units;
+                bytes += size;
+                if last {
+                    return StringRead::Content {
+                        units: total,
+                        bytes,
+                        size: here - at,
+                    };
+                }
+            }
+        }
+    }
+}
+
+// The text or byte string at the place `at` of the message.
+pub fn read_string(kind: Kind, message: &[u8], at: usize) -> StringRead
+    ensures { λ r. ⌜ toldString r ≡ measuredAt kind (now (message .entry)) at ⌝ }
+{
+    let len = message.len();
+    if len <= at {
+        return StringRead::Refused {
+            number: 2,
+            place: len,
+        };
+    }
+    read_on(kind, message, at, at, 0, 0)
+}
+
+// The text at the place `at` of the message. A short one of ASCII is tried first.
+pub fn read_text(message: &[u8], at: usize) -> StringRead
+    ensures { λ r. ⌜ toldString r ≡ measuredAt Kind.Utf8 (now (message .entry)) at ⌝ }
+{
+    let s = short_text(message, at);
+    if 0 < s {
+        return StringRead::Content {
+            units: s - 1,
+            bytes: s - 1,
+            size: s,
+        };
+    }
+    read_string(Kind::Utf8, message, at)
+}
