@@ -2,8 +2,8 @@
 use scalar::Lead;
 use scalar::Sort;
 ghost use mathlib.Core.Path.{_≡_};
-ghost use Rattle.scalar.specs.Answers.{entry as entryOf, followOf};
-ghost use Rattle.scalar.specs.Scalars.{leadOf};
+ghost use Rattle.scalar.specs.Chart.{entry as entryOf, followOf};
+ghost use Rattle.scalar.specs.Chart.{leadOf};
 
 // Each byte's entry: ten times the kind of the row that it opens, and how many bytes follow it before any content.
 const CHART: [u8; 256] = [

@@ -15,7 +15,7 @@ use Rattle.scalar.specs.declared.Lead.the-variants as lead
 use Rattle.scalar.specs.declared.Kind.the-variants.{Utf8}
 use Rattle.texts.specs.declared.StringRead.{StringRead}
 use Rattle.texts.specs.declared.StringRead.the-variants.{Content, Refused}
-use Rattle.scalar.specs.Scalars.{ranges, rangeOf, leadOf, kindOf}
+use Rattle.scalar.specs.Chart.{ranges, rangeOf, leadOf, kindOf}
 use Rattle.scalar.specs.Answers.{sized, measuredAt}
 use Rattle.texts.specs.Answers.{toldString}
 use Rattle.record.specs.Records.{Known, Definition, defined, definition, valueFrom, Row, row}

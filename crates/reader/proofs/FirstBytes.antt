@@ -15,7 +15,7 @@ use Rattle.scalar.specs.declared.Sort.{Sort}
 use Rattle.scalar.specs.declared.Sort.the-variants.{Int, Long}
 use Rattle.scalar.specs.declared.Lead.{Lead}
 use Rattle.scalar.specs.declared.Lead.the-variants as lead
-use Rattle.scalar.specs.Scalars.{ranges, rangeOf, leadOf, kindOf}
+use Rattle.scalar.specs.Chart.{ranges, rangeOf, leadOf, kindOf}
 use Rattle.scalar.specs.ChartLaws.{lead-in}
 use Rattle.scalar.specs.ScalarLaws.{isScalar}
 use Rattle.scalar.proofs.Lead.{the-type}

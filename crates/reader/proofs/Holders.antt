@@ -19,7 +19,7 @@ use Rattle.numbers.specs.declared.NumberRead.{NumberRead}
 use Rattle.numbers.specs.declared.NumberRead.the-variants as number
 use Rattle.scalar.specs.declared.Lead.{Lead}
 use Rattle.scalar.specs.declared.Lead.the-variants as lead
-use Rattle.scalar.specs.Scalars.{ranges, rangeOf, leadOf, kindOf}
+use Rattle.scalar.specs.Chart.{ranges, rangeOf, leadOf, kindOf}
 use Rattle.scalar.specs.ChartLaws.{opens}
 use Rattle.scalar.specs.Answers.{numberAt}
 use Rattle.numbers.specs.Answers.{told}

@@ -21,7 +21,8 @@ use Rattle.scalar.specs.declared.Lead.{Lead}
 use Rattle.scalar.specs.declared.Lead.the-variants as lead
 use Rattle.scalar.specs.declared.Rule.the-variants.{Exactly}
 use Rattle.scalar.specs.declared.Begun.the-variants.{Starts, NoForm}
-use Rattle.scalar.specs.Answers.{followOf, numberAt}
+use Rattle.scalar.specs.Answers.{numberAt}
+use Rattle.scalar.specs.Chart.{followOf}
 use Rattle.numbers.specs.Answers.{told}
 use Rattle.scalar.specs.ChartLaws.{number-lead}
 use Rattle.scalar.specs.Scalars.{Form, form, inside, value, formsOf, formAt, sortKind}

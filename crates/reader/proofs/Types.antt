@@ -15,8 +15,10 @@ use Rattle.texts.specs.declared.StringRead.{StringRead}
 use Rattle.texts.specs.declared.StringRead.the-variants as string
 use Rattle.scalar.specs.declared.Lead.{Lead}
 use Rattle.scalar.specs.declared.Lead.the-variants as lead
-use Rattle.scalar.specs.Scalars.{leadOf, kindOf, isText}
-use Rattle.scalar.specs.Answers.{entry, numberAt}
+use Rattle.scalar.specs.Scalars.{isText}
+use Rattle.scalar.specs.Chart.{leadOf, kindOf}
+use Rattle.scalar.specs.Answers.{numberAt}
+use Rattle.scalar.specs.Chart.{entry}
 use Rattle.numbers.specs.Answers.{told}
 use Rattle.scalar.specs.ChartLaws.{kind-is, entry-parts}
 use Rattle.scalar.specs.Answers.{measuredAt}

@@ -11,7 +11,8 @@ use Rattle.flow.specs.Flow.{pick, Bytes, Done, Fault, One, byteAt, overlay}
 use Rattle.scalar.specs.declared.Lead.{Lead}
 use Rattle.scalar.specs.declared.Lead.the-variants as lead
 use Rattle.scalar.specs.declared.Sort.the-variants.{Int}
-use Rattle.scalar.specs.Scalars.{leadOf, isText}
+use Rattle.scalar.specs.Scalars.{isText}
+use Rattle.scalar.specs.Chart.{leadOf}
 use Rattle.scalar.specs.Answers.{numberAt}
 use Rattle.record.specs.declared.Group.{Group}
 use Rattle.record.specs.declared.Group.the-variants.{Counted, Fields, Open, Pairs}

@@ -8,7 +8,8 @@ use lib.Dec.{T, eqb, eqb→eq, ltb→lt}
 use borrow.Author.Tests.{eqb-true, ne-eqb}
 use Rattle.flow.specs.Tests.{skip, pick-true, pick-false, pick-either, within-is, within-yes, within-below, within-above, every, every-at}
 use Rattle.flow.specs.Flow.{pick, within, One, mapped, headed, many, untilEnd}
-use Rattle.scalar.specs.Scalars.{ranges, rangeOf, leadOf, kindOf, scalarFrom}
+use Rattle.scalar.specs.Scalars.{scalarFrom}
+use Rattle.scalar.specs.Chart.{ranges, rangeOf, leadOf, kindOf}
 use Rattle.scalar.specs.ScalarLaws.{isScalar}
 use Rattle.record.specs.Records.{Leaf, UntypedList, TypedList, UntypedMap, TypedMap, Object, Reference, Val, Ceilings, Opening, int, count, referenceTo, Reader, container, fieldValues, pair, withType, plainFrom}
 use Rattle.record.specs.Shorthands.{with-two}

@@ -11,7 +11,8 @@ use Rattle.scalar.specs.declared.Lead.{Lead}
 use Rattle.scalar.specs.declared.Lead.the-variants as lead
 use Rattle.scalar.specs.declared.Sort.the-variants as sort
 use Rattle.scalar.specs.declared.Kind.the-variants.{Utf8, Binary}
-use Rattle.scalar.specs.Scalars.{ranges, rangeOf, leadOf, kindOf, Scalar, Num, Str}
+use Rattle.scalar.specs.Scalars.{Scalar, Num, Str}
+use Rattle.scalar.specs.Chart.{ranges, rangeOf, leadOf, kindOf}
 use Rattle.scalar.specs.ScalarLaws.{leadFor}
 use Rattle.record.specs.Records.{Leaf, Val, itemRow}
 use Rattle.record.specs.Forms.{Form, leaf, few, few-typed, few-object, counted, counted-typed, open-list, open-typed, open-map, typed-map, object, reference, formOf}

@@ -17,7 +17,9 @@ use Rattle.scalar.specs.declared.Kind.{Kind}
 use Rattle.scalar.specs.declared.Kind.the-variants.{Utf8, Binary}
 use Rattle.scalar.specs.declared.Lead.{Lead}
 use Rattle.scalar.specs.declared.Lead.the-variants as lead
-use Rattle.scalar.specs.Scalars.{leadOf, formsOf, numberFrom, sortKind, stringFrom, stringAt, Scalar, Num, Str, scalarBy, scalarFrom}
+use Rattle.scalar.specs.Scalars.{formsOf, numberFrom, sortKind, stringFrom, stringAt, Scalar, Num, Str, scalarFrom}
+use Rattle.scalar.specs.Chart.{leadOf}
+use Rattle.scalar.specs.ByChart.{scalarBy, scalar-by}
 use Rattle.scalar.specs.Answers.{numberAt}
 use Rattle.scalar.specs.Answers.{Sizes, sized, sizes, measuredAt}
 use Rattle.scalar.specs.ScalarLaws.{isScalar, scalar-shut}
@@ -46,11 +48,11 @@ run-plain ℓ below c m p x h = ap (λ (r : Reader One). run r c m (p + 1)) (pla
 
 module _ (ℓ : Ceilings) (below : Option (Opening One)) (c : Known) (m : List ℕ) (p : ℕ) (l : p < length m) (h : formOf (getD m p 0) ≡ leaf) where
   leaf-by : (x : Lead) → leadOf (getD m p 0) ≡ x → run (plainFrom ℓ below p (getD m p 0)) c m (p + 1) ≡ topped p (λ x. Val (Leaf x)) (run (scalarBy x p (getD m p 0)) c m (p + 1))
-  unfolding plainBy scalarFrom
+  unfolding plainBy run
   leaf-by x e =
       run-plain ℓ below c m p leaf h
       ∙ run-headed p (λ x. Val (Leaf x)) (scalarFrom p (getD m p 0)) c m (p + 1)
-      ∙ ap (λ (y : Lead). topped p (λ x. Val (Leaf x)) (run (scalarBy y p (getD m p 0)) c m (p + 1))) e
+      ∙ ap (λ (o : Outcome Known Item Scalar). topped p (λ x. Val (Leaf x)) (placed (p + 1) o)) (scalar-by p (getD m p 0) c (p + 1) (drop (p + 1) m) ∙ ap (λ (y : Lead). scalarBy y p (getD m p 0) c (p + 1) (drop (p + 1) m)) e)
 
   module _ (s : Sort) (x : leadOf (getD m p 0) ≡ lead.Number s) where
     number-laid : (o : Answer ℕ) → numberAt s m p ≡ o → run (plainFrom ℓ below p (getD m p 0)) c m (p + 1) ≡ laid p (λ v. row (sortKind s) p v 0) c o

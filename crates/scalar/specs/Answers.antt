@@ -1,18 +1,11 @@
 -- What the promises about single values, texts and byte strings speak of, in 01's terms: number, count and place.
 use mathlib.Core.{Bool._&&_, List.List, Option.Option, Option.none, Option.some}
-use Prim.Native.Nat.{ℕ, _+_, _*_}
+use Prim.Native.Nat.{ℕ, _+_}
 use lib.{Dec.leb, Dec.eqb, ListN.length}
 use Rattle.flow.specs.Flow.{pick, Done, Fault, byteAt, stored, Report}
 use Rattle.flow.specs.Steps.{Answer, alone, renamed}
 use Rattle.scalar.specs.declared.{Sort.Sort, Kind.Kind, Written.Written, Written.the-variants.Stored, Written.the-variants.NoRoom, Written.the-variants.NotSuch}
-use Rattle.scalar.specs.Scalars.{formsOf, numberFrom, ranges, rangeOf, leadOf, kindOf, units, stringAt, shortestString}
-
--- how many bytes follow a first byte before any content; and its entry in the table: ten times the kind, and the bytes that follow
-unfoldable pub followOf : ℕ → ℕ
-followOf b = rangeOf ranges b .follow
-
-unfoldable pub entry : ℕ → ℕ
-entry b = 10 * kindOf (leadOf b) + followOf b
+use Rattle.scalar.specs.Scalars.{formsOf, numberFrom, units, stringAt, shortestString}
 
 -- what stands at the place p of the message m, read as a value of this kind
 unfoldable pub numberAt : Sort → List ℕ → ℕ → Answer ℕ

@@ -15,8 +15,8 @@ use Rattle.scalar.specs.declared.Begun.{Begun}
 use Rattle.scalar.specs.declared.Begun.the-variants.{Starts, NoForm}
 use Rattle.scalar.specs.declared.Lead.{Lead}
 use Rattle.scalar.specs.declared.Lead.the-variants as lead
-use Rattle.scalar.specs.Scalars.{formsOf, formAt, ranges, rangeOf, leadOf, kindOf}
-use Rattle.scalar.specs.Answers.{followOf, entry}
+use Rattle.scalar.specs.Scalars.{formsOf, formAt}
+use Rattle.scalar.specs.Chart.{ranges, rangeOf, leadOf, kindOf, followOf, entry}
 
 -- ---- a kind's number says the kind
 abbrev leads : List Lead

@@ -2,10 +2,12 @@ pub mod Guesses
 pub mod Scalars
 pub mod Grammar
 pub mod Answers
+pub mod Chart
 pub mod Signed
 pub mod DoubleLaws
 pub mod Ieee
 pub mod ChartLaws
+pub mod ByChart
 pub mod NumberLaws
 pub mod NumberAt
 pub mod Sorts

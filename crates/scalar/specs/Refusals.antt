@@ -6,17 +6,17 @@ use Prim.Native.Nat.{ℕ, zero, suc, _+_, _*_, _≤_}
 use native.Mathlib.Omega.{arith}
 use lib.ListN.{length}
 use Rattle.flow.specs.Flow.{within, Read, From, mapped, fail, bind}
+use Rattle.flow.specs.Tests.{pick-either}
 use Rattle.flow.specs.Refusals.{Tells, TellsFrom, cond-tells, byte-tells, mapped-tells, bind-tells}
+use Rattle.scalar.specs.declared.Sort.{Sort}
 use Rattle.scalar.specs.declared.Sort.the-variants as sort
 use Rattle.scalar.specs.declared.Begun.{Begun}
 use Rattle.scalar.specs.declared.Begun.the-variants.{Starts, NoForm}
-use Rattle.scalar.specs.declared.Lead.{Lead}
-use Rattle.scalar.specs.declared.Lead.the-variants as lead
 use Rattle.scalar.specs.declared.Kind.{Kind}
 use Rattle.scalar.specs.declared.Kind.the-variants.{Utf8, Binary}
 use Rattle.scalar.specs.declared.CharLead.{CharLead}
 use Rattle.scalar.specs.declared.CharLead.the-variants.{Basic, Supplementary, NoChar}
-use Rattle.scalar.specs.Scalars.{Form, formsOf, formAt, inside, value, bytesOf, numberFrom, leadOf, partHead, lastHeads, charLead, continued, character, characters, octets, body, chunk, chunks, stringFrom, Num, Str, scalarBy, scalarFrom, intFrom, textFrom}
+use Rattle.scalar.specs.Scalars.{Form, formsOf, formAt, inside, value, bytesOf, numberFrom, partHead, lastHeads, charLead, continued, character, characters, octets, body, chunk, chunks, stringFrom, Scalar, Num, Str, begins, orString, orNumber, scalarFrom, intFrom, textFrom}
 use Rattle.scalar.specs.NumberLaws.{numberBy}
 
 module _ (C I : Type 0) (P : ℕ → Type 0) (end : ℕ) (two : P 2) (three : P 3) (four : P 4) where
@@ -85,23 +85,16 @@ module _ (C I : Type 0) (P : ℕ → Type 0) (end : ℕ) (two : P 2) (three : P 
   string-tells k p b m c at s l = chunk-tells k (chunks k (length s)) (chunks-tell k (length s)) p b m c at s l
 
   -- ---- what the layer above reads
-  by-lead : (x : Lead) → TellsFrom {C = C} {I = I} P end (scalarBy x)
-  by-lead (lead.Number s) p b m = mapped-tells P end (Num s) (numberFrom (formsOf s) p b) (number-tells (formsOf s) p b m)
-  by-lead lead.Text p b m = mapped-tells P end (Str Utf8) (stringFrom Utf8 p b) (string-tells Utf8 p b m)
-  by-lead lead.Bytes p b m = mapped-tells P end (Str Binary) (stringFrom Binary p b) (string-tells Binary p b m)
-  by-lead lead.List p b m = λ c at s l. (three, m)
-  by-lead lead.TypedList p b m = λ c at s l. (three, m)
-  by-lead lead.Map p b m = λ c at s l. (three, m)
-  by-lead lead.TypedMap p b m = λ c at s l. (three, m)
-  by-lead lead.Object p b m = λ c at s l. (three, m)
-  by-lead lead.Reference p b m = λ c at s l. (three, m)
-  by-lead lead.Definition p b m = λ c at s l. (three, m)
-  by-lead lead.Close p b m = λ c at s l. (three, m)
-  by-lead lead.Reserved p b m = λ c at s l. (three, m)
+  string-or : (k : Kind) (g : From C I Scalar) → TellsFrom {C = C} {I = I} P end g → TellsFrom {C = C} {I = I} P end (orString k g)
+  string-or k g h p b m = pick-either (Tells P end) (begins (partHead k ∷ lastHeads k) b) (λ e. mapped-tells P end (Str k) (stringFrom k p b) (string-tells k p b m)) (λ e. h p b m)
+
+  number-or : (s : Sort) (g : From C I Scalar) → TellsFrom {C = C} {I = I} P end g → TellsFrom {C = C} {I = I} P end (orNumber s g)
+  number-or s g h p b m = pick-either (Tells P end) (begins (formsOf s) b) (λ e. mapped-tells P end (Num s) (numberFrom (formsOf s) p b) (number-tells (formsOf s) p b m)) (λ e. h p b m)
 
   pub scalar-tells : TellsFrom {C = C} {I = I} P end scalarFrom
   unfolding scalarFrom
-  scalar-tells p b = by-lead (leadOf b) p b
+  scalar-tells = string-or Utf8 _ (string-or Binary _ (number-or sort.Int _ (number-or sort.Long _ (number-or sort.Date _ (number-or sort.Double _ (number-or sort.Null _
+      (number-or sort.False _ (number-or sort.True _ (λ p b m c at s l. (three, m))))))))))
 
   pub int-tells : TellsFrom {C = C} {I = I} P end intFrom
   unfolding intFrom

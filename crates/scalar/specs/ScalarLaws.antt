@@ -1,5 +1,5 @@
 -- Scalars: what the layer above uses of their forms.
-use mathlib.Core.Path.{_≡_, refl, _∙_, ap, subst}
+use mathlib.Core.Path.{_≡_, refl, sym, _∙_, ap, subst}
 use mathlib.Core.Bool.{Bool, true, false, cond, not}
 use mathlib.Core.List.{List, [], _∷_, _++_}
 use mathlib.Core.Option.{Option, none, some}
@@ -10,17 +10,19 @@ use lib.IntN.{pos}
 use borrow.Author.Tests.{le-leb}
 use lib.ListN.{length}
 use Rattle.flow.specs.Tests.{by-test, pass, every, every-at, implies, implied, within-yes, First}
-use Rattle.flow.specs.Flow.{pick, Bytes, From, Fault, mapped}
-use Rattle.flow.specs.Laws.{Parsed, maps, Quiet, quiet, quietly, map-makes, Leads}
+use Rattle.flow.specs.Flow.{pick, Bytes, Read, From, Fault, mapped}
+use Rattle.flow.specs.Laws.{Parsed, maps, Quiet, quiet, quietly, Makes, map-makes, Leads}
 use Rattle.scalar.specs.declared.Sort.{Sort}
 use Rattle.scalar.specs.declared.Sort.the-variants as sort
 use Rattle.scalar.specs.declared.Kind.{Kind}
 use Rattle.scalar.specs.declared.Kind.the-variants.{Utf8, Binary}
 use Rattle.scalar.specs.declared.Lead.{Lead}
 use Rattle.scalar.specs.declared.Lead.the-variants as lead
-use Rattle.scalar.specs.Scalars.{ranges, rangeOf, leadOf, kindOf, Form, compact, inside, formsOf, numberFrom, fits, shortest, partHead, lastHeads, stringFrom, shortestString, Scalar, Num, Str, isText, scalarBy, scalarFrom, intFrom, textFrom, shortestScalar, shortestInt, shortestText}
+use Rattle.scalar.specs.Scalars.{Form, compact, inside, formsOf, numberFrom, fits, shortest, partHead, lastHeads, stringFrom, shortestString, Scalar, Num, Str, begins, isText, scalarFrom, intFrom, textFrom, shortestScalar, shortestInt, shortestText}
+use Rattle.scalar.specs.Chart.{ranges, rangeOf, leadOf, kindOf}
 use Rattle.scalar.specs.Grammar.{held, Number, here, later, String, last-chunk, chunk-before, Spelt, a-number, a-string, Int, Text}
 use Rattle.scalar.specs.ChartLaws.{kind-is}
+use Rattle.scalar.specs.ByChart.{scalarBy, kind-shut, scalar-by, text-told}
 use Rattle.scalar.specs.Guesses.{guess}
 use Rattle.scalar.specs.NumberLaws.{number-bytes, number-some, number-scans, number-makes, NumberLed, shortest-is, IsNumber}
 use Rattle.scalar.specs.Sorts.{properly, none-shorter, int-ranges}
@@ -32,10 +34,6 @@ abbrev pub isScalar : ℕ → Bool
 isScalar b = ltb (kindOf (leadOf b)) 9
 
 -- ---- the first byte says what the scalar is
-abbrev begins : List Form → ℕ → Bool
-begins [] b = false
-begins (w ∷ ws) b = cond (inside w b) true (begins ws b)
-
 number-begins : {ws : List Form} {t : List ℕ} {v : ℕ} → Number ws t v → First (λ b. T (begins ws b)) t
 number-begins (here {w = w} (held q t l e i)) = rw (within-yes (w .head) (w .head + w .codes) (w .head + q) (omega arith) (omega arith)) tt
 number-begins (later {w = w} {ws = ws} {t = t} n) = go t (number-begins n)
@@ -137,12 +135,11 @@ pub scalar-owned : {w : List ℕ} {x : Scalar} → Spelt w x → First (λ b. (b
 scalar-owned {w} {x} y = first-only (λ b. (b < 256) × (leadOf b ≡ leadFor x)) (λ b. (b < 256) × T (isScalar b)) (λ b h. (h .0, rw (h .1) (scalar-kind x))) w (scalar-first y)
 
 pub text-first : {w cs : List ℕ} → Text w cs → First (λ b. T (isText b)) w
-unfolding kindOf
-text-first {w} {cs} x = first-only (λ b. (b < 256) × (leadOf b ≡ lead.Text)) (λ b. T (isText b)) (λ b h. rw (h .1) tt) w (scalar-first (a-string x))
+text-first x = string-begins x
 
 pub int-first : {w : List ℕ} {v : ℕ} → Int w v → First (λ b. T (not (isText b))) w
 unfolding kindOf
-int-first {w} n = first-only (λ b. (b < 256) × (leadOf b ≡ lead.Number sort.Int)) (λ b. T (not (isText b))) (λ b h. rw (h .1) tt) w (scalar-first (a-number {s = sort.Int} n))
+int-first {w} n = first-only (λ b. (b < 256) × (leadOf b ≡ lead.Number sort.Int)) (λ b. T (not (isText b))) (λ b h. rw (text-told b, h .1) tt) w (scalar-first (a-number {s = sort.Int} n))
 
 -- ---- reading and the grammar
 module _ {C : Type 0} (I : Type 0) where
@@ -155,8 +152,7 @@ module _ {C : Type 0} (I : Type 0) where
       (quietly (λ w cs. String k (b ∷ w) cs) (λ w cs is c′. Quiet (λ w x. Spelt (b ∷ w) x) c w (Str k cs) is c′) c t (λ w cs n. quiet (a-string n)) (stringFrom k p b c at t) (string-scans I k p b c at t l))
 
   pub scalar-scans : (p b : ℕ) (c : C) (at : ℕ) (s : List ℕ) → Bytes s → Parsed {I = I} (Quiet (λ w x. Spelt (b ∷ w) x) c) s (scalarFrom p b c at s)
-  unfolding scalarFrom
-  scalar-scans p b c at s l = go (leadOf b)
+  scalar-scans p b c at s l = subst (Parsed {I = I} (Quiet (λ w x. Spelt (b ∷ w) x) c) s) (sym (scalar-by p b c at s)) (go (leadOf b))
     where
       go : (x : Lead) → Parsed {I = I} (Quiet (λ w x. Spelt (b ∷ w) x) c) s (scalarBy x p b c at s)
       go (lead.Number t) = number-part t p b c at s l
@@ -180,11 +176,13 @@ module _ {C : Type 0} (I : Type 0) where
   unfolding textFrom
   text-scans p b c at s l = string-scans I Utf8 p b c at s l
 
+  made-as : (f g : Read C I Scalar) {c c′ : C} {w : List ℕ} {x : Scalar} {is : List I} → ((at : ℕ) (s : List ℕ) → f c at s ≡ g c at s) → Makes g c w x is c′ → Makes f c w x is c′
+  made-as f g {c} {c′} {w} e h = record { makes = λ at s. (h .makes at s .0, e at (w ++ s) ∙ h .makes at s .1, h .makes at s .2) }
+
   -- by the lead that its first byte has
   by-lead : (x : Scalar) (c : C) (w : List ℕ) → First (λ b. (b < 256) × (leadOf b ≡ leadFor x)) w → Leads {I = I} (scalarBy (leadFor x)) c w x [] c → Leads {I = I} scalarFrom c w x [] c
-  unfolding scalarFrom
   by-lead x c [] f h = h
-  by-lead x c (b ∷ w) f h = λ p. rw (f .1) (h p)
+  by-lead x c (b ∷ w) f h = λ p. made-as (scalarFrom p b) (scalarBy (leadFor x) p b) (λ at s. scalar-by p b c at s ∙ ap (λ (y : Lead). scalarBy y p b c at s) (f .1)) (h p)
 
   number-leads : (s : Sort) (v : ℕ) (c : C) (w : List ℕ) → NumberLed I (formsOf s) w v c → Leads {I = I} (scalarBy (lead.Number s)) c w (Num s v) [] c
   number-leads s v c [] h = h
@@ -218,28 +216,7 @@ module _ {C : Type 0} (I : Type 0) where
 
   -- a byte that opens no scalar
   pub scalar-shut : (e : ℕ) → T (not (isScalar e)) → (p : ℕ) (c : C) (at : ℕ) (s : List ℕ) → scalarFrom {I = I} p e c at s ≡ Fault 3 p
-  unfolding scalarFrom kindOf
-  scalar-shut e h p c at s = go (leadOf e) h
-    where
-      go : (x : Lead) → T (not (ltb (kindOf x) 9)) → scalarBy {I = I} x p e c at s ≡ Fault 3 p
-      go (lead.Number sort.Null) h = absurd h
-      go (lead.Number sort.False) h = absurd h
-      go (lead.Number sort.True) h = absurd h
-      go (lead.Number sort.Int) h = absurd h
-      go (lead.Number sort.Long) h = absurd h
-      go (lead.Number sort.Double) h = absurd h
-      go (lead.Number sort.Date) h = absurd h
-      go lead.Text h = absurd h
-      go lead.Bytes h = absurd h
-      go lead.List h = refl
-      go lead.TypedList h = refl
-      go lead.Map h = refl
-      go lead.TypedMap h = refl
-      go lead.Object h = refl
-      go lead.Reference h = refl
-      go lead.Definition h = refl
-      go lead.Close h = refl
-      go lead.Reserved h = refl
+  scalar-shut e h p c at s = scalar-by p e c at s ∙ kind-shut p e c at s (leadOf e) h
 
 -- ---- no form is shorter than the shortest, and the shortest is a form
 abbrev pub Is : (List ℕ → Type 0) → Option (List ℕ) → Type 0

@@ -1,82 +1,15 @@
--- Scalars: the chart of first bytes; single values, which are null, false, true, int, long, double, date; texts and byte strings.
-use mathlib.Core.{Bool.Bool, Bool.false, Bool.cond, Bool._&&_, List.List, List.[], List._∷_, List._++_, List.map, Option.Option, Option.none, Option.some}
+-- Scalars: single values, which are null, false, true, int, long, double, date; texts and byte strings.
+use mathlib.Core.{Bool.Bool, Bool.true, Bool.false, Bool.cond, Bool._&&_, List.List, List.[], List._∷_, List._++_, List.map, Option.Option, Option.none, Option.some}
 use Prim.Native.Nat.{ℕ, zero, suc, _+_, _*_, _-_, _/_, _%_, _^_, min}
 use lib.{Dec.ltb, Dec.eqb, ListN.length, ListN.take, ListN.drop, Count.leadingZeros, Pow.areBytes, IntN.ℤ, IntN.pos, IntN.negsuc, IntN._-ℤ_, IntN._*ℤ_}
 use mir.{Syntax.w8, Syntax.w16, Syntax.w32, Syntax.w64, Val.ofZ, Val.toZ}
 use Rattle.flow.specs.Flow.{pick, within, Outcome, Done, Fault, Read, From, One, give, fail, byteAt, mapped, bind}
 use Rattle.wire.specs.BigEndian.{be, high, wider}
-use Rattle.scalar.specs.declared.{Sort.Sort, Rule.Rule, Begun.Begun, Begun.the-variants.Starts, Begun.the-variants.NoForm}
+use Rattle.scalar.specs.declared.{Sort.Sort, Rule.Rule, Begun.Begun, Begun.the-variants.Starts, Begun.the-variants.NoForm, Kind.Kind, Kind.the-variants.Utf8, Kind.the-variants.Binary}
 use Rattle.scalar.specs.declared.Sort.the-variants.{Null, False, True, Int, Long, Double, Date}
 use Rattle.scalar.specs.declared.Rule.the-variants.{Exactly, Plain, Offset, Signed, Minutes, WholeByte, WholePair, Float}
-use Rattle.scalar.specs.declared.Kind.{Kind, the-variants.Utf8, the-variants.Binary}
 use Rattle.scalar.specs.declared.CharLead.{CharLead, the-variants.Basic, the-variants.Supplementary, the-variants.NoChar}
-use Rattle.scalar.specs.declared.Lead.{Lead}
-use Rattle.scalar.specs.declared.Lead.the-variants as lead
 use Rattle.scalar.specs.Guesses.{guess}
-
--- ---- the chart: what each byte opens, and how many bytes follow before any content
-pub record Range : Type 0 where  -- the bytes from one to another
-  pub from : ℕ
-  pub to : ℕ
-  pub opens : Lead
-  pub follow : ℕ
-
-abbrev pub range : ℕ → ℕ → Lead → ℕ → Range
-range from to opens follow = record { from = from; to = to; opens = opens; follow = follow }
-
-abbrev pub only : ℕ → Lead → ℕ → Range
-only b opens follow = range b b opens follow
-
--- the rows of 01's table of first bytes, in its order; 5a, which only closes, and the reserved bytes at the end
-unfoldable pub ranges : List Range
-ranges =
-    range 0x00 0x1f lead.Text 0 ∷ range 0x30 0x33 lead.Text 1 ∷ only 0x53 lead.Text 2
-    ∷ only 0x52 lead.Text 2
-    ∷ range 0x20 0x2f lead.Bytes 0 ∷ range 0x34 0x37 lead.Bytes 1 ∷ only 0x42 lead.Bytes 2
-    ∷ only 0x41 lead.Bytes 2
-    ∷ range 0x80 0xbf (lead.Number Int) 0 ∷ range 0xc0 0xcf (lead.Number Int) 1 ∷ range 0xd0 0xd7 (lead.Number Int) 2 ∷ only 0x49 (lead.Number Int) 4
-    ∷ range 0xd8 0xef (lead.Number Long) 0 ∷ range 0xf0 0xff (lead.Number Long) 1 ∷ range 0x38 0x3f (lead.Number Long) 2 ∷ only 0x59 (lead.Number Long) 4 ∷ only 0x4c (lead.Number Long) 8
-    ∷ only 0x4a (lead.Number Date) 8 ∷ only 0x4b (lead.Number Date) 4
-    ∷ range 0x5b 0x5c (lead.Number Double) 0 ∷ only 0x5d (lead.Number Double) 1 ∷ only 0x5e (lead.Number Double) 2 ∷ only 0x5f (lead.Number Double) 4 ∷ only 0x44 (lead.Number Double) 8
-    ∷ only 0x4e (lead.Number Null) 0 ∷ only 0x46 (lead.Number False) 0 ∷ only 0x54 (lead.Number True) 0
-    ∷ range 0x70 0x77 lead.TypedList 0 ∷ range 0x55 0x56 lead.TypedList 0
-    ∷ range 0x78 0x7f lead.List 0 ∷ range 0x57 0x58 lead.List 0
-    ∷ only 0x4d lead.TypedMap 0 ∷ only 0x48 lead.Map 0
-    ∷ only 0x43 lead.Definition 0
-    ∷ range 0x60 0x6f lead.Object 0 ∷ only 0x4f lead.Object 0
-    ∷ only 0x51 lead.Reference 0
-    ∷ only 0x5a lead.Close 0
-    ∷ only 0x40 lead.Reserved 0 ∷ only 0x45 lead.Reserved 0 ∷ only 0x47 lead.Reserved 0 ∷ only 0x50 lead.Reserved 0 ∷ []
-
-unfoldable pub rangeOf : List Range → ℕ → Range
-rangeOf [] b = only b lead.Reserved 0
-rangeOf (r ∷ rs) b = pick (within (r .from) (suc (r .to)) b) r (rangeOf rs b)
-
-unfoldable pub leadOf : ℕ → Lead  -- what the byte opens
-leadOf b = rangeOf ranges b .opens
-
-abbrev pub sortKind : Sort → ℕ
-sortKind Null = 0
-sortKind False = 1
-sortKind True = 2
-sortKind Int = 3
-sortKind Long = 4
-sortKind Double = 5
-sortKind Date = 6
-
-unfoldable pub kindOf : Lead → ℕ  -- the kind of the row that it opens; 20 only closes, 21 opens nothing
-kindOf (lead.Number s) = sortKind s
-kindOf lead.Text = 7
-kindOf lead.Bytes = 8
-kindOf lead.List = 9
-kindOf lead.TypedList = 10
-kindOf lead.Map = 11
-kindOf lead.TypedMap = 12
-kindOf lead.Object = 13
-kindOf lead.Reference = 14
-kindOf lead.Definition = 15
-kindOf lead.Close = 20
-kindOf lead.Reserved = 21
 
 -- ---- doubles by their 64 bits: a sign, 11 bits of exponent, 52 of fraction
 -- the bits of the double m · 2 ^ (c − 1074), for an m of 1 to 32 bits: its leading zeros say how far to shift, so that its
@@ -134,6 +67,15 @@ formsOf Double =
     form 0x5b 1 0 (Exactly 0) ∷ form 0x5c 1 0 (Exactly 0x3ff0_0000_0000_0000) ∷ form 0x5d 1 1 WholeByte ∷ form 0x5e 1 2 WholePair
     ∷ form 0x5f 1 4 Float ∷ form 0x44 1 8 Plain ∷ []
 formsOf Date = form 0x4b 1 4 Minutes ∷ form 0x4a 1 8 Plain ∷ []
+
+abbrev pub sortKind : Sort → ℕ  -- the kind of the row of such a value
+sortKind Null = 0
+sortKind False = 1
+sortKind True = 2
+sortKind Int = 3
+sortKind Long = 4
+sortKind Double = 5
+sortKind Date = 6
 
 abbrev pub inside : Form → ℕ → Bool  -- the byte b is one of the form's first bytes
 inside w b = within (w .head) (w .head + w .codes) b
@@ -265,30 +207,29 @@ content k cs = areBytes cs && elim (body {C = One} {I = One} k (units k cs) tt 0
 unfoldable pub shortestString : Kind → List ℕ → Option (List ℕ)  -- the shortest form of a content, or none
 shortestString k cs = cond (content k cs) (some (spelled k (suc (length cs)) cs)) none
 
-pub data Scalar : Type 0 where  -- a single value, a text or a byte string: what the layer above sees of all their forms
+-- ---- scalars: single values, texts and byte strings, as the layer above sees them
+pub data Scalar : Type 0 where
   Num : Sort → ℕ → Scalar
   Str : Kind → List ℕ → Scalar
 
+abbrev pub begins : List Form → ℕ → Bool  -- the byte begins one of the forms
+begins [] b = false
+begins (w ∷ ws) b = cond (inside w b) true (begins ws b)
+
 abbrev pub isText : ℕ → Bool  -- the byte opens a text
-isText b = eqb (kindOf (leadOf b)) 7
+isText b = begins (partHead Utf8 ∷ lastHeads Utf8) b
 
 module _ {C I : Type 0} where
-  abbrev pub scalarBy : Lead → From C I Scalar
-  scalarBy (lead.Number s) p b = mapped (Num s) (numberFrom (formsOf s) p b)
-  scalarBy lead.Text p b = mapped (Str Utf8) (stringFrom Utf8 p b)
-  scalarBy lead.Bytes p b = mapped (Str Binary) (stringFrom Binary p b)
-  scalarBy lead.List p b = fail 3 p
-  scalarBy lead.TypedList p b = fail 3 p
-  scalarBy lead.Map p b = fail 3 p
-  scalarBy lead.TypedMap p b = fail 3 p
-  scalarBy lead.Object p b = fail 3 p
-  scalarBy lead.Reference p b = fail 3 p
-  scalarBy lead.Definition p b = fail 3 p
-  scalarBy lead.Close p b = fail 3 p
-  scalarBy lead.Reserved p b = fail 3 p
+  abbrev pub orString : Kind → From C I Scalar → From C I Scalar  -- a text or byte string, where b begins one, or what g reads
+  orString k g p b = pick (begins (partHead k ∷ lastHeads k) b) (mapped (Str k) (stringFrom k p b)) (g p b)
 
-  unfoldable pub scalarFrom : From C I Scalar  -- a scalar whose first byte is b, at p
-  scalarFrom p b = scalarBy (leadOf b) p b
+  abbrev pub orNumber : Sort → From C I Scalar → From C I Scalar  -- a single value, where b begins one of its kind, or what g reads
+  orNumber s g p b = pick (begins (formsOf s) b) (mapped (Num s) (numberFrom (formsOf s) p b)) (g p b)
+
+  -- a scalar whose first byte is b, at p, in the order of 01's table of first bytes; any other byte is refusal 3
+  unfoldable pub scalarFrom : From C I Scalar
+  scalarFrom = orString Utf8 (orString Binary
+      (orNumber Int (orNumber Long (orNumber Date (orNumber Double (orNumber Null (orNumber False (orNumber True (λ p b. fail 3 p)))))))))
 
   unfoldable pub intFrom : From C I ℕ  -- an int: for counts and numbers
   intFrom p b = numberFrom (formsOf Int) p b

@@ -14,7 +14,7 @@ use Rattle.flow.specs.Tests.{split, every, every-at}
 use Rattle.scalar.specs.declared.Sort.the-variants.{Null, False, True, Int, Long, Double, Date}
 use Rattle.scalar.specs.declared.Lead.{Lead}
 use Rattle.scalar.specs.declared.Lead.the-variants as lead
-use Rattle.scalar.specs.Scalars.{ranges, rangeOf, leadOf, kindOf}
+use Rattle.scalar.specs.Chart.{ranges, rangeOf, leadOf, kindOf}
 use Rattle.scalar.specs.ChartLaws.{allOpen, lead-in}
 use Rattle.numbers.proofs.chart.classify.Statement.{statement}
 use Rattle.numbers.proofs.chart.classify.Tie as tie

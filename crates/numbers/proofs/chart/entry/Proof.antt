@@ -1,8 +1,8 @@
 -- Each of the table's 256 entries is what `entry` computes to.
 use borrow.Author.Needs.{needs}
 use Rattle.flow.specs.Flow.{pick}
-use Rattle.scalar.specs.Scalars.{ranges, rangeOf, leadOf, kindOf}
-use Rattle.scalar.specs.Answers.{followOf, entry}
+use Rattle.scalar.specs.Chart.{ranges, rangeOf, leadOf, kindOf}
+use Rattle.scalar.specs.Chart.{followOf, entry}
 use Rattle.numbers.proofs.Table.{at}
 use Rattle.numbers.proofs.chart.entry.Statement.{statement}
 use Rattle.numbers.proofs.chart.entry.Tie as tie
