@@ -21,6 +21,7 @@ use Rattle.scalar.specs.Answers.{numberAt}
 use Rattle.scalar.specs.Chart.{entry}
 use Rattle.numbers.specs.Answers.{told}
 use Rattle.scalar.specs.ChartLaws.{kind-is, entry-parts}
+use Rattle.scalar.specs.ByChart.{text-told}
 use Rattle.scalar.specs.Answers.{measuredAt}
 use Rattle.texts.specs.Answers.{toldString}
 use Rattle.record.specs.Records.{typed, row}
@@ -36,7 +37,7 @@ use Rattle.reader.proofs.Leaves.{byte-small, number-bad, number-is, num
 module _ (m : List ℕ) (given p : ℕ) (h : Led m p lead.Text) where
   is-text : isText (getD m p 0) ≡ true
   unfolding kindOf
-  is-text = ap (λ (x : Lead). eqb (kindOf x) 7) (h .lead)
+  is-text = text-told (getD m p 0) ∙ ap (λ (x : Lead). eqb (kindOf x) 7) (h .lead)
 
   pub named-full : 256 ≤ given → TypeMet m given p (type-read.Wrong 7 p)
   named-full l = record { says = λ c e. type-full base c m p (h .inside) is-text (omega arith) }
@@ -95,4 +96,4 @@ module _ (m : List ℕ) (p : ℕ) (a : At m p) (l : p < length m) (n : ℕ) (e :
   text-led q = record { bytes = a .bytes; inside = l; lead = kind-is (leadOf (getD m p 0)) lead.Text (sym kind-there ∙ q) }
 
   pub no-name : (n / 10 ≡ 7 → ⊥) → NoName m p
-  no-name q = record { bytes = a .bytes; inside = l; lead = ne-eqb (kindOf (leadOf (getD m p 0))) 7 (λ z. q (kind-there ∙ z)) }
+  no-name q = record { bytes = a .bytes; inside = l; lead = text-told (getD m p 0) ∙ ne-eqb (kindOf (leadOf (getD m p 0))) 7 (λ z. q (kind-there ∙ z)) }
