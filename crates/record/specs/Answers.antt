@@ -1,11 +1,11 @@
 -- The shortest message of a record; what the reader and the writer answer, number, count and place; and what a lent table or output then holds.
-use mathlib.Core.{Path._≡_, Bool.Bool, Bool.cond, Bool._&&_, List.List, List.[], List._∷_, List._++_, Option.Option, Option.none, Option.some}
+use mathlib.Core.{Bool.Bool, Bool.cond, Bool._&&_, List.List, List.[], List._∷_, List._++_, Option.Option, Option.none, Option.some}
 use Prim.Native.Nat.{ℕ, zero, suc, _+_, _/_, _^_}
 use lib.{Dec.ltb, Dec.eqb, Dec.leb, ListN.length, ListN.take, ListN.drop, ListN.getD}
-use Rattle.flow.specs.Flow.{pick, Entry, Outcome, Done, Fault, One, items, stored as storedIn, overlay, Report}
+use Rattle.flow.specs.Flow.{pick, Outcome, Done, Fault, One, stored as storedIn, overlay, Report}
 use Rattle.wire.specs.BigEndian.{joined, be}
 use Rattle.scalar.specs.Scalars.{shortestScalar, shortestInt, shortestText}
-use Rattle.record.specs.Records.{Value, Leaf, UntypedList, TypedList, UntypedMap, TypedMap, Object, Reference, Item, Val, Definition, ClassName, FieldName, TypeName, TypeNumber, Known, start, opened, typed, defined, Ceilings, message, Reads, Row, row, rows, ClaimAll}
+use Rattle.record.specs.Records.{Value, Leaf, UntypedList, TypedList, UntypedMap, TypedMap, Object, Reference, Item, Val, Definition, ClassName, FieldName, TypeName, TypeNumber, Known, start, opened, typed, defined, Ceilings, message, Row, row, rows}
 use Rattle.record.specs.Claimed.{onSome, recordOf}
 
 -- ---- the shortest message. It mirrors the reading: each function takes the first of the items, and says the bytes they are written as
@@ -148,13 +148,6 @@ answered lent (Fault x o) = Refuse x 0 o
 abbrev pub read : Ceilings → (d longest lent : ℕ) → List ℕ → ReadAnswer
 read ℓ d longest lent m = answered lent (judged ℓ d longest m)
 
--- none of refusals 1 to 8 is given for the message m, which reads as the items r
-pub record Accepts (ℓ : Ceilings) (d longest : ℕ) (m : List ℕ) (r : List Item) : Type 0 where
-  pub entries : List (Entry Item)
-  pub known : Known
-  pub done : judged ℓ d longest m ≡ Done (length m) tt entries known
-  pub reads-as : items entries ≡ r
-
 pub data WriteAnswer : Type 0 where  -- the writer's answer
   Wrote : List ℕ → WriteAnswer  -- the bytes written
   Refused : ℕ → ℕ → WriteAnswer  -- number, count; the place is 0
@@ -169,14 +162,6 @@ stored longest lent (some w) = pick (ltb longest (length w)) (Refused 1 0) (pick
 
 abbrev pub answeredTo : (longest lent : ℕ) → (source : List ℕ) → Option (List ℕ) → WriteAnswer  -- a source longer than `longest` is refusal 1, before all else
 answeredTo longest lent source o = pick (ltb longest (length source)) (Refused 1 0) (stored longest lent o)
-
-unfoldable pub write : Ceilings → (openFrom d longest lent : ℕ) → List ℕ → List Row → WriteAnswer
-write ℓ openFrom d longest lent source r = answeredTo longest lent source (shortestOf ℓ openFrom d source r)
-
-pub record Has (ℓ : Ceilings) (d : ℕ) (source : List ℕ) (r : List Row) (m : List ℕ) : Type 0 where  -- the message m has the record that the rows claim
-  pub record-of : List Item
-  pub claimed : ClaimAll source r record-of
-  pub read-as : Reads ℓ d m record-of
 
 abbrev pub base : Ceilings  -- with 32 containers open, 262,144 bytes, and the open form from 48 elements on
 base = record { types = 256; classes = 256; fields = 256 }

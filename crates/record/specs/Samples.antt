@@ -8,7 +8,8 @@ use Rattle.flow.specs.Flow.{pick, Done, Fault}
 use Rattle.scalar.specs.Scalars.{ranges, rangeOf, leadOf, kindOf, scaled, whole, magnitude, widened, value, formsOf, formAt, shortest, partHead, lastHeads, charLead, stringFrom, stringAt, longest, content, shortestString, scalarFrom, intFrom, textFrom, shortestScalar}
 use Rattle.scalar.specs.Guesses.{wholeSize, wholeGuess, narrowMagnitude, narrowed, guess}
 use Rattle.record.specs.Records.{typeFrom, plainFrom, definition, valueFrom, message, Row, row, rows, contentAt}
-use Rattle.record.specs.Answers.{objectCode, putType, putDefinition, putPlainBy, putPlain, putValue, spell, ReadAnswer, Accept, Refuse, judged, read, WriteAnswer, Wrote, Refused, shortestOf, write, base}
+use Rattle.record.specs.Answers.{objectCode, putType, putDefinition, putPlainBy, putPlain, putValue, spell, ReadAnswer, Accept, Refuse, judged, read, WriteAnswer, Wrote, Refused, shortestOf, base}
+use Rattle.record.specs.Terms.{write}
 use Rattle.record.specs.Claimed.{ofKind, itemAt}
 
 -- ---- the base: 32 containers open, 262,144 bytes, the open form from 48 elements on

@@ -21,7 +21,7 @@ use Rattle.record.specs.RowLaws.{item-moved}
 use Rattle.record.specs.Meaning.{reads-derived}
 use Rattle.record.specs.Extent.{scalar-some}
 use Rattle.record.specs.Places.{EntriesOpen, OutcomeOpens, places}
-use Rattle.record.specs.Answers.{Accepts}
+use Rattle.record.specs.Terms.{Accepts}
 use Rattle.record.specs.TableLaws.{Fits, All}
 use Rattle.record.specs.Writing.{judged-done, own-reads}
 
