@@ -172,11 +172,7 @@ pub record Layout : Type 0 where  -- how rows lie in a table, so many numbers a 
   pub decode : List ℕ → Row
 
 abbrev pub asNumbers : Layout  -- four numbers a row
-asNumbers = record {
-  width = 4;
-  encode = λ r. r .kind ∷ r .place ∷ r .first ∷ r .second ∷ [];
-  decode = λ l. row (getD l 0 0) (getD l 1 0) (getD l 2 0) (getD l 3 0);
-}
+asNumbers = record { width = 4; encode = λ r. r .kind ∷ r .place ∷ r .first ∷ r .second ∷ []; decode = λ l. row (getD l 0 0) (getD l 1 0) (getD l 2 0) (getD l 3 0) }
 
 abbrev pub asBytes : Layout  -- from C: eight big-endian bytes a number
 asBytes = record {
