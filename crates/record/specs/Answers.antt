@@ -27,9 +27,6 @@ abbrev pub putMany : Put → ℕ → Put  -- n of them
 putMany f zero c r = Spelled [] r c
 putMany f (suc n) c r = putThen f (putMany f n) c r
 
-abbrev pub putNothing : Put
-putNothing c r = Spelled [] r c
-
 abbrev pub putBytes : Option (List ℕ) → Put  -- bytes that stand for no item of their own
 putBytes none c r = NoRecord
 putBytes (some w) c r = Spelled w r c
@@ -114,9 +111,9 @@ module _ (ℓ : Ceilings) (openFrom : ℕ) where
   -- a value with no definition before it, after its item; `below` puts the values in it, where one more container may open
   unfoldable pub putPlainBy : Option Put → Value → Put
   putPlainBy below (Leaf x) = putBytes (shortestScalar x)
-  putPlainBy below (UntypedList n) = putContainer below (λ g. putList openFrom 0x78 0x58 0x57 n putNothing (putMany g n))
+  putPlainBy below (UntypedList n) = putContainer below (λ g. putList openFrom 0x78 0x58 0x57 n (putBytes (some [])) (putMany g n))
   putPlainBy below (TypedList n t) = putContainer below (λ g. putList openFrom 0x70 0x56 0x55 n (putType ℓ t) (putMany g n))
-  putPlainBy below (UntypedMap n) = putContainer below (λ g. putOpen 0x48 putNothing (putMany (putThen g g) n))
+  putPlainBy below (UntypedMap n) = putContainer below (λ g. putOpen 0x48 (putBytes (some [])) (putMany (putThen g g) n))
   putPlainBy below (TypedMap n t) = putContainer below (λ g. putOpen 0x4d (putType ℓ t) (putMany (putThen g g) n))
   putPlainBy below (Object k n) = λ c r. putIf (eqb (getD (c .classes) k 0) n && ltb k (length (c .classes))) (putContainer below (λ g. putThen (putBytes (objectCode k)) (putMany g n))) c r
   putPlainBy below (Reference k) = λ c r. putIf (ltb k (c .references)) (putBytes (codeThen 0x51 (shortestInt k))) c r

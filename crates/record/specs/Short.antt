@@ -16,7 +16,7 @@ use Rattle.scalar.specs.ScalarLaws.{scalar-short, int-short, int-some, small-co
 use Rattle.record.specs.Records.{Value, UntypedList, TypedList, UntypedMap, TypedMap, Object, Reference, Item, Val, Definition, ClassName, FieldName, TypeName, TypeNumber, Known, opened, typed, defined, Ceilings}
 use Rattle.record.specs.Grammar.{NameForm, a-name, TypeForm, type-name, type-number, PairForm, a-pair, DefinitionForm, a-definition, PlainForm, a-leaf, a-few, a-counted, an-open, a-few-typed, a-counted-typed, an-open-typed, a-map, a-typed-map, a-few-object, an-object, a-reference, ValueForm, Message}
 use Rattle.record.specs.Shorthands.{Nowhere}
-use Rattle.record.specs.Answers.{Spelled, Put, putThen, putMany, putBytes, putNothing, putCode, className?, fieldName?, putName, putList, putOpen, codeThen, objectCode, putContainer, putIf, putType, putPlainBy, putPlain, putDefined, putDefinition, putPreceded, putPrecededBy, putValue, spell}
+use Rattle.record.specs.Answers.{Spelled, Put, putThen, putMany, putBytes, putCode, className?, fieldName?, putName, putList, putOpen, codeThen, objectCode, putContainer, putIf, putType, putPlainBy, putPlain, putDefined, putDefinition, putPreceded, putPrecededBy, putValue, spell}
 
 -- of these items, whatever follows, g makes at most n bytes
 record Spells (g : Put) (c : Known) (is : List Item) (n : ℕ) (c′ : Known) : Type 0 where
@@ -59,7 +59,7 @@ bytes-spell o h = record { spells = λ rest. (h .0, rw (h .1) refl, h .2) }
 code-spells : (b : ℕ) {c : Known} → Spells (putCode b) c [] 1 c
 code-spells b = record { spells = λ rest. (b ∷ [], refl, omega arith) }
 
-nothing-spells : {c : Known} → Spells putNothing c [] 0 c
+nothing-spells : {c : Known} → Spells (putBytes (some [])) c [] 0 c
 nothing-spells = record { spells = λ rest. ([], refl, omega arith) }
 
 if-spells : (t : Bool) {g : Put} {c c′ : Known} {is : List Item} {n : ℕ} → t ≡ true → Spells g c is n c′ → Spells (putIf t g) c is n c′
@@ -141,7 +141,7 @@ module _ (ℓ : Ceilings) (openFrom : ℕ) (most : openFrom ≤ 48) where
       -- whatever its form in the message, a list, map or object of so many bytes at least
       listed : {n : ℕ} {c c′ : Known} {v : List ℕ} {js : List Item} {m : ℕ} → T room → Many G n (opened c) v js c′ → 2 + length v ≤ m → PlainSpells c (UntypedList n) js m c′
       unfolding putPlainBy
-      listed {n} r y l = at-most (val (holds (λ g. putList openFrom 0x78 0x58 0x57 n putNothing (putMany g n)) r (λ g hg. list-spells 0x78 0x58 0x57 n nothing-spells (many-spells hg y)))) (omega arith)
+      listed {n} r y l = at-most (val (holds (λ g. putList openFrom 0x78 0x58 0x57 n (putBytes (some [])) (putMany g n)) r (λ g hg. list-spells 0x78 0x58 0x57 n nothing-spells (many-spells hg y)))) (omega arith)
 
       typed-listed : {n t : ℕ} {c c₁ c′ : Known} {u v : List ℕ} {is js : List Item} {m : ℕ} → T room → TypeForm ℓ (opened c) u t is c₁ → Many G n c₁ v js c′ → 2 + (length u + length v) ≤ m
           → PlainSpells c (TypedList n t) (is ++ js) m c′
@@ -158,7 +158,7 @@ module _ (ℓ : Ceilings) (openFrom : ℕ) (most : openFrom ≤ 48) where
 
       mapped : {n : ℕ} {c c′ : Known} {w : List ℕ} {js : List Item} → T room → Ended 0x5a (PairForm G) n (opened c) w js c′ → PlainSpells c (UntypedMap n) js (suc (length w)) c′
       unfolding putPlainBy
-      mapped {n} r (ended {v = v} y) = at-most (val (holds (λ g. putOpen 0x48 putNothing (putMany (putThen g g) n)) r
+      mapped {n} r (ended {v = v} y) = at-most (val (holds (λ g. putOpen 0x48 (putBytes (some [])) (putMany (putThen g g) n)) r
           (λ g hg. map-spells 0x48 nothing-spells (many-spells (pair-spells hg) y)))) (omega (arith, length-append v (0x5a ∷ [])))
 
       typed-mapped : {n t : ℕ} {c c₁ c′ : Known} {u w : List ℕ} {is js : List Item} → T room → TypeForm ℓ (opened c) u t is c₁ → Ended 0x5a (PairForm G) n c₁ w js c′
@@ -192,7 +192,7 @@ module _ (ℓ : Ceilings) (openFrom : ℕ) (most : openFrom ≤ 48) where
           (val (holds (λ g. putList openFrom 0x70 0x56 0x55 n (putType ℓ t) (putMany g n)) r (λ g hg. few-spells 0x70 0x56 0x55 n (type-spells q) (many-spells hg y) l))) (omega (arith, length-append u v))
       plain-spells (a-counted-typed {u = u} {v = v} {w = x} r q i l y) = typed-listed r q y (omega (arith, length-append u (v ++ x), length-append v x, int-some i))
       plain-spells (an-open-typed r q y) = typed-open-listed r q y
-      plain-spells (a-few {n = n} r l y) = at-most (val (holds (λ g. putList openFrom 0x78 0x58 0x57 n putNothing (putMany g n)) r
+      plain-spells (a-few {n = n} r l y) = at-most (val (holds (λ g. putList openFrom 0x78 0x58 0x57 n (putBytes (some [])) (putMany g n)) r
           (λ g hg. few-spells 0x78 0x58 0x57 n nothing-spells (many-spells hg y) l))) (omega arith)
       plain-spells (a-counted {u = u} {v = v} r i l y) = listed r y (omega (arith, length-append u v, int-some i))
       plain-spells (an-open r y) = open-listed r y

@@ -11,7 +11,7 @@ use lib.ListN.{length, getD}
 use borrow.Author.Tests.{lt-ltb, le-ltb}
 use Rattle.scalar.specs.Scalars.{Scalar, shortestScalar, shortestInt}
 use Rattle.record.specs.Records.{Value, Leaf, UntypedList, TypedList, UntypedMap, TypedMap, Object, Reference, Item, Val, Known, opened, Ceilings}
-use Rattle.record.specs.Answers.{Put, putThen, putMany, putNothing, putBytes, putCode, putIf, value?, putOpen, putList, codeThen, objectCode, putContainer, putType, putPlainBy, putPlain}
+use Rattle.record.specs.Answers.{Put, putThen, putMany, putBytes, putCode, putIf, value?, putOpen, putList, codeThen, objectCode, putContainer, putType, putPlainBy, putPlain}
 use Rattle.record.specs.Walked.{At, End, at-within, Walked, Over, Stuck, walk, behind, onOver, behind-behind, Drops, walk-then, walk-bytes, walk-none, walk-if, walk-unless, walk-if-none, walk-item, walk-other, walk-over, walk-same, walk-first, walk-first-none}
 
 -- ---- a list of n elements: its type, if it has one, takes the bytes w and goes on at e
@@ -180,7 +180,7 @@ module _ (ℓ : Ceilings) (openFrom : ℕ) (below : Option Put) (c : Known) (is 
         container-is x q = plain-is ∙ ap (λ (o : Option Put). walk (putPlainBy ℓ openFrom o v) c is (suc k)) b ∙ ap (λ (v : Value). walk (putPlainBy ℓ openFrom (some g) v) c is (suc k)) q
 
         -- a list of n elements
-        pub plain-list : (n : ℕ) → v ≡ UntypedList n → Here ≡ walk (putList openFrom 0x78 0x58 0x57 n putNothing (putMany g n)) (opened c) is (suc k)
+        pub plain-list : (n : ℕ) → v ≡ UntypedList n → Here ≡ walk (putList openFrom 0x78 0x58 0x57 n (putBytes (some [])) (putMany g n)) (opened c) is (suc k)
         unfolding putPlainBy walk
         plain-list n q = container-is (UntypedList n) q
 
@@ -189,7 +189,7 @@ module _ (ℓ : Ceilings) (openFrom : ℕ) (below : Option Put) (c : Known) (is 
         plain-typed-list n t q = container-is (TypedList n t) q
 
         -- a map of n pairs
-        pub plain-map : (n : ℕ) → v ≡ UntypedMap n → Here ≡ walk (putOpen 0x48 putNothing (putMany (putThen g g) n)) (opened c) is (suc k)
+        pub plain-map : (n : ℕ) → v ≡ UntypedMap n → Here ≡ walk (putOpen 0x48 (putBytes (some [])) (putMany (putThen g g) n)) (opened c) is (suc k)
         unfolding putPlainBy walk
         plain-map n q = container-is (UntypedMap n) q
 

@@ -14,7 +14,7 @@ use Rattle.scalar.specs.declared.texts.Kind.{Kind}
 use Rattle.scalar.specs.Scalars.{units, stringAt, shortestString, shortestInt, sortKind, Form, form, formsOf}
 use Rattle.record.specs.declared.Contents.{Contents}
 use Rattle.record.specs.Records.{Item, Definition, Known, Row, row, told}
-use Rattle.record.specs.Answers.{putThen, putMany, putNothing, putBytes, putIf, className?, fieldName?, putName, putOpen, putList, objectCode, putType, putDefinition, putPlain, putValue, base, WriteAnswer, shortestOf, answeredTo, asNumbers, asBytes, rowsOf, reportWritten, outputWritten}
+use Rattle.record.specs.Answers.{putThen, putMany, putBytes, putIf, className?, fieldName?, putName, putOpen, putList, objectCode, putType, putDefinition, putPlain, putValue, base, WriteAnswer, shortestOf, answeredTo, asNumbers, asBytes, rowsOf, reportWritten, outputWritten}
 use Rattle.record.specs.Answers as spelling
 use Rattle.record.specs.Claimed.{itemAt}
 use Rattle.record.specs.Walked.{claimed, At, End, Walked, Over, Stuck, walk, behind, Drops}
@@ -170,7 +170,7 @@ pub record StepMet (o : Walked) (is : List Item) (from s : ℕ) (out : List ℕ)
 -- of a typed list or map, whose type number is t; of another
 abbrev pub typeBy : Bool → ℕ → spelling.Put
 typeBy true t = putType base t
-typeBy false t = putNothing
+typeBy false t = putBytes (some [])
 
 -- the type that the row r gives
 pub record TypeRowMet (source : List ℕ) (r : RowRead) (t : ℕ) (ks out : List ℕ) (s : ℕ) (p : Put) (ks′ out′ : List ℕ) : Type 0 where
