@@ -174,11 +174,8 @@ abbrev pub rows : List (Entry Item) → List Row  -- the rows of a record, in me
 rows es = map (λ (e : Entry Item). itemRow (e .place) (e .item)) es
 
 -- ---- what the rows of a table claim: the items whose rows they are, with the contents that their places open in the source
-abbrev pub scalarContent : Scalar → List ℕ
-scalarContent x = elim x [ Num s v ↦ [] | Str k cs ↦ cs ]
-
 abbrev pub valueContent : Value → List ℕ
-valueContent v = elim v [ Leaf x ↦ scalarContent x | UntypedList n ↦ [] | TypedList n t ↦ [] | UntypedMap n ↦ [] | TypedMap n t ↦ [] | Object k n ↦ [] | Reference k ↦ [] ]
+valueContent v = elim v [ Leaf x ↦ elim x [ Num s n ↦ [] | Str k cs ↦ cs ] | UntypedList n ↦ [] | TypedList n t ↦ [] | UntypedMap n ↦ [] | TypedMap n t ↦ [] | Object k n ↦ [] | Reference k ↦ [] ]
 
 -- an item's content: a text's or name's characters in UTF-8, a byte string's bytes
 abbrev pub contentOf : Item → List ℕ
