@@ -10,8 +10,8 @@ use Rattle.flow.specs.Tests.{skip, pick-true, pick-false, pick-either, within-i
 use Rattle.flow.specs.Flow.{pick, within, One, mapped, headed, many, untilEnd}
 use Rattle.scalar.specs.Scalars.{ranges, rangeOf, leadOf, kindOf, scalarFrom}
 use Rattle.scalar.specs.ScalarLaws.{isScalar}
-use Rattle.record.specs.Records.{Leaf, UntypedList, TypedList, UntypedMap, TypedMap, Object, Reference, Val, Ceilings, Opening, int, count, referenceTo, Reader, container, fieldValues, pair, withType, plainFrom}
-use Rattle.record.specs.Shorthands.{with-two}
+use Rattle.record.specs.Records.{Leaf, UntypedList, TypedList, UntypedMap, TypedMap, Object, Reference, Val, Ceilings, Opening, int, count, Reader, container, fieldValues, pair, withType, plainFrom}
+use Rattle.record.specs.Shorthands.{with-two, referenceTo}
 
 pub data Form : Type 0 where  -- the first byte of a value
   leaf : Form  -- a scalar; also what opens nothing: 5a, the reserved bytes, and 43, which the definitions before a value take

@@ -64,12 +64,6 @@ count g = int (λ o n. cond (ltb n (2 ^ 63)) (g o n) (fail 5 o))
 abbrev pub name : (List ℕ → Item) → Opening One  -- a text, as the item x
 name x p b = headed p x (textFrom p b)
 
-abbrev pub typeNumber : ℕ → ℕ → Reader ℕ  -- the type of number k, whose int stands at p: an ungiven one is refusal 6 there
-typeNumber p k = asking (λ c. cond (ltb k (c .types)) (mapped (λ u. k) (headed p TypeNumber (give k))) (fail 6 p))
-
-abbrev pub referenceTo : ℕ → ℕ → Reader ℕ  -- the reference number k, of the reference at p: an ungiven one is refusal 6 there
-referenceTo p k = asking (λ c. cond (ltb k (c .references)) (give k) (fail 6 p))
-
 -- a list, map or object whose opening code stands at p: refusal 7 there where no more may open, before all else about it
 abbrev pub container : Option (Opening One) → ℕ → (Opening One → Reader One) → Reader One
 container none p body = fail 7 p
@@ -90,8 +84,8 @@ module _ (ℓ : Ceilings) where
   abbrev pub typeName : Opening ℕ  -- a type name after its first byte b, at p, and the number that it gets: one too many is refusal 7 there
   typeName p b = asking (λ c. cond (ltb (c .types) (ℓ .types)) (mapped (λ u. c .types) (changing typed (name TypeName p b))) (fail 7 p))
 
-  unfoldable pub typeFrom : Opening ℕ  -- a type, and its number: a text, or an int
-  typeFrom p b = cond (isText b) (typeName p b) (bind (intFrom p b) (typeNumber p))
+  unfoldable pub typeFrom : Opening ℕ  -- a type, and its number: a text, or an int, where an ungiven number is refusal 6 at p
+  typeFrom p b = cond (isText b) (typeName p b) (bind (intFrom p b) (λ k. asking (λ c. cond (ltb k (c .types)) (mapped (λ u. k) (headed p TypeNumber (give k))) (fail 6 p))))
 
   abbrev pub withType : {A : Type 0} → (ℕ → Reader A) → Reader A  -- a type, and then what its number says
   withType g = bind (byteAt typeFrom) g
@@ -110,7 +104,7 @@ module _ (ℓ : Ceilings) where
       (pick (eqb b 0x48) (container below p (λ f. headed p (λ n. Val (UntypedMap n)) (untilEnd 0x5a (pair f))))
       (pick (within 0x60 0x70 b) (container below p (λ f. headed p (λ n. Val (Object (b - 0x60) n)) (fieldValues f p (b - 0x60))))
       (pick (eqb b 0x4f) (container below p (λ f. headed p (λ (x : ℕ × ℕ). Val (Object (x .0) (x .1))) (int (λ o k. mapped (λ n. (k, n)) (fieldValues f p k)))))
-      (pick (eqb b 0x51) (headed p (λ k. Val (Reference k)) (int (λ o. referenceTo p)))
+      (pick (eqb b 0x51) (headed p (λ k. Val (Reference k)) (int (λ o k. asking (λ c. cond (ltb k (c .references)) (give k) (fail 6 p)))))
       (headed p (λ x. Val (Leaf x)) (scalarFrom p b))))))))))))
 
   -- the field names of a class, whose count n stands at o: too many are refusal 7 there. The class number is given when they are read

@@ -1,8 +1,10 @@
 -- Shorthands for proofs.
-use mathlib.Core.List.{List, _++_}
+use mathlib.Core.{Bool.cond, List.List, List._++_}
 use Prim.Native.Nat.{ℕ}
+use lib.Dec.{ltb}
+use Rattle.flow.specs.Flow.{give, fail, asking, mapped, headed}
 use Rattle.flow.specs.Grammar.{Phrase}
-use Rattle.record.specs.Records.{Item, Known}
+use Rattle.record.specs.Records.{Item, TypeNumber, Known, Reader}
 use Rattle.record.specs.Answers.{Spelling, Spelled, onSpelled}
 
 -- two results
@@ -19,3 +21,11 @@ prefixed front o = onSpelled o (λ w r c. Spelled (front ++ w) r c)
 -- the values where no container may open
 abbrev pub Nowhere : Phrase Known Item
 Nowhere c w is c′ = ⊥
+
+-- the type of number k, whose int stands at p
+abbrev pub typeNumber : ℕ → ℕ → Reader ℕ
+typeNumber p k = asking (λ c. cond (ltb k (c .types)) (mapped (λ u. k) (headed p TypeNumber (give k))) (fail 6 p))
+
+-- the reference number k, of the reference at p
+abbrev pub referenceTo : ℕ → ℕ → Reader ℕ
+referenceTo p k = asking (λ c. cond (ltb k (c .references)) (give k) (fail 6 p))
