@@ -13,7 +13,7 @@ use Rattle.record.specs.Grammar.{Message}
 use Rattle.record.specs.Claimed.{all-claimed}
 use Rattle.record.specs.Answers.{ReadAnswer, Accept, Refuse, read, base, shortestOf, asBytes, lentRows, rowsOf, reportRead, filled}
 use Rattle.record.specs.Terms.{Has}
-use Rattle.record.specs.Records as reading
+use Rattle.record.specs.Terms as reading
 use Rattle.record.specs.Same.{SameRecord, same-exactly, one-message}
 use Rattle.record.specs.TableLaws.{bytes-sized}
 use Rattle.record.specs.Meaning.{reads-derived, derived-reads}

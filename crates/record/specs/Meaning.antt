@@ -12,7 +12,8 @@ use Rattle.flow.specs.Tests.{bytes-append}
 use Rattle.flow.specs.Steps.{before}
 use Rattle.flow.specs.Laws.{Parsed, byte-reads, leads-byte}
 use Rattle.scalar.specs.ScalarLaws.{scalar-bytes, int-bytes, text-bytes}
-use Rattle.record.specs.Records.{Item, FieldName, Known, start, Ceilings, valueFrom, ending, message, Accepted, Reads}
+use Rattle.record.specs.Records.{Item, FieldName, Known, start, Ceilings, valueFrom, ending, message}
+use Rattle.record.specs.Terms.{Accepted, Reads}
 use Rattle.record.specs.Grammar.{NameForm, a-name, TypeForm, type-name, type-number, PairForm, a-pair, DefinitionForm, a-definition, PlainForm, a-leaf, a-few, a-counted, an-open, a-few-typed, a-counted-typed, an-open-typed, a-map, a-typed-map, a-few-object, an-object, a-reference, ValueForm, Message}
 use Rattle.record.specs.Shorthands.{Nowhere}
 use Rattle.record.specs.Parses.{value-reads}

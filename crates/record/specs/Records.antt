@@ -2,7 +2,7 @@
 use mathlib.Core.{Path._≡_, Bool.cond, Bool._||_, List.List, List.[], List._∷_, List._++_, List.map, Option.Option, Option.none, Option.some}
 use Prim.Native.Nat.{ℕ, zero, suc, _-_, _^_}
 use lib.{Dec.ltb, Dec.eqb, ListN.length, ListN.getD}
-use Rattle.flow.specs.Flow.{pick, within, Bytes, Entry, Outcome, Done, Fault, Read, From, One, items, give, fail, byteAt, changing, asking, mapped, headed, bind, after, many, untilEnd, precededBy}
+use Rattle.flow.specs.Flow.{pick, within, Entry, Outcome, Done, Fault, Read, From, One, give, fail, byteAt, changing, asking, mapped, headed, bind, after, many, untilEnd, precededBy}
 use Rattle.scalar.specs.declared.texts.Kind.{the-variants.Utf8, the-variants.Binary}
 use Rattle.scalar.specs.Scalars.{sortKind, units, stringAt, Scalar, Num, Str, isText, scalarFrom, intFrom, textFrom}
 
@@ -121,14 +121,6 @@ module _ (ℓ : Ceilings) where
   unfoldable pub message : ℕ → Reader One  -- a message: one record, and nothing after it
   message d = after (byteAt (valueFrom d)) ending
 
-abbrev pub Accepted : {A : Type 0} → List Item → Outcome Known Item A → Type 0
-Accepted r (Done n u es c) = items es ≡ r
-Accepted r (Fault x o) = ⊥
-
-pub record Reads (ℓ : Ceilings) (d : ℕ) (m : List ℕ) (r : List Item) : Type 0 where  -- the message m, of bytes, is read, all of it, as the items r
-  pub bytes : Bytes m
-  pub accepted : Accepted r (message ℓ d start 0 m)
-
 -- ---- rows: kind, place, first, second. An unused first or second is 0
 pub record Row : Type 0 where
   pub kind : ℕ
@@ -142,22 +134,17 @@ row k p a b = record { kind = k; place = p; first = a; second = b }
 abbrev pub textRow : ℕ → ℕ → List ℕ → Row  -- a text's row, of the kind k: UTF-16 units, UTF-8 bytes
 textRow k p cs = row k p (units Utf8 cs) (length cs)
 
-abbrev pub scalarRow : ℕ → Scalar → Row  -- 0 null, 1 false, 2 true, 3 int, 4 long, 5 double, 6 date: first is the value; 7 text, 8 bytes
-scalarRow p (Num s v) = row (sortKind s) p v 0
-scalarRow p (Str Utf8 cs) = textRow 7 p cs
-scalarRow p (Str Binary cs) = row 8 p (length cs) 0
-
-abbrev pub valueRow : ℕ → Value → Row
-valueRow p (Leaf x) = scalarRow p x
-valueRow p (UntypedList n) = row 9 p n 0
-valueRow p (TypedList n t) = row 10 p n t
-valueRow p (UntypedMap n) = row 11 p n 0
-valueRow p (TypedMap n t) = row 12 p n t
-valueRow p (Object k n) = row 13 p k n
-valueRow p (Reference k) = row 14 p k 0
-
-abbrev pub itemRow : ℕ → Item → Row  -- the row of an item whose first byte stands at p
-itemRow p (Val v) = valueRow p v
+-- the row of an item whose first byte stands at p. A scalar's kind: 0 null, 1 false, 2 true, 3 int, 4 long, 5 double, 6 date, 7 text, 8 bytes
+abbrev pub itemRow : ℕ → Item → Row
+itemRow p (Val (Leaf (Num s v))) = row (sortKind s) p v 0
+itemRow p (Val (Leaf (Str Utf8 cs))) = textRow 7 p cs
+itemRow p (Val (Leaf (Str Binary cs))) = row 8 p (length cs) 0
+itemRow p (Val (UntypedList n)) = row 9 p n 0
+itemRow p (Val (TypedList n t)) = row 10 p n t
+itemRow p (Val (UntypedMap n)) = row 11 p n 0
+itemRow p (Val (TypedMap n t)) = row 12 p n t
+itemRow p (Val (Object k n)) = row 13 p k n
+itemRow p (Val (Reference k)) = row 14 p k 0
 itemRow p (Definition n) = row 15 p n 0
 itemRow p (ClassName cs) = textRow 16 p cs
 itemRow p (FieldName cs) = textRow 17 p cs

@@ -2,9 +2,17 @@
 use mathlib.Core.{Path._≡_, List.List}
 use Prim.Native.Nat.{ℕ}
 use lib.ListN.{length}
-use Rattle.flow.specs.Flow.{Entry, Done, items}
-use Rattle.record.specs.Records.{Item, Known, Ceilings, Reads, Row, ClaimAll}
+use Rattle.flow.specs.Flow.{Bytes, Entry, Outcome, Done, Fault, items}
+use Rattle.record.specs.Records.{Item, Known, start, Ceilings, message, Row, ClaimAll}
 use Rattle.record.specs.Answers.{judged, WriteAnswer, shortestOf, answeredTo}
+
+abbrev pub Accepted : {A : Type 0} → List Item → Outcome Known Item A → Type 0
+Accepted r (Done n u es c) = items es ≡ r
+Accepted r (Fault x o) = ⊥
+
+pub record Reads (ℓ : Ceilings) (d : ℕ) (m : List ℕ) (r : List Item) : Type 0 where  -- the message m, of bytes, is read, all of it, as the items r
+  pub bytes : Bytes m
+  pub accepted : Accepted r (message ℓ d start 0 m)
 
 -- none of refusals 1 to 8 is given for the message m, which reads as the items r
 pub record Accepts (ℓ : Ceilings) (d longest : ℕ) (m : List ℕ) (r : List Item) : Type 0 where
