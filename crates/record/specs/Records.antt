@@ -81,17 +81,16 @@ ending c at [] = Done 0 tt [] c
 ending c at (b ∷ s) = Fault 8 at
 
 module _ (ℓ : Ceilings) where
-  abbrev pub typeName : Opening ℕ  -- a type name after its first byte b, at p, and the number that it gets: one too many is refusal 7 there
-  typeName p b = asking (λ c. cond (ltb (c .types) (ℓ .types)) (mapped (λ u. c .types) (changing typed (name TypeName p b))) (fail 7 p))
-
-  unfoldable pub typeFrom : Opening ℕ  -- a type, and its number: a text, or an int, where an ungiven number is refusal 6 at p
-  typeFrom p b = cond (isText b) (typeName p b) (bind (intFrom p b) (λ k. asking (λ c. cond (ltb k (c .types)) (mapped (λ u. k) (headed p TypeNumber (give k))) (fail 6 p))))
+  -- a type, and its number: a text gets the next one, and one too many is refusal 7 at p; an int names one, and an ungiven one is refusal 6 there
+  unfoldable pub typeFrom : Opening ℕ
+  typeFrom p b = cond (isText b) (asking (λ c. cond (ltb (c .types) (ℓ .types)) (mapped (λ u. c .types) (changing typed (name TypeName p b))) (fail 7 p)))
+      (bind (intFrom p b) (λ k. asking (λ c. cond (ltb k (c .types)) (mapped (λ u. k) (headed p TypeNumber (give k))) (fail 6 p))))
 
   abbrev pub withType : {A : Type 0} → (ℕ → Reader A) → Reader A  -- a type, and then what its number says
   withType g = bind (byteAt typeFrom) g
 
   -- a value with no definition before it, after its first byte b, at p: the containers and the reference of 01's table of first bytes, in its order; else a
-  -- scalar, so that 5a, the reserved bytes and 43 are refusal 3. `below` reads the values in it, where one more container may open
+  -- scalar, so that 5a, the reserved bytes and 43 are refusal 3. `below` reads the values in it, where one more container may open; an ungiven reference is refusal 6 at p
   unfoldable pub plainFrom : Option (Opening One) → Opening One
   plainFrom below p b =
       pick (within 0x70 0x78 b) (container below p (λ f. headed p (λ t. Val (TypedList (b - 0x70) t)) (withType (λ t. mapped (λ u. t) (many f (b - 0x70))))))
