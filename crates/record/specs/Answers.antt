@@ -66,18 +66,12 @@ putList openFrom few counted opening n q body = cond (ltb n 8) (putThen (putCode
     (cond (ltb n openFrom) (putThen (putCode counted) (putThen q (putThen (putBytes (shortestInt n)) body)))
     (putOpen opening q body))
 
-abbrev pub codeThen : ℕ → Option (List ℕ) → Option (List ℕ)
-codeThen b o = onSome (λ w. some (b ∷ w)) o
-
 unfoldable pub objectCode : ℕ → Option (List ℕ)  -- an object of class k: 60-6f for classes 0-15
-objectCode k = cond (ltb k 16) (some ((0x60 + k) ∷ [])) (codeThen 0x4f (shortestInt k))
+objectCode k = cond (ltb k 16) (some ((0x60 + k) ∷ [])) (onSome (λ w. some (0x4f ∷ w)) (shortestInt k))
 
 abbrev pub putContainer : Option Put → (Put → Put) → Put  -- a list, map or object, where one more may open
 putContainer none body c r = NoRecord
 putContainer (some g) body c r = body g (opened c) r
-
-abbrev pub putDefined : ℕ → Put  -- a class of n fields gets its number
-putDefined n c r = Spelled [] r (defined n c)
 
 abbrev pub complete : Spelling → Option (List ℕ)  -- no item is left
 complete (Spelled w [] c) = some w
@@ -94,18 +88,16 @@ module _ (ℓ : Ceilings) where
   putType t c (TypeName cs ∷ r) = putIf (eqb (c .types) t && ltb (c .types) (ℓ .types)) (λ c r. putBytes (shortestText cs) (typed c) r) c r
   putType t c (TypeNumber k ∷ r) = putIf (eqb k t && ltb k (c .types)) (putBytes (shortestInt k)) c r
 
-  unfoldable pub putDefinition : Put  -- a class definition
+  unfoldable pub putDefinition : Put  -- a class definition, which gets its number at its end
   putDefinition = putItem definition? (λ n c r. putIf (ltb (length (c .classes)) (ℓ .classes) && (ltb n (2 ^ 63) && leb n (ℓ .fields)))
-      (putThen (putCode 0x43) (putThen (putName className?) (putThen (putBytes (shortestInt n)) (putThen (putMany (putName fieldName?) n) (putDefined n))))) c r)
+      (putThen (putCode 0x43) (putThen (putName className?) (putThen (putBytes (shortestInt n))
+      (putThen (putMany (putName fieldName?) n) (λ c r. Spelled [] r (defined n c)))))) c r)
 
   -- class definitions, and then a value. The number only bounds the recursion: a definition is at least an item
   abbrev pub putPreceded : ℕ → Put → Put
   putPreceded zero g c r = g c r
   putPreceded (suc k) g c [] = g c []
   putPreceded (suc k) g c (x ∷ r) = elim (definition? x) [ none ↦ g c (x ∷ r) | some n ↦ putThen putDefinition (putPreceded k g) c (x ∷ r) ]
-
-  abbrev pub putPrecededBy : Put → Put
-  putPrecededBy g c r = putPreceded (length r) g c r
 
 module _ (ℓ : Ceilings) (openFrom : ℕ) where
   -- a value with no definition before it, after its item; `below` puts the values in it, where one more container may open
@@ -116,14 +108,14 @@ module _ (ℓ : Ceilings) (openFrom : ℕ) where
   putPlainBy below (UntypedMap n) = putContainer below (λ g. putOpen 0x48 (putBytes (some [])) (putMany (putThen g g) n))
   putPlainBy below (TypedMap n t) = putContainer below (λ g. putOpen 0x4d (putType ℓ t) (putMany (putThen g g) n))
   putPlainBy below (Object k n) = λ c r. putIf (eqb (getD (c .classes) k 0) n && ltb k (length (c .classes))) (putContainer below (λ g. putThen (putBytes (objectCode k)) (putMany g n))) c r
-  putPlainBy below (Reference k) = λ c r. putIf (ltb k (c .references)) (putBytes (codeThen 0x51 (shortestInt k))) c r
+  putPlainBy below (Reference k) = λ c r. putIf (ltb k (c .references)) (putBytes (onSome (λ w. some (0x51 ∷ w)) (shortestInt k))) c r
 
   unfoldable pub putPlain : Option Put → Put
   putPlain below = putItem value? (putPlainBy below)
 
   unfoldable pub putValue : (allowance : ℕ) → Put  -- class definitions, and then a value; `allowance` more containers may open
-  putValue zero = putPrecededBy ℓ (putPlain none)
-  putValue (suc d) = putPrecededBy ℓ (putPlain (some (putValue d)))
+  putValue zero = λ c r. putPreceded ℓ (length r) (putPlain none) c r
+  putValue (suc d) = λ c r. putPreceded ℓ (length r) (putPlain (some (putValue d))) c r
 
   unfoldable pub spell : ℕ → List Item → Option (List ℕ)  -- the shortest message of the record r, or none
   spell d r = complete (putValue d start r)

@@ -8,7 +8,8 @@ use lib.Dec.{ltb, eqb, leb}
 use lib.ListN.{length, getD}
 use Rattle.scalar.specs.Scalars.{shortestScalar, shortestInt, shortestText}
 use Rattle.record.specs.Records.{Value, Leaf, UntypedList, TypedList, UntypedMap, TypedMap, Object, Reference, Item, Val, Definition, ClassName, FieldName, TypeName, TypeNumber, Known, opened, typed, Ceilings}
-use Rattle.record.specs.Answers.{Put, putThen, putMany, putBytes, putCode, putIf, value?, definition?, className?, fieldName?, putName, putOpen, putList, codeThen, objectCode, putContainer, putDefined, putType, putDefinition, putPreceded, putPlainBy, putPlain, putValue}
+use Rattle.record.specs.Answers.{Put, putThen, putMany, putBytes, putCode, putIf, value?, definition?, className?, fieldName?, putName, putOpen, putList, objectCode, putContainer, putType, putDefinition, putPreceded, putPlainBy, putPlain, putValue}
+use Rattle.record.specs.Shorthands.{codeThen, putDefined}
 use Rattle.record.specs.Walked.{Dropped, Drops, then-drops, many-drops, bytes-drops, if-drops, item-drops}
 
 pub name-drops : (part : Item → Option (List ℕ)) → Drops (putName part)

@@ -15,8 +15,8 @@ use Rattle.scalar.specs.Scalars.{shortestScalar, shortestInt, shortestText}
 use Rattle.scalar.specs.ScalarLaws.{scalar-short, int-short, int-some, small-count, text-short}
 use Rattle.record.specs.Records.{Value, UntypedList, TypedList, UntypedMap, TypedMap, Object, Reference, Item, Val, Definition, ClassName, FieldName, TypeName, TypeNumber, Known, opened, typed, defined, Ceilings}
 use Rattle.record.specs.Grammar.{NameForm, a-name, TypeForm, type-name, type-number, PairForm, a-pair, DefinitionForm, a-definition, PlainForm, a-leaf, a-few, a-counted, an-open, a-few-typed, a-counted-typed, an-open-typed, a-map, a-typed-map, a-few-object, an-object, a-reference, ValueForm, Message}
-use Rattle.record.specs.Shorthands.{Nowhere}
-use Rattle.record.specs.Answers.{Spelled, Put, putThen, putMany, putBytes, putCode, className?, fieldName?, putName, putList, putOpen, codeThen, objectCode, putContainer, putIf, putType, putPlainBy, putPlain, putDefined, putDefinition, putPreceded, putPrecededBy, putValue, spell}
+use Rattle.record.specs.Shorthands.{Nowhere, codeThen, putDefined, putPrecededBy}
+use Rattle.record.specs.Answers.{Spelled, Put, putThen, putMany, putBytes, putCode, className?, fieldName?, putName, putList, putOpen, objectCode, putContainer, putIf, putType, putPlainBy, putPlain, putDefinition, putPreceded, putValue, spell}
 
 -- of these items, whatever follows, g makes at most n bytes
 record Spells (g : Put) (c : Known) (is : List Item) (n : ℕ) (c′ : Known) : Type 0 where

@@ -1,11 +1,12 @@
 -- Shorthands for proofs.
-use mathlib.Core.{Bool.cond, List.List, List._++_}
+use mathlib.Core.{Bool.cond, List.List, List.[], List._∷_, List._++_, Option.Option, Option.some}
 use Prim.Native.Nat.{ℕ}
-use lib.Dec.{ltb}
+use lib.{Dec.ltb, ListN.length}
 use Rattle.flow.specs.Flow.{give, fail, changing, asking, mapped, headed}
 use Rattle.flow.specs.Grammar.{Phrase}
-use Rattle.record.specs.Records.{Item, TypeName, TypeNumber, Known, typed, Ceilings, Reader, Opening, name}
-use Rattle.record.specs.Answers.{Spelling, Spelled, onSpelled}
+use Rattle.record.specs.Records.{Item, TypeName, TypeNumber, Known, typed, defined, Ceilings, Reader, Opening, name}
+use Rattle.record.specs.Answers.{Spelling, Spelled, Put, onSpelled, putPreceded}
+use Rattle.record.specs.Claimed.{onSome}
 
 -- two results
 abbrev pub Two : Type 0
@@ -33,3 +34,15 @@ typeNumber p k = asking (λ c. cond (ltb k (c .types)) (mapped (λ u. k) (headed
 -- the reference number k, of the reference at p
 abbrev pub referenceTo : ℕ → ℕ → Reader ℕ
 referenceTo p k = asking (λ c. cond (ltb k (c .references)) (give k) (fail 6 p))
+
+-- the byte b, and then bytes, if there are any
+abbrev pub codeThen : ℕ → Option (List ℕ) → Option (List ℕ)
+codeThen b o = onSome (λ w. some (b ∷ w)) o
+
+-- a class of n fields gets its number
+abbrev pub putDefined : ℕ → Put
+putDefined n c r = Spelled [] r (defined n c)
+
+-- class definitions, as many as there are, and then a value
+abbrev pub putPrecededBy : Ceilings → Put → Put
+putPrecededBy ℓ g c r = putPreceded ℓ (length r) g c r

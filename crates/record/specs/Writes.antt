@@ -11,7 +11,8 @@ use lib.ListN.{length, getD}
 use borrow.Author.Tests.{lt-ltb, le-ltb}
 use Rattle.scalar.specs.Scalars.{Scalar, shortestScalar, shortestInt}
 use Rattle.record.specs.Records.{Value, Leaf, UntypedList, TypedList, UntypedMap, TypedMap, Object, Reference, Item, Val, Known, opened, Ceilings}
-use Rattle.record.specs.Answers.{Put, putThen, putMany, putBytes, putCode, putIf, value?, putOpen, putList, codeThen, objectCode, putContainer, putType, putPlainBy, putPlain}
+use Rattle.record.specs.Answers.{Put, putThen, putMany, putBytes, putCode, putIf, value?, putOpen, putList, objectCode, putContainer, putType, putPlainBy, putPlain}
+use Rattle.record.specs.Shorthands.{codeThen}
 use Rattle.record.specs.Walked.{At, End, at-within, Walked, Over, Stuck, walk, behind, onOver, behind-behind, Drops, walk-then, walk-bytes, walk-none, walk-if, walk-unless, walk-if-none, walk-item, walk-other, walk-over, walk-same, walk-first, walk-first-none}
 
 -- ---- a list of n elements: its type, if it has one, takes the bytes w and goes on at e
