@@ -110,12 +110,9 @@ module _ (ℓ : Ceilings) (openFrom : ℕ) where
   putPlainBy below (Object k n) = λ c r. putIf (eqb (getD (c .classes) k 0) n && ltb k (length (c .classes))) (putContainer below (λ g. putThen (putBytes (objectCode k)) (putMany g n))) c r
   putPlainBy below (Reference k) = λ c r. putIf (ltb k (c .references)) (putBytes (onSome (λ w. some (0x51 ∷ w)) (shortestInt k))) c r
 
-  unfoldable pub putPlain : Option Put → Put
-  putPlain below = putItem value? (putPlainBy below)
-
   unfoldable pub putValue : (allowance : ℕ) → Put  -- class definitions, and then a value; `allowance` more containers may open
-  putValue zero = λ c r. putPreceded ℓ (length r) (putPlain none) c r
-  putValue (suc d) = λ c r. putPreceded ℓ (length r) (putPlain (some (putValue d))) c r
+  putValue zero = λ c r. putPreceded ℓ (length r) (putItem value? (putPlainBy none)) c r
+  putValue (suc d) = λ c r. putPreceded ℓ (length r) (putItem value? (putPlainBy (some (putValue d)))) c r
 
   unfoldable pub spell : ℕ → List Item → Option (List ℕ)  -- the shortest message of the record r, or none
   spell d r = complete (putValue d start r)

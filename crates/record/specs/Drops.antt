@@ -8,8 +8,8 @@ use lib.Dec.{ltb, eqb, leb}
 use lib.ListN.{length, getD}
 use Rattle.scalar.specs.Scalars.{shortestScalar, shortestInt, shortestText}
 use Rattle.record.specs.Records.{Value, Leaf, UntypedList, TypedList, UntypedMap, TypedMap, Object, Reference, Item, Val, Definition, ClassName, FieldName, TypeName, TypeNumber, Known, opened, typed, Ceilings}
-use Rattle.record.specs.Answers.{Put, putThen, putMany, putBytes, putCode, putIf, value?, definition?, className?, fieldName?, putName, putOpen, putList, objectCode, putContainer, putType, putDefinition, putPreceded, putPlainBy, putPlain, putValue}
-use Rattle.record.specs.Shorthands.{codeThen, putDefined}
+use Rattle.record.specs.Answers.{Put, putThen, putMany, putBytes, putCode, putIf, value?, definition?, className?, fieldName?, putName, putOpen, putList, objectCode, putContainer, putType, putDefinition, putPreceded, putPlainBy, putValue}
+use Rattle.record.specs.Shorthands.{codeThen, putDefined, putPlain}
 use Rattle.record.specs.Walked.{Dropped, Drops, then-drops, many-drops, bytes-drops, if-drops, item-drops}
 
 pub name-drops : (part : Item → Option (List ℕ)) → Drops (putName part)
@@ -126,7 +126,6 @@ module _ (ℓ : Ceilings) (openFrom : ℕ) where
   by-drops below h (Reference k) c s = if-drops (ltb k (c .references)) (putBytes (codeThen 0x51 (shortestInt k))) (bytes-drops (codeThen 0x51 (shortestInt k))) c s
 
   pub plain-drops : (below : Option Put) → Inside below → Drops (putPlain ℓ openFrom below)
-  unfolding putPlain
   plain-drops below h = item-drops value? (putPlainBy ℓ openFrom below) (by-drops below h)
 
   pub value-drops : (d : ℕ) → Drops (putValue ℓ openFrom d)

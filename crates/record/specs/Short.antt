@@ -15,8 +15,8 @@ use Rattle.scalar.specs.Scalars.{shortestScalar, shortestInt, shortestText}
 use Rattle.scalar.specs.ScalarLaws.{scalar-short, int-short, int-some, small-count, text-short}
 use Rattle.record.specs.Records.{Value, UntypedList, TypedList, UntypedMap, TypedMap, Object, Reference, Item, Val, Definition, ClassName, FieldName, TypeName, TypeNumber, Known, opened, typed, defined, Ceilings}
 use Rattle.record.specs.Grammar.{NameForm, a-name, TypeForm, type-name, type-number, PairForm, a-pair, DefinitionForm, a-definition, PlainForm, a-leaf, a-few, a-counted, an-open, a-few-typed, a-counted-typed, an-open-typed, a-map, a-typed-map, a-few-object, an-object, a-reference, ValueForm, Message}
-use Rattle.record.specs.Shorthands.{Nowhere, codeThen, putDefined, putPrecededBy}
-use Rattle.record.specs.Answers.{Spelled, Put, putThen, putMany, putBytes, putCode, className?, fieldName?, putName, putList, putOpen, objectCode, putContainer, putIf, putType, putPlainBy, putPlain, putDefinition, putPreceded, putValue, spell}
+use Rattle.record.specs.Shorthands.{Nowhere, codeThen, putDefined, putPrecededBy, putPlain}
+use Rattle.record.specs.Answers.{Spelled, Put, putThen, putMany, putBytes, putCode, className?, fieldName?, putName, putList, putOpen, objectCode, putContainer, putIf, putType, putPlainBy, putDefinition, putPreceded, putValue, spell}
 
 -- of these items, whatever follows, g makes at most n bytes
 record Spells (g : Put) (c : Known) (is : List Item) (n : ℕ) (c′ : Known) : Type 0 where
@@ -128,7 +128,6 @@ module _ (ℓ : Ceilings) (openFrom : ℕ) (most : openFrom ≤ 48) where
       PlainSpells c v is n c′ = Spells (putPlain ℓ openFrom below) c (Val v ∷ is) n c′
 
       val : {v : Value} {c c′ : Known} {is : List Item} {n : ℕ} → Spells (putPlainBy ℓ openFrom below v) c is n c′ → PlainSpells c v is n c′
-      unfolding putPlain
       val h = record { spells = h .spells }
 
       holds : (body : Put → Put) {c c′ : Known} {is : List Item} {n : ℕ} → T room → ((g : Put) → Covers G g → Spells (body g) (opened c) is n c′) → Spells (putContainer below body) c is n c′
@@ -229,7 +228,6 @@ module _ (ℓ : Ceilings) (openFrom : ℕ) (most : openFrom ≤ 48) where
   -- a value's first item is no definition
   no-definition : (below : Option Put) (bound : ℕ) (c : Known) (r : List Item) (w : List ℕ) (rest : List Item) (c′ : Known) → putPlain ℓ openFrom below c r ≡ Spelled w rest c′
       → putPreceded ℓ bound (putPlain ℓ openFrom below) c r ≡ Spelled w rest c′
-  unfolding putPlain
   no-definition below zero c r w rest c′ e = e
   no-definition below (suc k) c [] w rest c′ e = e
   no-definition below (suc k) c (Val v ∷ r) w rest c′ e = e

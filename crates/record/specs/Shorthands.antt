@@ -5,7 +5,7 @@ use lib.{Dec.ltb, ListN.length}
 use Rattle.flow.specs.Flow.{give, fail, changing, asking, mapped, headed}
 use Rattle.flow.specs.Grammar.{Phrase}
 use Rattle.record.specs.Records.{Item, TypeName, TypeNumber, Known, typed, defined, Ceilings, Reader, Opening, name}
-use Rattle.record.specs.Answers.{Spelling, Spelled, Put, onSpelled, putPreceded}
+use Rattle.record.specs.Answers.{Spelling, Spelled, Put, onSpelled, putItem, value?, putPreceded, putPlainBy}
 use Rattle.record.specs.Claimed.{onSome}
 
 -- two results
@@ -46,3 +46,7 @@ putDefined n c r = Spelled [] r (defined n c)
 -- class definitions, as many as there are, and then a value
 abbrev pub putPrecededBy : Ceilings → Put → Put
 putPrecededBy ℓ g c r = putPreceded ℓ (length r) g c r
+
+-- a value with no definition before it
+abbrev pub putPlain : Ceilings → ℕ → Option Put → Put
+putPlain ℓ openFrom below = putItem value? (putPlainBy ℓ openFrom below)

@@ -11,8 +11,8 @@ use lib.ListN.{length, getD}
 use borrow.Author.Tests.{lt-ltb, le-ltb}
 use Rattle.scalar.specs.Scalars.{Scalar, shortestScalar, shortestInt}
 use Rattle.record.specs.Records.{Value, Leaf, UntypedList, TypedList, UntypedMap, TypedMap, Object, Reference, Item, Val, Known, opened, Ceilings}
-use Rattle.record.specs.Answers.{Put, putThen, putMany, putBytes, putCode, putIf, value?, putOpen, putList, objectCode, putContainer, putType, putPlainBy, putPlain}
-use Rattle.record.specs.Shorthands.{codeThen}
+use Rattle.record.specs.Answers.{Put, putThen, putMany, putBytes, putCode, putIf, value?, putOpen, putList, objectCode, putContainer, putType, putPlainBy}
+use Rattle.record.specs.Shorthands.{codeThen, putPlain}
 use Rattle.record.specs.Walked.{At, End, at-within, Walked, Over, Stuck, walk, behind, onOver, behind-behind, Drops, walk-then, walk-bytes, walk-none, walk-if, walk-unless, walk-if-none, walk-item, walk-other, walk-over, walk-same, walk-first, walk-first-none}
 
 -- ---- a list of n elements: its type, if it has one, takes the bytes w and goes on at e
@@ -107,7 +107,6 @@ module _ (ℓ : Ceilings) (openFrom : ℕ) (below : Option Put) (c : Known) (is 
   Here = walk (putPlain ℓ openFrom below) c is k
 
   pub plain-end : End is k → Here ≡ Stuck
-  unfolding putPlain
   plain-end e = walk-over c is k value? (putPlainBy ℓ openFrom below) e
 
   module _ (i : Item) (e : At is k i) where
@@ -115,12 +114,10 @@ module _ (ℓ : Ceilings) (openFrom : ℕ) (below : Option Put) (c : Known) (is 
     present = at-within is k i e
 
     pub plain-other : value? i ≡ none → Here ≡ Stuck
-    unfolding putPlain
     plain-other h = walk-other c is k value? (putPlainBy ℓ openFrom below) i e h
 
     module _ (v : Value) (h : i ≡ Val v) where
       plain-is : Here ≡ walk (putPlainBy ℓ openFrom below v) c is (suc k)
-      unfolding putPlain
       plain-is = walk-item c is k value? (putPlainBy ℓ openFrom below) i v e (ap value? h)
 
       module _ (x : Scalar) (q : v ≡ Leaf x) where

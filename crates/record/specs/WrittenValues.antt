@@ -6,8 +6,8 @@ use Prim.Native.Nat.{ℕ, zero, suc, _+_, _-_, _≤_, _<_}
 use native.Mathlib.Omega.{arith}
 use lib.ListN.{length, drop, length-drop, drop-of-length-le}
 use Rattle.record.specs.Records.{Item, Definition, Known, Ceilings}
-use Rattle.record.specs.Answers.{Put, putThen, definition?, putDefinition, putPreceded, putPlain, putValue}
-use Rattle.record.specs.Shorthands.{putPrecededBy}
+use Rattle.record.specs.Answers.{Put, putThen, definition?, putDefinition, putPreceded, putValue}
+use Rattle.record.specs.Shorthands.{putPrecededBy, putPlain}
 use Rattle.record.specs.Walked.{At, End, at-within, at-or-end, Walked, Over, Stuck, walked, walk, behind, onOver, walk-then, walk-item, walk-same, walk-forward}
 use Rattle.record.specs.Drops.{definitionBy, defining-drops, definition-drops}
 use Rattle.record.specs.Writes.{plain-end}
