@@ -152,10 +152,8 @@ answeredTo longest lent source o = pick (ltb longest (length source)) (Refused 1
 abbrev pub base : Ceilings  -- with 32 containers open, 262,144 bytes, and the open form from 48 elements on
 base = record { types = 256; classes = 256; fields = 256 }
 
-pub record Layout : Type 0 where  -- how rows lie in a table, so many numbers a row
-  pub width : ℕ
-  pub encode : Row → List ℕ
-  pub decode : List ℕ → Row
+abbrev pub Layout : Type 0  -- how rows lie in a table, so many numbers a row
+Layout = record { width : ℕ; encode : Row → List ℕ; decode : List ℕ → Row }
 
 abbrev pub asNumbers : Layout  -- four numbers a row
 asNumbers = record { width = 4; encode = λ r. r .kind ∷ r .place ∷ r .first ∷ r .second ∷ []; decode = λ l. row (getD l 0 0) (getD l 1 0) (getD l 2 0) (getD l 3 0) }

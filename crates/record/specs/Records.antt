@@ -25,10 +25,8 @@ pub data Item : Type 0 where
   ClassName FieldName TypeName : List ℕ → Item
   TypeNumber : ℕ → Item
 
-pub record Known : Type 0 where  -- what is known: reference numbers given, type numbers given, and each class's number of fields
-  pub references : ℕ
-  pub types : ℕ
-  pub classes : List ℕ
+abbrev pub Known : Type 0  -- what is known: reference numbers given, type numbers given, and each class's number of fields
+Known = record { references : ℕ; types : ℕ; classes : List ℕ }
 
 abbrev pub start : Known  -- all numbers are given from 0
 start = record { references = 0; types = 0; classes = [] }
@@ -43,10 +41,8 @@ abbrev pub defined : ℕ → Known → Known  -- a definition of n fields is com
 defined n c = record { references = c .references; types = c .types; classes = c .classes ++ (n ∷ []) }
 
 -- the ceilings: type names, class definitions, fields of one class. Containers open at once, and the length, are arguments
-pub record Ceilings : Type 0 where
-  pub types : ℕ
-  pub classes : ℕ
-  pub fields : ℕ
+abbrev pub Ceilings : Type 0
+Ceilings = record { types : ℕ; classes : ℕ; fields : ℕ }
 
 -- ---- what a message reads as: items with their places, or the first refusal from left to right
 abbrev pub Reader : Type 0 → Type 0
@@ -121,11 +117,8 @@ module _ (ℓ : Ceilings) where
   message d = after (byteAt (valueFrom d)) ending
 
 -- ---- rows: kind, place, first, second. An unused first or second is 0
-pub record Row : Type 0 where
-  pub kind : ℕ
-  pub place : ℕ
-  pub first : ℕ
-  pub second : ℕ
+abbrev pub Row : Type 0
+Row = record { kind : ℕ; place : ℕ; first : ℕ; second : ℕ }
 
 abbrev pub row : ℕ → ℕ → ℕ → ℕ → Row
 row k p a b = record { kind = k; place = p; first = a; second = b }
