@@ -10,20 +10,15 @@ use Rattle.scalar.specs.Scalars.{sortKind, units, stringAt, Scalar, Num, Str, i
 -- pairs; 12 one of a type number; 13 an object of a class number, with so many fields; 14 a reference to a number
 pub data Value : Type 0 where
   Leaf : Scalar → Value
-  UntypedList : ℕ → Value
-  TypedList : ℕ → ℕ → Value
-  UntypedMap : ℕ → Value
-  TypedMap : ℕ → ℕ → Value
-  Object : ℕ → ℕ → Value
-  Reference : ℕ → Value
+  UntypedList UntypedMap Reference : ℕ → Value
+  TypedList TypedMap Object : ℕ → ℕ → Value
 
 -- an item of a record: a value; 15 a class definition of so many fields, 16 its name, 17 a field's name; 18 a type name written out, 19 a type by number.
 -- A name carries its content: the UTF-8 bytes, its chunks joined
 pub data Item : Type 0 where
   Val : Value → Item
-  Definition : ℕ → Item
+  Definition TypeNumber : ℕ → Item
   ClassName FieldName TypeName : List ℕ → Item
-  TypeNumber : ℕ → Item
 
 abbrev pub Known : Type 0  -- what is known: reference numbers given, type numbers given, and each class's number of fields
 Known = record { references : ℕ; types : ℕ; classes : List ℕ }
