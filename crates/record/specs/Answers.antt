@@ -16,12 +16,8 @@ pub data Spelling : Type 0 where  -- the bytes, the items that are left, what is
 abbrev pub Put : Type 0  -- by what is known and the items left
 Put = Known → List Item → Spelling
 
-abbrev pub onSpelled : Spelling → (List ℕ → List Item → Known → Spelling) → Spelling
-onSpelled (Spelled w r c) k = k w r c
-onSpelled NoRecord k = NoRecord
-
 abbrev pub putThen : Put → Put → Put  -- one after the other
-putThen f g c r = onSpelled (f c r) (λ w r′ c′. onSpelled (g c′ r′) (λ v r″ c″. Spelled (w ++ v) r″ c″))
+putThen f g c r = elim (f c r) [ Spelled w r′ c′ ↦ elim (g c′ r′) [ Spelled v r″ c″ ↦ Spelled (w ++ v) r″ c″ | NoRecord ↦ NoRecord ] | NoRecord ↦ NoRecord ]
 
 abbrev pub putMany : Put → ℕ → Put  -- n of them
 putMany f zero c r = Spelled [] r c
@@ -73,11 +69,6 @@ abbrev pub putContainer : Option Put → (Put → Put) → Put  -- a list, map o
 putContainer none body c r = NoRecord
 putContainer (some g) body c r = body g (opened c) r
 
-abbrev pub complete : Spelling → Option (List ℕ)  -- no item is left
-complete (Spelled w [] c) = some w
-complete (Spelled w (x ∷ r) c) = none
-complete NoRecord = none
-
 module _ (ℓ : Ceilings) where
   unfoldable pub putType : ℕ → Put  -- the type whose number is t: a name written out stays written out
   putType t c [] = NoRecord
@@ -114,8 +105,8 @@ module _ (ℓ : Ceilings) (openFrom : ℕ) where
   putValue zero = λ c r. putPreceded ℓ (length r) (putItem value? (putPlainBy none)) c r
   putValue (suc d) = λ c r. putPreceded ℓ (length r) (putItem value? (putPlainBy (some (putValue d)))) c r
 
-  unfoldable pub spell : ℕ → List Item → Option (List ℕ)  -- the shortest message of the record r, or none
-  spell d r = complete (putValue d start r)
+  unfoldable pub spell : ℕ → List Item → Option (List ℕ)  -- the shortest message of the record r, with no item left, or none
+  spell d r = elim (putValue d start r) [ Spelled w l c ↦ elim l [ [] ↦ some w | x ∷ l ↦ none ] | NoRecord ↦ none ]
 
 pub data ReadAnswer : Type 0 where  -- the reader's answer
   Accept : List Row → ℕ → ReadAnswer  -- the rows, the message's length
@@ -127,12 +118,9 @@ judged ℓ d longest [] = Fault 1 0
 judged ℓ d longest (b ∷ m) = pick (ltb longest (length (b ∷ m))) (Fault 1 0) (message ℓ d start 0 (b ∷ m))
 
 -- with `lent` rows: too few are refusal 9, which counts the rows needed, for a message otherwise accepted
-abbrev pub answered : ℕ → Outcome Known Item One → ReadAnswer
-answered lent (Done n u es c) = pick (ltb lent (length es)) (Refuse 9 (length es) 0) (Accept (rows es) n)
-answered lent (Fault x o) = Refuse x 0 o
-
 abbrev pub read : Ceilings → (d longest lent : ℕ) → List ℕ → ReadAnswer
-read ℓ d longest lent m = answered lent (judged ℓ d longest m)
+read ℓ d longest lent m =
+    elim (judged ℓ d longest m) [ Done n u es c ↦ pick (ltb lent (length es)) (Refuse 9 (length es) 0) (Accept (rows es) n) | Fault x o ↦ Refuse x 0 o ]
 
 pub data WriteAnswer : Type 0 where  -- the writer's answer
   Wrote : List ℕ → WriteAnswer  -- the bytes written

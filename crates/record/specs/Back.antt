@@ -14,8 +14,8 @@ use Rattle.scalar.specs.Scalars.{shortestScalar, shortestInt, shortestText}
 use Rattle.scalar.specs.ScalarLaws.{Is, int-is, text-is, scalar-is}
 use Rattle.record.specs.Records.{Value, Leaf, UntypedList, TypedList, UntypedMap, TypedMap, Object, Reference, Item, Val, Definition, ClassName, FieldName, TypeName, TypeNumber, Known, start, opened, typed, defined, Ceilings}
 use Rattle.record.specs.Grammar.{NameForm, a-name, TypeForm, type-name, type-number, PairForm, a-pair, DefinitionForm, a-definition, PlainForm, a-leaf, a-few, a-counted, an-open, a-few-typed, a-counted-typed, an-open-typed, a-map, a-typed-map, a-few-object, an-object, a-reference, ValueForm, Message}
-use Rattle.record.specs.Answers.{Spelling, Spelled, NoRecord, Put, onSpelled, putThen, putMany, putBytes, putCode, className?, fieldName?, putName, putList, putOpen, objectCode, putContainer, putIf, putType, putPlainBy, putDefinition, putPreceded, putValue, complete, spell}
-use Rattle.record.specs.Shorthands.{prefixed, Nowhere, codeThen, putDefined, putPrecededBy, putPlain}
+use Rattle.record.specs.Answers.{Spelling, Spelled, NoRecord, Put, putThen, putMany, putBytes, putCode, className?, fieldName?, putName, putList, putOpen, objectCode, putContainer, putIf, putType, putPlainBy, putDefinition, putPreceded, putValue, spell}
+use Rattle.record.specs.Shorthands.{prefixed, Nowhere, codeThen, putDefined, putPrecededBy, putPlain, onSpelled, complete}
 
 -- what is made of the first of the items r, if anything is, is what P says of the bytes, the items and what is known then
 abbrev Back : (List ℕ → List Item → Known → Type 0) → List Item → Spelling → Type 0

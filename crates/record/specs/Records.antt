@@ -80,8 +80,8 @@ module _ (ℓ : Ceilings) where
   abbrev pub withType : {A : Type 0} → (ℕ → Reader A) → Reader A  -- a type, and then what its number says
   withType g = bind (byteAt typeFrom) g
 
-  -- a value with no definition before it, after its first byte b, at p: the containers and the reference of 01's table of first bytes, in its order; else a
-  -- scalar, so that 5a, the reserved bytes and 43 are refusal 3. `below` reads the values in it, where one more container may open; an ungiven reference is refusal 6 at p
+  -- a value with no definition before it, after its first byte b, at p: the containers and the reference, an ungiven one refusal 6 at p, in the order of 01's
+  -- table of first bytes; else a scalar, so that 5a, the reserved bytes and 43 are refusal 3. `below` reads the values in it, where one more container may open
   unfoldable pub plainFrom : Option (Opening One) → Opening One
   plainFrom below p b =
       pick (within 0x70 0x78 b) (container below p (λ f. headed p (λ t. Val (TypedList (b - 0x70) t)) (withType (λ t. mapped (λ u. t) (many f (b - 0x70))))))

@@ -1,5 +1,5 @@
 -- No message that has a record is shorter than its spelling.
-use mathlib.Core.Path.{_≡_, refl, subst}
+use mathlib.Core.Path.{_≡_, refl, _∙_, ap, subst}
 use mathlib.Core.Bool.{Bool, true, false, _&&_}
 use mathlib.Core.List.{List, [], _∷_, _++_, append-assoc, append-nil}
 use mathlib.Core.Option.{Option, none, some}
@@ -15,8 +15,8 @@ use Rattle.scalar.specs.Scalars.{shortestScalar, shortestInt, shortestText}
 use Rattle.scalar.specs.ScalarLaws.{scalar-short, int-short, int-some, small-count, text-short}
 use Rattle.record.specs.Records.{Value, UntypedList, TypedList, UntypedMap, TypedMap, Object, Reference, Item, Val, Definition, ClassName, FieldName, TypeName, TypeNumber, Known, opened, typed, defined, Ceilings}
 use Rattle.record.specs.Grammar.{NameForm, a-name, TypeForm, type-name, type-number, PairForm, a-pair, DefinitionForm, a-definition, PlainForm, a-leaf, a-few, a-counted, an-open, a-few-typed, a-counted-typed, an-open-typed, a-map, a-typed-map, a-few-object, an-object, a-reference, ValueForm, Message}
-use Rattle.record.specs.Shorthands.{Nowhere, codeThen, putDefined, putPrecededBy, putPlain}
-use Rattle.record.specs.Answers.{Spelled, Put, putThen, putMany, putBytes, putCode, className?, fieldName?, putName, putList, putOpen, objectCode, putContainer, putIf, putType, putPlainBy, putDefinition, putPreceded, putValue, spell}
+use Rattle.record.specs.Shorthands.{onSpelled, prefixed, complete, Nowhere, codeThen, putDefined, putPrecededBy, putPlain}
+use Rattle.record.specs.Answers.{Spelling, Spelled, Put, putThen, putMany, putBytes, putCode, className?, fieldName?, putName, putList, putOpen, objectCode, putContainer, putIf, putType, putPlainBy, putDefinition, putPreceded, putValue, spell}
 
 -- of these items, whatever follows, g makes at most n bytes
 record Spells (g : Put) (c : Known) (is : List Item) (n : ℕ) (c′ : Known) : Type 0 where
@@ -34,12 +34,15 @@ Short o n = (w : List ℕ) × (o ≡ some w) × (length w ≤ n)
 at-most : {g : Put} {c c′ : Known} {is : List Item} {m n : ℕ} → Spells g c is m c′ → m ≤ n → Spells g c is n c′
 at-most h l = record { spells = λ rest. let p = h .spells rest in (p .0, p .1, omega arith) }
 
+both-put : (g g′ : Put) (c c₁ c₂ : Known) (r r₁ r₂ : List Item) (u v : List ℕ) → g c r ≡ Spelled u r₁ c₁ → g′ c₁ r₁ ≡ Spelled v r₂ c₂ → putThen g g′ c r ≡ Spelled (u ++ v) r₂ c₂
+both-put g g′ c c₁ c₂ r r₁ r₂ u v e f = ap (λ (o : Spelling). onSpelled o (λ w r′ c′. prefixed w (g′ c′ r′))) e ∙ ap (prefixed u) f
+
 then-spells : {g g′ : Put} {c c₁ c₂ : Known} {is js : List Item} {m n : ℕ} → Spells g c is m c₁ → Spells g′ c₁ js n c₂ → Spells (putThen g g′) c (is ++ js) (m + n) c₂
-then-spells {js = js} h k = record {
+then-spells {g} {g′} {js = js} h k = record {
   spells = λ rest.
       let p = h .spells (js ++ rest) in
       let q = k .spells rest in
-      (p .0 ++ q .0, rw (append-assoc, p .1, q .1) refl, rw length-append (omega arith));
+      (p .0 ++ q .0, rw append-assoc (both-put g g′ _ _ _ _ _ _ _ _ (p .1) (q .1)), rw length-append (omega arith));
 }
 
 many-spells : {G : Phrase Known Item} {g : Put} → Covers G g → {n : ℕ} {c c′ : Known} {w : List ℕ} {is : List Item} → Many G n c w is c′ → Spells (putMany g n) c is (length w) c′
@@ -246,7 +249,7 @@ module _ (ℓ : Ceilings) (openFrom : ℕ) (most : openFrom ≤ 48) where
       go rest (suc bound) i =
           let p = h .spells (js ++ rest) in
           let q = k .spells rest bound (omega (arith, length-append is js)) in
-          (p .0 ++ q .0, rw (append-assoc, p .1, q .1) refl, omega (arith, length-append (p .0) (q .0)))
+          (p .0 ++ q .0, rw append-assoc (both-put (putDefinition ℓ) (putPreceded ℓ bound g) _ _ _ _ _ _ _ _ (p .1) (q .1)), omega (arith, length-append (p .0) (q .0)))
 
   definition-first : {g : Put} {c c₁ c₂ : Known} {u : List ℕ} {m : ℕ} {is js : List Item} → DefinitionForm ℓ c u is c₁ → Spells (putDefinition ℓ) c is (suc (length u)) c₁
       → SpellsBy g c₁ js m c₂ → SpellsBy g c (is ++ js) (suc (length u) + m) c₂
@@ -276,4 +279,4 @@ module _ (ℓ : Ceilings) (openFrom : ℕ) (most : openFrom ≤ 48) where
   -- a record that the grammar derives has a spelling, of no more bytes
   pub message-short : (d : ℕ) (m : List ℕ) (r : List Item) → Message ℓ d m r → (w : List ℕ) × (spell ℓ openFrom d r ≡ some w) × (length w ≤ length m)
   unfolding spell
-  message-short d m r x = let p = value-spells d .covers (x .derived) .spells [] in (p .0, rw (rw append-nil at (p .1)) refl, p .2)
+  message-short d m r x = let p = value-spells d .covers (x .derived) .spells [] in (p .0, ap complete (rw append-nil at (p .1)), p .2)

@@ -1,11 +1,11 @@
 -- Shorthands for proofs.
-use mathlib.Core.{Bool.cond, List.List, List.[], List._∷_, List._++_, Option.Option, Option.some}
+use mathlib.Core.{Bool.cond, List.List, List.[], List._∷_, List._++_, Option.Option, Option.none, Option.some}
 use Prim.Native.Nat.{ℕ}
 use lib.{Dec.ltb, ListN.length}
-use Rattle.flow.specs.Flow.{give, fail, changing, asking, mapped, headed}
+use Rattle.flow.specs.Flow.{pick, Outcome, Done, Fault, One, give, fail, changing, asking, mapped, headed}
 use Rattle.flow.specs.Grammar.{Phrase}
-use Rattle.record.specs.Records.{Item, TypeName, TypeNumber, Known, typed, defined, Ceilings, Reader, Opening, name}
-use Rattle.record.specs.Answers.{Spelling, Spelled, Put, onSpelled, putItem, value?, putPreceded, putPlainBy}
+use Rattle.record.specs.Records.{Item, TypeName, TypeNumber, Known, typed, defined, Ceilings, Reader, Opening, name, rows}
+use Rattle.record.specs.Answers.{Spelling, Spelled, NoRecord, Put, putItem, value?, putPreceded, putPlainBy, ReadAnswer, Accept, Refuse}
 use Rattle.record.specs.Claimed.{onSome}
 
 -- two results
@@ -14,6 +14,9 @@ Two = ℕ × ℕ
 
 abbrev pub with-two : ℕ → ℕ → Two
 with-two a b = (a, b)
+
+abbrev pub onSpelled : Spelling → (List ℕ → List Item → Known → Spelling) → Spelling
+onSpelled o k = elim o [ Spelled w r c ↦ k w r c | NoRecord ↦ NoRecord ]
 
 -- bytes before what is written
 abbrev pub prefixed : List ℕ → Spelling → Spelling
@@ -50,3 +53,11 @@ putPrecededBy ℓ g c r = putPreceded ℓ (length r) g c r
 -- a value with no definition before it
 abbrev pub putPlain : Ceilings → ℕ → Option Put → Put
 putPlain ℓ openFrom below = putItem value? (putPlainBy ℓ openFrom below)
+
+-- the bytes, where no item is left
+abbrev pub complete : Spelling → Option (List ℕ)
+complete o = elim o [ Spelled w l c ↦ elim l [ [] ↦ some w | x ∷ l ↦ none ] | NoRecord ↦ none ]
+
+-- with `lent` rows
+abbrev pub answered : ℕ → Outcome Known Item One → ReadAnswer
+answered lent o = elim o [ Done n u es c ↦ pick (ltb lent (length es)) (Refuse 9 (length es) 0) (Accept (rows es) n) | Fault x o ↦ Refuse x 0 o ]
