@@ -2,7 +2,7 @@
 use mathlib.Core.{Bool.Bool, Bool.cond, Bool._&&_, List.List, List.[], List._∷_, List._++_, Option.Option, Option.none, Option.some}
 use Prim.Native.Nat.{ℕ, zero, suc, _+_, _/_, _^_}
 use lib.{Dec.ltb, Dec.eqb, Dec.leb, ListN.length, ListN.take, ListN.drop, ListN.getD}
-use Rattle.flow.specs.Flow.{pick, Outcome, Done, Fault, One, stored as storedIn, overlay, Report}
+use Rattle.flow.specs.Flow.{pick, Outcome, Done, Fault, One, stored, overlay, Report}
 use Rattle.wire.specs.BigEndian.{joined, be}
 use Rattle.scalar.specs.Scalars.{shortestScalar, shortestInt, shortestText}
 use Rattle.record.specs.Records.{Value, Leaf, UntypedList, TypedList, UntypedMap, TypedMap, Object, Reference, Item, Val, Definition, ClassName, FieldName, TypeName, TypeNumber, Known, start, opened, typed, defined, Ceilings, message, Row, row, rows}
@@ -129,13 +129,10 @@ pub data WriteAnswer : Type 0 where  -- the writer's answer
 unfoldable pub shortestOf : Ceilings → (openFrom d : ℕ) → List ℕ → List Row → Option (List ℕ)  -- the shortest message with the record that the rows claim, or none
 shortestOf ℓ openFrom d source r = onSome (spell ℓ openFrom d) (recordOf source r)
 
--- no record is refusal 10; then a shortest message longer than `longest` is refusal 1; then one longer than the bytes lent is refusal 9
-abbrev pub stored : (longest lent : ℕ) → Option (List ℕ) → WriteAnswer
-stored longest lent none = Refused 10 0
-stored longest lent (some w) = pick (ltb longest (length w)) (Refused 1 0) (pick (ltb lent (length w)) (Refused 9 (length w)) (Wrote w))
-
-abbrev pub answeredTo : (longest lent : ℕ) → (source : List ℕ) → Option (List ℕ) → WriteAnswer  -- a source longer than `longest` is refusal 1, before all else
-answeredTo longest lent source o = pick (ltb longest (length source)) (Refused 1 0) (stored longest lent o)
+-- the first of these: a source longer than `longest`, refusal 1; no record, 10; a shortest message longer than `longest`, 1, or than the bytes lent, 9
+abbrev pub answeredTo : (longest lent : ℕ) → (source : List ℕ) → Option (List ℕ) → WriteAnswer
+answeredTo longest lent source o = pick (ltb longest (length source)) (Refused 1 0)
+    (elim o [ none ↦ Refused 10 0 | some w ↦ pick (ltb longest (length w)) (Refused 1 0) (pick (ltb lent (length w)) (Refused 9 (length w)) (Wrote w)) ])
 
 abbrev pub base : Ceilings  -- with 32 containers open, 262,144 bytes, and the open form from 48 elements on
 base = record { types = 256; classes = 256; fields = 256 }
@@ -181,7 +178,7 @@ reportWritten (Wrote w) = record { number = 0; count = length w; place = 0 }
 reportWritten (Refused x n) = record { number = x; count = n; place = 0 }
 
 abbrev pub outputWritten : List ℕ → WriteAnswer → List ℕ
-outputWritten out (Wrote w) = storedIn out 0 w
+outputWritten out (Wrote w) = stored out 0 w
 outputWritten out (Refused x n) = out
 
 -- more rows claimed than lent are no record

@@ -5,7 +5,7 @@ use lib.{Dec.ltb, ListN.length}
 use Rattle.flow.specs.Flow.{pick, Outcome, Done, Fault, One, give, fail, changing, asking, mapped, headed}
 use Rattle.flow.specs.Grammar.{Phrase}
 use Rattle.record.specs.Records.{Item, TypeName, TypeNumber, Known, typed, defined, Ceilings, Reader, Opening, name, rows}
-use Rattle.record.specs.Answers.{Spelling, Spelled, NoRecord, Put, putItem, value?, putPreceded, putPlainBy, ReadAnswer, Accept, Refuse}
+use Rattle.record.specs.Answers.{Spelling, Spelled, NoRecord, Put, putItem, value?, putPreceded, putPlainBy, ReadAnswer, Accept, Refuse, WriteAnswer, Wrote, Refused}
 use Rattle.record.specs.Claimed.{onSome}
 
 -- two results
@@ -61,3 +61,7 @@ complete o = elim o [ Spelled w l c ↦ elim l [ [] ↦ some w | x ∷ l ↦ non
 -- with `lent` rows
 abbrev pub answered : ℕ → Outcome Known Item One → ReadAnswer
 answered lent o = elim o [ Done n u es c ↦ pick (ltb lent (length es)) (Refuse 9 (length es) 0) (Accept (rows es) n) | Fault x o ↦ Refuse x 0 o ]
+
+-- the writer's answer for the shortest message, or none, where the source is not too long
+abbrev pub stored : (longest lent : ℕ) → Option (List ℕ) → WriteAnswer
+stored longest lent o = elim o [ none ↦ Refused 10 0 | some w ↦ pick (ltb longest (length w)) (Refused 1 0) (pick (ltb lent (length w)) (Refused 9 (length w)) (Wrote w)) ]

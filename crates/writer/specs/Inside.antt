@@ -17,6 +17,7 @@ use Rattle.record.specs.Records.{Item, Definition, Known, Row, row, told}
 use Rattle.record.specs.Answers.{putThen, putMany, putBytes, putIf, className?, fieldName?, putName, putOpen, putList, objectCode, putType, putDefinition, putValue, base, WriteAnswer, shortestOf, answeredTo, asNumbers, asBytes, rowsOf, reportWritten, outputWritten}
 use Rattle.record.specs.Shorthands.{putPlain}
 use Rattle.record.specs.Answers as spelling
+use Rattle.record.specs.Shorthands as shorthands
 use Rattle.record.specs.Claimed.{itemAt}
 use Rattle.record.specs.Walked.{claimed, At, End, Walked, Over, Stuck, walk, behind, Drops}
 use Rattle.record.specs.Writes.{ended}
@@ -310,8 +311,8 @@ pub record JudgeMet (o : Option (List ℕ)) (r : Put) : Type 0 where
 
 -- the rows lent have the shortest message o, or none
 pub record WritesInto (o : Option (List ℕ)) (out : List ℕ) (r : answer.WriteAnswer) (out′ : List ℕ) : Type 0 where
-  pub says : report r ≡ reportWritten (spelling.stored 262_144 (length out) o)
-  pub holds : out′ ≡ outputWritten out (spelling.stored 262_144 (length out) o)
+  pub says : report r ≡ reportWritten (shorthands.stored 262_144 (length out) o)
+  pub holds : out′ ≡ outputWritten out (shorthands.stored 262_144 (length out) o)
 
 -- the first n rows of the tables, which may be more than are lent
 abbrev pub writtenFrom : ℕ → List ℕ → List ℕ → List ℕ → ℕ → ℕ → WriteAnswer
