@@ -5,8 +5,7 @@ use lib.{Dec.ltb, Dec.eqb, Dec.leb, ListN.length, ListN.take, ListN.drop, ListN.
 use Rattle.flow.specs.Flow.{pick, Outcome, Done, Fault, One, stored, overlay, Report}
 use Rattle.wire.specs.BigEndian.{joined, be}
 use Rattle.scalar.specs.Scalars.{shortestScalar, shortestInt, shortestText}
-use Rattle.record.specs.Records.{Value, Leaf, UntypedList, TypedList, UntypedMap, TypedMap, Object, Reference, Item, Val, Definition, ClassName, FieldName, TypeName, TypeNumber, Known, start, opened, typed, defined, Ceilings, message, Row, row, rows}
-use Rattle.record.specs.Claimed.{onSome, recordOf}
+use Rattle.record.specs.{Records.{Value, Leaf, UntypedList, TypedList, UntypedMap, TypedMap, Object, Reference, Item, Val, Definition, ClassName, FieldName, TypeName, TypeNumber, Known, start, opened, typed, defined, Ceilings, message, Row, row, rows}, Claimed.{onSome, recordOf}}
 
 -- ---- the shortest message. It mirrors the reading: each function takes the first of the items, and says the bytes they are written as
 pub data Spelling : Type 0 where  -- the bytes, the items that are left, what is known then; or the items are no record

@@ -3,8 +3,7 @@ use mathlib.Core.{Bool.Bool, Bool.true, Bool.false, List.List, List.[], List._�
 use Prim.Native.Nat.{ℕ, zero, suc, _+_, _^_, _≤_, _<_}
 use lib.{Dec.T, ListN.length, ListN.getD}
 use Rattle.flow.specs.Grammar.{Phrase, Many, Ended, Preceded}
-use Rattle.scalar.specs.Scalars.{Scalar}
-use Rattle.scalar.specs.Grammar.{Spelt, Int, Text}
+use Rattle.scalar.specs.{Scalars.Scalar, Grammar.{Spelt, Int, Text}}
 use Rattle.record.specs.Records.{Leaf, UntypedList, TypedList, UntypedMap, TypedMap, Object, Reference, Item, Val, Definition, ClassName, FieldName, TypeName, TypeNumber, Known, start, opened, typed, defined, Ceilings}
 
 pub data NameForm (x : List ℕ → Item) : Known → List ℕ → List Item → Known → Type 0 where  -- a text, as the item x

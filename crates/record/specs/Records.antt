@@ -3,8 +3,7 @@ use mathlib.Core.{Path._≡_, Bool.cond, Bool._||_, List.List, List.[], List._�
 use Prim.Native.Nat.{ℕ, zero, suc, _-_, _^_}
 use lib.{Dec.ltb, Dec.eqb, ListN.length, ListN.getD}
 use Rattle.flow.specs.Flow.{pick, within, Entry, Outcome, Done, Fault, Read, From, One, give, fail, byteAt, changing, asking, mapped, headed, bind, after, many, untilEnd, precededBy}
-use Rattle.scalar.specs.declared.texts.Kind.{the-variants.Utf8, the-variants.Binary}
-use Rattle.scalar.specs.Scalars.{sortKind, units, stringAt, Scalar, Num, Str, isText, scalarFrom, intFrom, textFrom}
+use Rattle.scalar.specs.{declared.texts.Kind.the-variants.{Utf8, Binary}, Scalars.{sortKind, units, stringAt, Scalar, Num, Str, isText, scalarFrom, intFrom, textFrom}}
 
 -- a value, by the kind of its row: 0 to 8 a scalar; 9 a list of so many elements; 10 one of a type number; 11 a map of so many
 -- pairs; 12 one of a type number; 13 an object of a class number, with so many fields; 14 a reference to a number
