@@ -54,6 +54,5 @@ abbrev pub ValueForm : Ceilings → ℕ → Known → List ℕ → List Item →
 ValueForm ℓ zero = Preceded 0x43 (DefinitionForm ℓ) (PlainForm ℓ false (λ c w is c′. ⊥))
 ValueForm ℓ (suc d) = Preceded 0x43 (DefinitionForm ℓ) (PlainForm ℓ true (ValueForm ℓ d))
 
-pub record Message (ℓ : Ceilings) (d : ℕ) (m : List ℕ) (r : List Item) : Type 0 where  -- the message m has the items r
-  pub known : Known
-  pub derived : ValueForm ℓ d start m r known
+abbrev pub Message : Ceilings → ℕ → List ℕ → List Item → Type 0  -- the message m has the items r
+Message ℓ d m r = record { known : Known; derived : ValueForm ℓ d start m r known }

@@ -158,9 +158,8 @@ unfoldable pub contentAt : List ℕ → ℕ → ℕ → Option (List ℕ)
 contentAt source k p = pick (eqb k 8) (told (stringAt Binary source p)) (pick (eqb k 7 || within 16 19 k) (told (stringAt Utf8 source p)) (some []))
 
 -- a row claims an item: it is the item's row at its own place, which opens the item's content
-pub record Claims (source : List ℕ) (x : Row) (i : Item) : Type 0 where
-  pub agrees : itemRow (x .place) i ≡ x
-  pub content : contentAt source (x .kind) (x .place) ≡ some (contentOf i)
+abbrev pub Claims : List ℕ → Row → Item → Type 0
+Claims source x i = record { agrees : itemRow (x .place) i ≡ x; content : contentAt source (x .kind) (x .place) ≡ some (contentOf i) }
 
 pub data ClaimAll (source : List ℕ) : List Row → List Item → Type 0 where
   no-rows : ClaimAll source [] []
