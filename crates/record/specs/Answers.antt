@@ -164,21 +164,14 @@ reportRead (Refuse x k o) = record { number = x; count = k; place = o }
 abbrev pub readReport : Ceilings → (d longest : ℕ) → Layout → List ℕ → List ℕ → Report
 readReport ℓ d longest L m t = reportRead (read ℓ d longest (lentRows L t) m)
 
-abbrev pub filled : Layout → List ℕ → ReadAnswer → List ℕ  -- the table then holds the rows of an accepted message, and is else unchanged
-filled L t (Accept rs n) = overlay (L .width) (L .encode) t 0 rs
-filled L t (Refuse x k o) = t
-
+-- the table then holds the rows of an accepted message, and is else unchanged
 abbrev pub readTable : Ceilings → (d longest : ℕ) → Layout → List ℕ → List ℕ → List ℕ
-readTable ℓ d longest L m t = filled L t (read ℓ d longest (lentRows L t) m)
+readTable ℓ d longest L m t = elim (read ℓ d longest (lentRows L t) m) [ Accept rs n ↦ overlay (L .width) (L .encode) t 0 rs | Refuse x k o ↦ t ]
 
 -- ---- the writer, of the first n rows of a table: accepted are 0, the bytes written, 0; the output past them is unchanged
 abbrev pub reportWritten : WriteAnswer → Report
 reportWritten (Wrote w) = record { number = 0; count = length w; place = 0 }
 reportWritten (Refused x n) = record { number = x; count = n; place = 0 }
-
-abbrev pub outputWritten : List ℕ → WriteAnswer → List ℕ
-outputWritten out (Wrote w) = stored out 0 w
-outputWritten out (Refused x n) = out
 
 -- more rows claimed than lent are no record
 unfoldable pub written : Ceilings → (openFrom d longest : ℕ) → Layout → List ℕ → List ℕ → ℕ → (lent : ℕ) → WriteAnswer
@@ -188,4 +181,4 @@ abbrev pub writeReport : Ceilings → (openFrom d longest : ℕ) → Layout → 
 writeReport ℓ openFrom d longest L source t n out = reportWritten (written ℓ openFrom d longest L source t n (length out))
 
 abbrev pub writeOutput : Ceilings → (openFrom d longest : ℕ) → Layout → List ℕ → List ℕ → ℕ → List ℕ → List ℕ
-writeOutput ℓ openFrom d longest L source t n out = outputWritten out (written ℓ openFrom d longest L source t n (length out))
+writeOutput ℓ openFrom d longest L source t n out = elim (written ℓ openFrom d longest L source t n (length out)) [ Wrote w ↦ stored out 0 w | Refused x k ↦ out ]

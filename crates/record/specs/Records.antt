@@ -66,10 +66,6 @@ fieldValues f p k = asking (λ c. cond (ltb k (length (c .classes))) (mapped (λ
 abbrev pub pair : Opening One → Opening One  -- a key and its value
 pair f p b = after (f p b) (byteAt f)
 
-abbrev pub ending : Reader One  -- the end of the message: a byte there is refusal 8
-ending c at [] = Done 0 tt [] c
-ending c at (b ∷ s) = Fault 8 at
-
 module _ (ℓ : Ceilings) where
   -- a type, and its number: a text gets the next one, and one too many is refusal 7 at p; an int names one, and an ungiven one is refusal 6 there
   unfoldable pub typeFrom : Opening ℕ
@@ -107,8 +103,8 @@ module _ (ℓ : Ceilings) where
   valueFrom zero = precededBy 0x43 definition (plainFrom none)
   valueFrom (suc d) = precededBy 0x43 definition (plainFrom (some (valueFrom d)))
 
-  unfoldable pub message : ℕ → Reader One  -- a message: one record, and nothing after it
-  message d = after (byteAt (valueFrom d)) ending
+  unfoldable pub message : ℕ → Reader One  -- a message: one record, and nothing after it: a byte there is refusal 8
+  message d = after (byteAt (valueFrom d)) (λ c at s. elim s [ [] ↦ Done 0 tt [] c | b ∷ t ↦ Fault 8 at ])
 
 -- ---- rows: kind, place, first, second. An unused first or second is 0
 abbrev pub Row : Type 0

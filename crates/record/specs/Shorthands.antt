@@ -2,10 +2,11 @@
 use mathlib.Core.{Bool.cond, List.List, List.[], List._∷_, List._++_, Option.Option, Option.none, Option.some}
 use Prim.Native.Nat.{ℕ}
 use lib.{Dec.ltb, ListN.length}
-use Rattle.flow.specs.Flow.{pick, Outcome, Done, Fault, One, give, fail, changing, asking, mapped, headed}
+use Rattle.flow.specs.Flow.{pick, Outcome, Done, Fault, One, overlay, give, fail, changing, asking, mapped, headed}
+use Rattle.flow.specs.Flow as flow
 use Rattle.flow.specs.Grammar.{Phrase}
 use Rattle.record.specs.Records.{Item, TypeName, TypeNumber, Known, typed, defined, Ceilings, Reader, Opening, name, rows}
-use Rattle.record.specs.Answers.{Spelling, Spelled, NoRecord, Put, putItem, value?, putPreceded, putPlainBy, ReadAnswer, Accept, Refuse, WriteAnswer, Wrote, Refused}
+use Rattle.record.specs.Answers.{Spelling, Spelled, NoRecord, Put, putItem, value?, putPreceded, putPlainBy, ReadAnswer, Accept, Refuse, WriteAnswer, Wrote, Refused, Layout}
 use Rattle.record.specs.Claimed.{onSome}
 
 -- two results
@@ -65,3 +66,14 @@ answered lent o = elim o [ Done n u es c ↦ pick (ltb lent (length es)) (Refuse
 -- the writer's answer for the shortest message, or none, where the source is not too long
 abbrev pub stored : (longest lent : ℕ) → Option (List ℕ) → WriteAnswer
 stored longest lent o = elim o [ none ↦ Refused 10 0 | some w ↦ pick (ltb longest (length w)) (Refused 1 0) (pick (ltb lent (length w)) (Refused 9 (length w)) (Wrote w)) ]
+
+-- the end of the message
+abbrev pub ending : Reader One
+ending c at s = elim s [ [] ↦ Done 0 tt [] c | b ∷ t ↦ Fault 8 at ]
+
+-- the table, and the output, then
+abbrev pub filled : Layout → List ℕ → ReadAnswer → List ℕ
+filled L t a = elim a [ Accept rs n ↦ overlay (L .width) (L .encode) t 0 rs | Refuse x k o ↦ t ]
+
+abbrev pub outputWritten : List ℕ → WriteAnswer → List ℕ
+outputWritten out a = elim a [ Wrote w ↦ flow.stored out 0 w | Refused x k ↦ out ]

@@ -14,7 +14,8 @@ use Rattle.flow.specs.Flow as slices
 use Rattle.scalar.specs.Answers.{reported}
 use Rattle.record.specs.declared.Contents.the-variants.{Elements}
 use Rattle.record.specs.Records.{Item, Known, start, Row}
-use Rattle.record.specs.Answers.{putValue, WriteAnswer, Wrote, Refused, base, shortestOf, answeredTo, asNumbers, asBytes, rowsOf, reportWritten, outputWritten, written, writeReport, writeOutput}
+use Rattle.record.specs.Answers.{putValue, WriteAnswer, Wrote, Refused, base, shortestOf, answeredTo, asNumbers, asBytes, rowsOf, reportWritten, written, writeReport, writeOutput}
+use Rattle.record.specs.Shorthands.{outputWritten}
 use Rattle.record.specs.Shorthands as shorthands
 use Rattle.record.specs.Walked.{claimed-few, Walked, Over, Stuck, walk}
 use Rattle.record.specs.Drops.{value-drops}

@@ -14,8 +14,8 @@ use Rattle.scalar.specs.declared.texts.Kind.{Kind}
 use Rattle.scalar.specs.Scalars.{units, stringAt, shortestString, shortestInt, sortKind, Form, form, formsOf}
 use Rattle.record.specs.declared.Contents.{Contents}
 use Rattle.record.specs.Records.{Item, Definition, Known, Row, row, told}
-use Rattle.record.specs.Answers.{putThen, putMany, putBytes, putIf, className?, fieldName?, putName, putOpen, putList, objectCode, putType, putDefinition, putValue, base, WriteAnswer, shortestOf, answeredTo, asNumbers, asBytes, rowsOf, reportWritten, outputWritten}
-use Rattle.record.specs.Shorthands.{putPlain}
+use Rattle.record.specs.Answers.{putThen, putMany, putBytes, putIf, className?, fieldName?, putName, putOpen, putList, objectCode, putType, putDefinition, putValue, base, WriteAnswer, shortestOf, answeredTo, asNumbers, asBytes, rowsOf, reportWritten}
+use Rattle.record.specs.Shorthands.{putPlain, outputWritten}
 use Rattle.record.specs.Answers as spelling
 use Rattle.record.specs.Shorthands as shorthands
 use Rattle.record.specs.Claimed.{itemAt}
