@@ -23,8 +23,7 @@ putMany f zero c r = Spelled [] r c
 putMany f (suc n) c r = putThen f (putMany f n) c r
 
 abbrev pub putBytes : Option (List ℕ) → Put  -- bytes that stand for no item of their own
-putBytes none c r = NoRecord
-putBytes (some w) c r = Spelled w r c
+putBytes o c r = elim o [ none ↦ NoRecord | some w ↦ Spelled w r c ]
 
 abbrev pub putCode : ℕ → Put
 putCode b = putBytes (some (b ∷ []))
@@ -65,8 +64,7 @@ unfoldable pub objectCode : ℕ → Option (List ℕ)  -- an object of class k: 
 objectCode k = cond (ltb k 16) (some ((0x60 + k) ∷ [])) (onSome (λ w. some (0x4f ∷ w)) (shortestInt k))
 
 abbrev pub putContainer : Option Put → (Put → Put) → Put  -- a list, map or object, where one more may open
-putContainer none body c r = NoRecord
-putContainer (some g) body c r = body g (opened c) r
+putContainer below body c r = elim below [ none ↦ NoRecord | some g ↦ body g (opened c) r ]
 
 module _ (ℓ : Ceilings) where
   unfoldable pub putType : ℕ → Put  -- the type whose number is t: a name written out stays written out
@@ -158,8 +156,7 @@ rowsOf L (suc n) t = L .decode (take (L .width) t) ∷ rowsOf L n (drop (L .widt
 
 -- ---- the reader: accepted are 0, the rows, the message's length; refusal 9 counts the rows needed, other refusals 0
 abbrev pub reportRead : ReadAnswer → Report
-reportRead (Accept rs n) = record { number = 0; count = length rs; place = n }
-reportRead (Refuse x k o) = record { number = x; count = k; place = o }
+reportRead a = elim a [ Accept rs n ↦ record { number = 0; count = length rs; place = n } | Refuse x k o ↦ record { number = x; count = k; place = o } ]
 
 abbrev pub readReport : Ceilings → (d longest : ℕ) → Layout → List ℕ → List ℕ → Report
 readReport ℓ d longest L m t = reportRead (read ℓ d longest (lentRows L t) m)
@@ -170,8 +167,7 @@ readTable ℓ d longest L m t = elim (read ℓ d longest (lentRows L t) m) [ Acc
 
 -- ---- the writer, of the first n rows of a table: accepted are 0, the bytes written, 0; the output past them is unchanged
 abbrev pub reportWritten : WriteAnswer → Report
-reportWritten (Wrote w) = record { number = 0; count = length w; place = 0 }
-reportWritten (Refused x n) = record { number = x; count = n; place = 0 }
+reportWritten a = elim a [ Wrote w ↦ record { number = 0; count = length w; place = 0 } | Refused x k ↦ record { number = x; count = k; place = 0 } ]
 
 -- more rows claimed than lent are no record
 unfoldable pub written : Ceilings → (openFrom d longest : ℕ) → Layout → List ℕ → List ℕ → ℕ → (lent : ℕ) → WriteAnswer

@@ -56,8 +56,7 @@ name x p b = headed p x (textFrom p b)
 
 -- a list, map or object whose opening code stands at p: refusal 7 there where no more may open, before all else about it
 abbrev pub container : Option (Opening One) → ℕ → (Opening One → Reader One) → Reader One
-container none p body = fail 7 p
-container (some f) p body = changing opened (body f)
+container below p body = elim below [ none ↦ fail 7 p | some f ↦ changing opened (body f) ]
 
 -- the fields of an object of class k, and how many: an ungiven class is refusal 6 at the object's code, at p
 abbrev pub fieldValues : Opening One → ℕ → ℕ → Reader ℕ
@@ -145,8 +144,7 @@ abbrev pub contentOf : Item → List ℕ
 contentOf x = elim x [ Val v ↦ valueContent v | Definition n ↦ [] | ClassName cs ↦ cs | FieldName cs ↦ cs | TypeName cs ↦ cs | TypeNumber k ↦ [] ]
 
 abbrev pub told : Outcome One One (List ℕ) → Option (List ℕ)
-told (Done n cs es c) = some cs
-told (Fault x o) = none
+told a = elim a [ Done n cs es c ↦ some cs | Fault x o ↦ none ]
 
 -- the content that a row of the kind k and the place p has in the source: 7, 16, 17 and 18 a text's, 8 a byte string's, the others an empty one;
 -- none where no complete item of its kind is opened there
