@@ -2,8 +2,7 @@
 use mathlib.Core.{Bool.cond, List.List, List.[], List._∷_, List._++_, Option.Option, Option.none, Option.some}
 use Prim.Native.Nat.{ℕ}
 use lib.{Dec.ltb, ListN.length}
-use Rattle.flow.specs.Flow.{pick, Outcome, Done, Fault, One, overlay, give, fail, changing, asking, mapped, headed}
-use Rattle.flow.specs.Flow as flow
+use Rattle.flow.specs.Flow.{pick, Outcome, Done, Fault, One, stored as storedIn, overlay, give, fail, changing, asking, mapped, headed}
 use Rattle.flow.specs.Grammar.{Phrase}
 use Rattle.record.specs.Records.{Item, TypeName, TypeNumber, Known, typed, defined, Ceilings, Reader, Opening, name, rows}
 use Rattle.record.specs.Answers.{Spelling, Spelled, NoRecord, Put, putItem, value?, putPreceded, putPlainBy, ReadAnswer, Accept, Refuse, WriteAnswer, Wrote, Refused, Layout}
@@ -16,6 +15,7 @@ Two = ℕ × ℕ
 abbrev pub with-two : ℕ → ℕ → Two
 with-two a b = (a, b)
 
+-- where items are spelled, what follows
 abbrev pub onSpelled : Spelling → (List ℕ → List Item → Known → Spelling) → Spelling
 onSpelled o k = elim o [ Spelled w r c ↦ k w r c | NoRecord ↦ NoRecord ]
 
@@ -59,7 +59,7 @@ putPlain ℓ openFrom below = putItem value? (putPlainBy ℓ openFrom below)
 abbrev pub complete : Spelling → Option (List ℕ)
 complete o = elim o [ Spelled w l c ↦ elim l [ [] ↦ some w | x ∷ l ↦ none ] | NoRecord ↦ none ]
 
--- with `lent` rows
+-- the reader's answer with `lent` rows
 abbrev pub answered : ℕ → Outcome Known Item One → ReadAnswer
 answered lent o = elim o [ Done n u es c ↦ pick (ltb lent (length es)) (Refuse 9 (length es) 0) (Accept (rows es) n) | Fault x o ↦ Refuse x 0 o ]
 
@@ -71,9 +71,9 @@ stored longest lent o = elim o [ none ↦ Refused 10 0 | some w ↦ pick (ltb lo
 abbrev pub ending : Reader One
 ending c at s = elim s [ [] ↦ Done 0 tt [] c | b ∷ t ↦ Fault 8 at ]
 
--- the table, and the output, then
+-- the table, and the output, after an answer
 abbrev pub filled : Layout → List ℕ → ReadAnswer → List ℕ
 filled L t a = elim a [ Accept rs n ↦ overlay (L .width) (L .encode) t 0 rs | Refuse x k o ↦ t ]
 
 abbrev pub outputWritten : List ℕ → WriteAnswer → List ℕ
-outputWritten out a = elim a [ Wrote w ↦ flow.stored out 0 w | Refused x k ↦ out ]
+outputWritten out a = elim a [ Wrote w ↦ storedIn out 0 w | Refused x k ↦ out ]
