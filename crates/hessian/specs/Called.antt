@@ -11,8 +11,10 @@ use Rattle.flow.specs.OverlayLaws.{stored-take, stored-behind, length-overlay}
 use Rattle.record.specs.Records.{Item, Known, start, Row, rows, ClaimAll, no-rows, a-row, message}
 use Rattle.record.specs.Grammar.{Message}
 use Rattle.record.specs.Claimed.{all-claimed}
-use Rattle.record.specs.Answers.{ReadAnswer, Accept, Refuse, read, base, shortestOf, Has, Accepts, asBytes, lentRows, rowsOf, reportRead, filled}
-use Rattle.record.specs.Records as reading
+use Rattle.record.specs.Answers.{ReadAnswer, Accept, Refuse, read, base, shortestOf, asBytes, lentRows, rowsOf, reportRead}
+use Rattle.record.specs.Shorthands.{filled}
+use Rattle.record.specs.Terms.{Has}
+use Rattle.record.specs.Terms as reading
 use Rattle.record.specs.Same.{SameRecord, same-exactly, one-message}
 use Rattle.record.specs.TableLaws.{bytes-sized}
 use Rattle.record.specs.Meaning.{reads-derived, derived-reads}

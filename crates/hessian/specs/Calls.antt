@@ -10,7 +10,9 @@ use borrow.Author.Tests.{lt-ltb, le-ltb}
 use Rattle.flow.specs.Tests.{split, pick-true, pick-false}
 use Rattle.flow.specs.Flow.{Bytes, stored, Report}
 use Rattle.record.specs.Records.{Item, Row, rows, ClaimAll}
-use Rattle.record.specs.Answers.{ReadAnswer, Accept, Refuse, read, WriteAnswer, Wrote, Refused, shortestOf, answeredTo, write, Accepts, base, asBytes, lentRows, rowsOf, reportRead, filled, readReport, readTable, reportWritten, outputWritten, written, writeReport, writeOutput}
+use Rattle.record.specs.Answers.{ReadAnswer, Accept, Refuse, read, WriteAnswer, Wrote, Refused, shortestOf, answeredTo, base, asBytes, lentRows, rowsOf, reportRead, readReport, readTable, reportWritten, written, writeReport, writeOutput}
+use Rattle.record.specs.Shorthands.{filled, outputWritten}
+use Rattle.record.specs.Terms.{write, Accepts}
 use Rattle.record.specs.Writing.{judged-done, own-rows}
 use Rattle.record.specs.Bounds.{answer-small}
 use Rattle.record.specs.Whole.{rows-length}

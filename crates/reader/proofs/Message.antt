@@ -10,7 +10,8 @@ use Rattle.flow.specs.Tests.{bytes-all}
 use Rattle.flow.specs.Flow.{One, byteAt, overlay}
 use Rattle.record.specs.declared.Group.the-variants.{Counted}
 use Rattle.record.specs.Records.{Known, start, Opening, valueFrom, Row}
-use Rattle.record.specs.Answers.{ReadAnswer, Accept, Refuse, read, base, asNumbers, asBytes, reportRead, filled}
+use Rattle.record.specs.Answers.{ReadAnswer, Accept, Refuse, read, base, asNumbers, asBytes, reportRead}
+use Rattle.record.specs.Shorthands.{filled}
 use Rattle.record.specs.Placed.{Placed, Got, Lost, run, on, on-same}
 use Rattle.record.specs.Runs.{rest, rest-step, rest-stop}
 use Rattle.record.specs.Whole.{read-empty, read-long, read-lost, read-over, read-small, read-got}

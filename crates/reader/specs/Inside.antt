@@ -17,7 +17,8 @@ use Rattle.scalar.specs.Answers.{numberAt}
 use Rattle.record.specs.declared.Group.{Group}
 use Rattle.record.specs.declared.Group.the-variants.{Counted, Fields, Open, Pairs}
 use Rattle.record.specs.Records.{Definition, Known, start, opened, typed, defined, typeFrom, definition, valueFrom, Row, row, itemRow}
-use Rattle.record.specs.Answers.{Refuse, read, base, asNumbers, asBytes, reportRead, filled}
+use Rattle.record.specs.Answers.{Refuse, read, base, asNumbers, asBytes, reportRead}
+use Rattle.record.specs.Shorthands.{filled}
 use Rattle.record.specs.Placed.{Placed, Got, Lost, run, front, on, topped}
 use Rattle.record.specs.Runs.{rest, parts}
 use Rattle.record.specs.Values.{heading}

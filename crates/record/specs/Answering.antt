@@ -10,9 +10,11 @@ use lib.ListN.{length}
 use borrow.Author.Tests.{le-ltb, lt-ltb, ltb-true, ltb-false}
 use Rattle.flow.specs.Tests.{pick-true, pick-false, pick-either}
 use Rattle.flow.specs.Flow.{Bytes, Outcome, Done, Fault, One, items}
-use Rattle.record.specs.Records.{Item, Known, start, Ceilings, message, Accepted, Reads, Row, rows}
+use Rattle.record.specs.Records.{Item, Known, start, Ceilings, message, Row, rows}
 use Rattle.record.specs.Meaning.{message-all}
-use Rattle.record.specs.Answers.{ReadAnswer, Accept, Refuse, judged, answered, read, WriteAnswer, Wrote, Refused, shortestOf, write, stored, Accepts}
+use Rattle.record.specs.Answers.{ReadAnswer, Accept, Refuse, judged, read, WriteAnswer, Wrote, Refused, shortestOf}
+use Rattle.record.specs.Shorthands.{answered, stored}
+use Rattle.record.specs.Terms.{write, Accepts, Accepted, Reads}
 use Rattle.record.specs.Refusals.{Numbered, message-numbered}
 use Rattle.record.specs.Writing.{judged-done, done-judged}
 

@@ -1,12 +1,11 @@
 -- The shortest message of a record; what the reader and the writer answer, number, count and place; and what a lent table or output then holds.
-use mathlib.Core.{Path._≡_, Bool.Bool, Bool.cond, Bool._&&_, List.List, List.[], List._∷_, List._++_, Option.Option, Option.none, Option.some}
+use mathlib.Core.{Bool.Bool, Bool.cond, Bool._&&_, List.List, List.[], List._∷_, List._++_, Option.Option, Option.none, Option.some}
 use Prim.Native.Nat.{ℕ, zero, suc, _+_, _/_, _^_}
 use lib.{Dec.ltb, Dec.eqb, Dec.leb, ListN.length, ListN.take, ListN.drop, ListN.getD}
-use Rattle.flow.specs.Flow.{pick, Entry, Outcome, Done, Fault, One, items, stored as storedIn, overlay, Report}
+use Rattle.flow.specs.Flow.{pick, Outcome, Done, Fault, One, stored, overlay, Report}
 use Rattle.wire.specs.BigEndian.{joined, be}
 use Rattle.scalar.specs.Scalars.{shortestScalar, shortestInt, shortestText}
-use Rattle.record.specs.Records.{Value, Leaf, UntypedList, TypedList, UntypedMap, TypedMap, Object, Reference, Item, Val, Definition, ClassName, FieldName, TypeName, TypeNumber, Known, start, opened, typed, defined, Ceilings, message, Reads, Row, row, rows, ClaimAll}
-use Rattle.record.specs.Claimed.{onSome, recordOf}
+use Rattle.record.specs.{Records.{Value, Leaf, UntypedList, TypedList, UntypedMap, TypedMap, Object, Reference, Item, Val, Definition, ClassName, FieldName, TypeName, TypeNumber, Known, start, opened, typed, defined, Ceilings, message, Row, row, rows}, Claimed.{onSome, recordOf}}
 
 -- ---- the shortest message. It mirrors the reading: each function takes the first of the items, and says the bytes they are written as
 pub data Spelling : Type 0 where  -- the bytes, the items that are left, what is known then; or the items are no record
@@ -16,23 +15,15 @@ pub data Spelling : Type 0 where  -- the bytes, the items that are left, what is
 abbrev pub Put : Type 0  -- by what is known and the items left
 Put = Known → List Item → Spelling
 
-abbrev pub onSpelled : Spelling → (List ℕ → List Item → Known → Spelling) → Spelling
-onSpelled (Spelled w r c) k = k w r c
-onSpelled NoRecord k = NoRecord
-
 abbrev pub putThen : Put → Put → Put  -- one after the other
-putThen f g c r = onSpelled (f c r) (λ w r′ c′. onSpelled (g c′ r′) (λ v r″ c″. Spelled (w ++ v) r″ c″))
+putThen f g c r = elim (f c r) [ Spelled w r′ c′ ↦ elim (g c′ r′) [ Spelled v r″ c″ ↦ Spelled (w ++ v) r″ c″ | NoRecord ↦ NoRecord ] | NoRecord ↦ NoRecord ]
 
 abbrev pub putMany : Put → ℕ → Put  -- n of them
 putMany f zero c r = Spelled [] r c
 putMany f (suc n) c r = putThen f (putMany f n) c r
 
-abbrev pub putNothing : Put
-putNothing c r = Spelled [] r c
-
 abbrev pub putBytes : Option (List ℕ) → Put  -- bytes that stand for no item of their own
-putBytes none c r = NoRecord
-putBytes (some w) c r = Spelled w r c
+putBytes o c r = elim o [ none ↦ NoRecord | some w ↦ Spelled w r c ]
 
 abbrev pub putCode : ℕ → Put
 putCode b = putBytes (some (b ∷ []))
@@ -69,23 +60,11 @@ putList openFrom few counted opening n q body = cond (ltb n 8) (putThen (putCode
     (cond (ltb n openFrom) (putThen (putCode counted) (putThen q (putThen (putBytes (shortestInt n)) body)))
     (putOpen opening q body))
 
-abbrev pub codeThen : ℕ → Option (List ℕ) → Option (List ℕ)
-codeThen b o = onSome (λ w. some (b ∷ w)) o
-
 unfoldable pub objectCode : ℕ → Option (List ℕ)  -- an object of class k: 60-6f for classes 0-15
-objectCode k = cond (ltb k 16) (some ((0x60 + k) ∷ [])) (codeThen 0x4f (shortestInt k))
+objectCode k = cond (ltb k 16) (some ((0x60 + k) ∷ [])) (onSome (λ w. some (0x4f ∷ w)) (shortestInt k))
 
 abbrev pub putContainer : Option Put → (Put → Put) → Put  -- a list, map or object, where one more may open
-putContainer none body c r = NoRecord
-putContainer (some g) body c r = body g (opened c) r
-
-abbrev pub putDefined : ℕ → Put  -- a class of n fields gets its number
-putDefined n c r = Spelled [] r (defined n c)
-
-abbrev pub complete : Spelling → Option (List ℕ)  -- no item is left
-complete (Spelled w [] c) = some w
-complete (Spelled w (x ∷ r) c) = none
-complete NoRecord = none
+putContainer below body c r = elim below [ none ↦ NoRecord | some g ↦ body g (opened c) r ]
 
 module _ (ℓ : Ceilings) where
   unfoldable pub putType : ℕ → Put  -- the type whose number is t: a name written out stays written out
@@ -97,9 +76,10 @@ module _ (ℓ : Ceilings) where
   putType t c (TypeName cs ∷ r) = putIf (eqb (c .types) t && ltb (c .types) (ℓ .types)) (λ c r. putBytes (shortestText cs) (typed c) r) c r
   putType t c (TypeNumber k ∷ r) = putIf (eqb k t && ltb k (c .types)) (putBytes (shortestInt k)) c r
 
-  unfoldable pub putDefinition : Put  -- a class definition
+  unfoldable pub putDefinition : Put  -- a class definition, which gets its number at its end
   putDefinition = putItem definition? (λ n c r. putIf (ltb (length (c .classes)) (ℓ .classes) && (ltb n (2 ^ 63) && leb n (ℓ .fields)))
-      (putThen (putCode 0x43) (putThen (putName className?) (putThen (putBytes (shortestInt n)) (putThen (putMany (putName fieldName?) n) (putDefined n))))) c r)
+      (putThen (putCode 0x43) (putThen (putName className?) (putThen (putBytes (shortestInt n))
+      (putThen (putMany (putName fieldName?) n) (λ c r. Spelled [] r (defined n c)))))) c r)
 
   -- class definitions, and then a value. The number only bounds the recursion: a definition is at least an item
   abbrev pub putPreceded : ℕ → Put → Put
@@ -107,29 +87,23 @@ module _ (ℓ : Ceilings) where
   putPreceded (suc k) g c [] = g c []
   putPreceded (suc k) g c (x ∷ r) = elim (definition? x) [ none ↦ g c (x ∷ r) | some n ↦ putThen putDefinition (putPreceded k g) c (x ∷ r) ]
 
-  abbrev pub putPrecededBy : Put → Put
-  putPrecededBy g c r = putPreceded (length r) g c r
-
 module _ (ℓ : Ceilings) (openFrom : ℕ) where
   -- a value with no definition before it, after its item; `below` puts the values in it, where one more container may open
   unfoldable pub putPlainBy : Option Put → Value → Put
   putPlainBy below (Leaf x) = putBytes (shortestScalar x)
-  putPlainBy below (UntypedList n) = putContainer below (λ g. putList openFrom 0x78 0x58 0x57 n putNothing (putMany g n))
+  putPlainBy below (UntypedList n) = putContainer below (λ g. putList openFrom 0x78 0x58 0x57 n (putBytes (some [])) (putMany g n))
   putPlainBy below (TypedList n t) = putContainer below (λ g. putList openFrom 0x70 0x56 0x55 n (putType ℓ t) (putMany g n))
-  putPlainBy below (UntypedMap n) = putContainer below (λ g. putOpen 0x48 putNothing (putMany (putThen g g) n))
+  putPlainBy below (UntypedMap n) = putContainer below (λ g. putOpen 0x48 (putBytes (some [])) (putMany (putThen g g) n))
   putPlainBy below (TypedMap n t) = putContainer below (λ g. putOpen 0x4d (putType ℓ t) (putMany (putThen g g) n))
   putPlainBy below (Object k n) = λ c r. putIf (eqb (getD (c .classes) k 0) n && ltb k (length (c .classes))) (putContainer below (λ g. putThen (putBytes (objectCode k)) (putMany g n))) c r
-  putPlainBy below (Reference k) = λ c r. putIf (ltb k (c .references)) (putBytes (codeThen 0x51 (shortestInt k))) c r
-
-  unfoldable pub putPlain : Option Put → Put
-  putPlain below = putItem value? (putPlainBy below)
+  putPlainBy below (Reference k) = λ c r. putIf (ltb k (c .references)) (putBytes (onSome (λ w. some (0x51 ∷ w)) (shortestInt k))) c r
 
   unfoldable pub putValue : (allowance : ℕ) → Put  -- class definitions, and then a value; `allowance` more containers may open
-  putValue zero = putPrecededBy ℓ (putPlain none)
-  putValue (suc d) = putPrecededBy ℓ (putPlain (some (putValue d)))
+  putValue zero = λ c r. putPreceded ℓ (length r) (putItem value? (putPlainBy none)) c r
+  putValue (suc d) = λ c r. putPreceded ℓ (length r) (putItem value? (putPlainBy (some (putValue d)))) c r
 
-  unfoldable pub spell : ℕ → List Item → Option (List ℕ)  -- the shortest message of the record r, or none
-  spell d r = complete (putValue d start r)
+  unfoldable pub spell : ℕ → List Item → Option (List ℕ)  -- the shortest message of the record r, with no item left, or none
+  spell d r = elim (putValue d start r) [ Spelled w l c ↦ elim l [ [] ↦ some w | x ∷ l ↦ none ] | NoRecord ↦ none ]
 
 pub data ReadAnswer : Type 0 where  -- the reader's answer
   Accept : List Row → ℕ → ReadAnswer  -- the rows, the message's length
@@ -141,19 +115,9 @@ judged ℓ d longest [] = Fault 1 0
 judged ℓ d longest (b ∷ m) = pick (ltb longest (length (b ∷ m))) (Fault 1 0) (message ℓ d start 0 (b ∷ m))
 
 -- with `lent` rows: too few are refusal 9, which counts the rows needed, for a message otherwise accepted
-abbrev pub answered : ℕ → Outcome Known Item One → ReadAnswer
-answered lent (Done n u es c) = pick (ltb lent (length es)) (Refuse 9 (length es) 0) (Accept (rows es) n)
-answered lent (Fault x o) = Refuse x 0 o
-
 abbrev pub read : Ceilings → (d longest lent : ℕ) → List ℕ → ReadAnswer
-read ℓ d longest lent m = answered lent (judged ℓ d longest m)
-
--- none of refusals 1 to 8 is given for the message m, which reads as the items r
-pub record Accepts (ℓ : Ceilings) (d longest : ℕ) (m : List ℕ) (r : List Item) : Type 0 where
-  pub entries : List (Entry Item)
-  pub known : Known
-  pub done : judged ℓ d longest m ≡ Done (length m) tt entries known
-  pub reads-as : items entries ≡ r
+read ℓ d longest lent m =
+    elim (judged ℓ d longest m) [ Done n u es c ↦ pick (ltb lent (length es)) (Refuse 9 (length es) 0) (Accept (rows es) n) | Fault x o ↦ Refuse x 0 o ]
 
 pub data WriteAnswer : Type 0 where  -- the writer's answer
   Wrote : List ℕ → WriteAnswer  -- the bytes written
@@ -162,36 +126,19 @@ pub data WriteAnswer : Type 0 where  -- the writer's answer
 unfoldable pub shortestOf : Ceilings → (openFrom d : ℕ) → List ℕ → List Row → Option (List ℕ)  -- the shortest message with the record that the rows claim, or none
 shortestOf ℓ openFrom d source r = onSome (spell ℓ openFrom d) (recordOf source r)
 
--- no record is refusal 10; then a shortest message longer than `longest` is refusal 1; then one longer than the bytes lent is refusal 9
-abbrev pub stored : (longest lent : ℕ) → Option (List ℕ) → WriteAnswer
-stored longest lent none = Refused 10 0
-stored longest lent (some w) = pick (ltb longest (length w)) (Refused 1 0) (pick (ltb lent (length w)) (Refused 9 (length w)) (Wrote w))
-
-abbrev pub answeredTo : (longest lent : ℕ) → (source : List ℕ) → Option (List ℕ) → WriteAnswer  -- a source longer than `longest` is refusal 1, before all else
-answeredTo longest lent source o = pick (ltb longest (length source)) (Refused 1 0) (stored longest lent o)
-
-unfoldable pub write : Ceilings → (openFrom d longest lent : ℕ) → List ℕ → List Row → WriteAnswer
-write ℓ openFrom d longest lent source r = answeredTo longest lent source (shortestOf ℓ openFrom d source r)
-
-pub record Has (ℓ : Ceilings) (d : ℕ) (source : List ℕ) (r : List Row) (m : List ℕ) : Type 0 where  -- the message m has the record that the rows claim
-  pub record-of : List Item
-  pub claimed : ClaimAll source r record-of
-  pub read-as : Reads ℓ d m record-of
+-- the first of these: a source longer than `longest`, refusal 1; no record, 10; a shortest message longer than `longest`, 1, or than the bytes lent, 9
+abbrev pub answeredTo : (longest lent : ℕ) → (source : List ℕ) → Option (List ℕ) → WriteAnswer
+answeredTo longest lent source o = pick (ltb longest (length source)) (Refused 1 0)
+    (elim o [ none ↦ Refused 10 0 | some w ↦ pick (ltb longest (length w)) (Refused 1 0) (pick (ltb lent (length w)) (Refused 9 (length w)) (Wrote w)) ])
 
 abbrev pub base : Ceilings  -- with 32 containers open, 262,144 bytes, and the open form from 48 elements on
 base = record { types = 256; classes = 256; fields = 256 }
 
-pub record Layout : Type 0 where  -- how rows lie in a table, so many numbers a row
-  pub width : ℕ
-  pub encode : Row → List ℕ
-  pub decode : List ℕ → Row
+abbrev pub Layout : Type 0  -- how rows lie in a table, so many numbers a row
+Layout = record { width : ℕ; encode : Row → List ℕ; decode : List ℕ → Row }
 
 abbrev pub asNumbers : Layout  -- four numbers a row
-asNumbers = record {
-  width = 4;
-  encode = λ r. r .kind ∷ r .place ∷ r .first ∷ r .second ∷ [];
-  decode = λ l. row (getD l 0 0) (getD l 1 0) (getD l 2 0) (getD l 3 0);
-}
+asNumbers = record { width = 4; encode = λ r. r .kind ∷ r .place ∷ r .first ∷ r .second ∷ []; decode = λ l. row (getD l 0 0) (getD l 1 0) (getD l 2 0) (getD l 3 0) }
 
 abbrev pub asBytes : Layout  -- from C: eight big-endian bytes a number
 asBytes = record {
@@ -209,27 +156,18 @@ rowsOf L (suc n) t = L .decode (take (L .width) t) ∷ rowsOf L n (drop (L .widt
 
 -- ---- the reader: accepted are 0, the rows, the message's length; refusal 9 counts the rows needed, other refusals 0
 abbrev pub reportRead : ReadAnswer → Report
-reportRead (Accept rs n) = record { number = 0; count = length rs; place = n }
-reportRead (Refuse x k o) = record { number = x; count = k; place = o }
+reportRead a = elim a [ Accept rs n ↦ record { number = 0; count = length rs; place = n } | Refuse x k o ↦ record { number = x; count = k; place = o } ]
 
 abbrev pub readReport : Ceilings → (d longest : ℕ) → Layout → List ℕ → List ℕ → Report
 readReport ℓ d longest L m t = reportRead (read ℓ d longest (lentRows L t) m)
 
-abbrev pub filled : Layout → List ℕ → ReadAnswer → List ℕ  -- the table then holds the rows of an accepted message, and is else unchanged
-filled L t (Accept rs n) = overlay (L .width) (L .encode) t 0 rs
-filled L t (Refuse x k o) = t
-
+-- the table then holds the rows of an accepted message, and is else unchanged
 abbrev pub readTable : Ceilings → (d longest : ℕ) → Layout → List ℕ → List ℕ → List ℕ
-readTable ℓ d longest L m t = filled L t (read ℓ d longest (lentRows L t) m)
+readTable ℓ d longest L m t = elim (read ℓ d longest (lentRows L t) m) [ Accept rs n ↦ overlay (L .width) (L .encode) t 0 rs | Refuse x k o ↦ t ]
 
 -- ---- the writer, of the first n rows of a table: accepted are 0, the bytes written, 0; the output past them is unchanged
 abbrev pub reportWritten : WriteAnswer → Report
-reportWritten (Wrote w) = record { number = 0; count = length w; place = 0 }
-reportWritten (Refused x n) = record { number = x; count = n; place = 0 }
-
-abbrev pub outputWritten : List ℕ → WriteAnswer → List ℕ
-outputWritten out (Wrote w) = storedIn out 0 w
-outputWritten out (Refused x n) = out
+reportWritten a = elim a [ Wrote w ↦ record { number = 0; count = length w; place = 0 } | Refused x k ↦ record { number = x; count = k; place = 0 } ]
 
 -- more rows claimed than lent are no record
 unfoldable pub written : Ceilings → (openFrom d longest : ℕ) → Layout → List ℕ → List ℕ → ℕ → (lent : ℕ) → WriteAnswer
@@ -239,4 +177,4 @@ abbrev pub writeReport : Ceilings → (openFrom d longest : ℕ) → Layout → 
 writeReport ℓ openFrom d longest L source t n out = reportWritten (written ℓ openFrom d longest L source t n (length out))
 
 abbrev pub writeOutput : Ceilings → (openFrom d longest : ℕ) → Layout → List ℕ → List ℕ → ℕ → List ℕ → List ℕ
-writeOutput ℓ openFrom d longest L source t n out = outputWritten out (written ℓ openFrom d longest L source t n (length out))
+writeOutput ℓ openFrom d longest L source t n out = elim (written ℓ openFrom d longest L source t n (length out)) [ Wrote w ↦ stored out 0 w | Refused x k ↦ out ]

@@ -13,9 +13,9 @@ use Rattle.scalar.specs.Grammar.{Spelt, Int, Text}
 use Rattle.scalar.specs.Scalars.{shortestScalar, shortestInt, shortestText}
 use Rattle.scalar.specs.ScalarLaws.{Is, int-is, text-is, scalar-is}
 use Rattle.record.specs.Records.{Value, Leaf, UntypedList, TypedList, UntypedMap, TypedMap, Object, Reference, Item, Val, Definition, ClassName, FieldName, TypeName, TypeNumber, Known, start, opened, typed, defined, Ceilings}
-use Rattle.record.specs.Grammar.{NameForm, a-name, TypeForm, type-name, type-number, PairForm, a-pair, DefinitionForm, a-definition, PlainForm, a-leaf, a-few, a-counted, an-open, a-few-typed, a-counted-typed, an-open-typed, a-map, a-typed-map, a-few-object, an-object, a-reference, Nowhere, ValueForm, Message}
-use Rattle.record.specs.Answers.{Spelling, Spelled, NoRecord, Put, onSpelled, putThen, putMany, putBytes, putNothing, putCode, className?, fieldName?, putName, putList, putOpen, codeThen, objectCode, putContainer, putIf, putType, putPlainBy, putPlain, putDefined, putDefinition, putPreceded, putPrecededBy, putValue, complete, spell}
-use Rattle.record.specs.Shorthands.{prefixed}
+use Rattle.record.specs.Grammar.{NameForm, a-name, TypeForm, type-name, type-number, PairForm, a-pair, DefinitionForm, a-definition, PlainForm, a-leaf, a-few, a-counted, an-open, a-few-typed, a-counted-typed, an-open-typed, a-map, a-typed-map, a-few-object, an-object, a-reference, ValueForm, Message}
+use Rattle.record.specs.Answers.{Spelling, Spelled, NoRecord, Put, putThen, putMany, putBytes, putCode, className?, fieldName?, putName, putList, putOpen, objectCode, putContainer, putIf, putType, putPlainBy, putDefinition, putPreceded, putValue, spell}
+use Rattle.record.specs.Shorthands.{prefixed, Nowhere, codeThen, putDefined, putPrecededBy, putPlain, onSpelled, complete}
 
 -- what is made of the first of the items r, if anything is, is what P says of the bytes, the items and what is known then
 abbrev Back : (List ℕ → List Item → Known → Type 0) → List Item → Spelling → Type 0
@@ -78,7 +78,7 @@ pair-sound {G} h = sound-as (then-sound h h) (λ c w is c′. paired)
 code-sound : (b : ℕ) → Sound (Code b) (putCode b)
 code-sound b = record { sound = λ c r. ([], refl, code) }
 
-nothing-sound : Sound Nil putNothing
+nothing-sound : Sound Nil (putBytes (some []))
 nothing-sound = record { sound = λ c r. ([], refl, nil) }
 
 bytes-sound : {S : List ℕ → Type 0} (o : Option (List ℕ)) → Is S o → Sound (Raw S) (putBytes o)
@@ -259,9 +259,9 @@ module _ (ℓ : Ceilings) (openFrom : ℕ) (most : openFrom ≤ 48) where
         where
           leaf : {c c′ : Known} {w : List ℕ} {is : List Item} → Raw (λ w. Spelt w x) c w is c′ → Plain (Leaf x) c w is c′
           leaf (raw y) = a-leaf y
-      plain-by (UntypedList n) = holds (λ g. putList openFrom 0x78 0x58 0x57 n putNothing (putMany g n)) (λ g h. list-sound openFrom 0x78 0x58 0x57 n most nothing-sound h) (λ r c w is c′. untyped r)
+      plain-by (UntypedList n) = holds (λ g. putList openFrom 0x78 0x58 0x57 n (putBytes (some [])) (putMany g n)) (λ g h. list-sound openFrom 0x78 0x58 0x57 n most nothing-sound h) (λ r c w is c′. untyped r)
       plain-by (TypedList n t) = holds (λ g. putList openFrom 0x70 0x56 0x55 n (putType ℓ t) (putMany g n)) (λ g h. list-sound openFrom 0x70 0x56 0x55 n most (type-sound t) h) (λ r c w is c′. of-type r)
-      plain-by (UntypedMap n) = holds (λ g. putOpen 0x48 putNothing (putMany (putThen g g) n)) (λ g h. map-sound 0x48 n nothing-sound (pair-sound h)) (λ r c w is c′. untyped-map r)
+      plain-by (UntypedMap n) = holds (λ g. putOpen 0x48 (putBytes (some [])) (putMany (putThen g g) n)) (λ g h. map-sound 0x48 n nothing-sound (pair-sound h)) (λ r c w is c′. untyped-map r)
       plain-by (TypedMap n t) = holds (λ g. putOpen 0x4d (putType ℓ t) (putMany (putThen g g) n)) (λ g h. map-sound 0x4d n (type-sound t) (pair-sound h)) (λ r c w is c′. map-of-type r)
       plain-by (Object k n) = record {
         sound = λ c r. if-back (Plain (Object k n) c) (test c) body c r
@@ -288,7 +288,6 @@ module _ (ℓ : Ceilings) (openFrom : ℕ) (most : openFrom ≤ 48) where
           here c r (some w) h = ([], refl, h)
 
       plain-sound : Sound (PlainForm ℓ room G) (putPlain ℓ openFrom below)
-      unfolding putPlain
       plain-sound = record { sound = go }
         where
           go : (c : Known) (r : List Item) → Back (PlainForm ℓ room G c) r (putPlain ℓ openFrom below c r)

@@ -12,7 +12,8 @@ use Rattle.flow.specs.Tests.{pick-either}
 use Rattle.flow.specs.Refusals.{Told}
 use Rattle.record.specs.Records.{Item, Known, start, Ceilings, message}
 use Rattle.record.specs.Extent.{rows-few}
-use Rattle.record.specs.Answers.{ReadAnswer, judged, answered, read, stored, shortestOf, Layout, lentRows, rowsOf, reportRead, reportWritten, written}
+use Rattle.record.specs.Answers.{ReadAnswer, judged, read, shortestOf, Layout, lentRows, rowsOf, reportRead, reportWritten, written}
+use Rattle.record.specs.Shorthands.{answered, stored}
 use Rattle.record.specs.Whole.{rows-length}
 use Rattle.record.specs.Refusals.{Numbered, message-within}
 use Rattle.record.specs.Demands.{read-numbered}

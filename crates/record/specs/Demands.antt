@@ -14,7 +14,9 @@ use Rattle.record.specs.Records.{Item, Known, Ceilings, Row, rows}
 use Rattle.record.specs.Grammar.{Message}
 use Rattle.record.specs.Numbering.{definitions, accepted-adds}
 use Rattle.record.specs.Meaning.{reads-derived, derived-reads}
-use Rattle.record.specs.Answers.{ReadAnswer, Accept, Refuse, answered, read, Wrote, Refused, shortestOf, write, Has, Accepts, Layout, asNumbers, asBytes, lentRows, rowsOf, reportRead, filled, readTable}
+use Rattle.record.specs.Answers.{ReadAnswer, Accept, Refuse, read, Wrote, Refused, shortestOf, Layout, asNumbers, asBytes, lentRows, rowsOf, reportRead, readTable}
+use Rattle.record.specs.Shorthands.{answered, filled}
+use Rattle.record.specs.Terms.{write, Has, Accepts}
 use Rattle.record.specs.TableLaws.{Sound, All, rows-again, Fits, bytes-sized, all-numbers, all-bytes}
 use Rattle.record.specs.Widths.{rows-fit}
 use Rattle.record.specs.Whole.{rows-length}

@@ -14,10 +14,10 @@ use Rattle.flow.specs.Laws.{Makes, give-makes, byte-makes, bind-makes, map-make
 use Rattle.scalar.specs.Scalars.{Scalar, isText, scalarFrom, intFrom, textFrom}
 use Rattle.scalar.specs.Grammar.{Int}
 use Rattle.scalar.specs.ScalarLaws.{isScalar, scalar-makes, int-makes, text-makes, scalar-owned, text-first, int-first, scalar-shut}
-use Rattle.record.specs.Records.{Leaf, UntypedList, TypedList, UntypedMap, TypedMap, Object, Reference, Item, Val, Definition, ClassName, FieldName, TypeName, TypeNumber, Known, opened, typed, defined, Ceilings, Reader, Opening, int, count, name, typeNumber, referenceTo, typeName, container, fieldValues, pair, typeFrom, withType, fieldNames, plainFrom, definition, valueFrom}
+use Rattle.record.specs.Records.{Leaf, UntypedList, TypedList, UntypedMap, TypedMap, Object, Reference, Item, Val, Definition, ClassName, FieldName, TypeName, TypeNumber, Known, opened, typed, defined, Ceilings, Reader, Opening, int, count, name, container, fieldValues, pair, typeFrom, withType, fieldNames, plainFrom, definition, valueFrom}
 use Rattle.record.specs.Forms.{Form, leaf, few, few-typed, few-object, counted, counted-typed, open-list, open-typed, open-map, typed-map, object, reference, formOf, plainBy, plain-is, few-form, few-typed-form, few-object-form, singles, leaf-form, no-scalar}
-use Rattle.record.specs.Shorthands.{with-two}
-use Rattle.record.specs.Grammar.{NameForm, a-name, TypeForm, type-name, type-number, PairForm, a-pair, DefinitionForm, a-definition, PlainForm, a-leaf, a-few, a-counted, an-open, a-few-typed, a-counted-typed, an-open-typed, a-map, a-typed-map, a-few-object, an-object, a-reference, Nowhere, ValueForm}
+use Rattle.record.specs.Shorthands.{with-two, Nowhere, typeNumber, referenceTo, typeName}
+use Rattle.record.specs.Grammar.{NameForm, a-name, TypeForm, type-name, type-number, PairForm, a-pair, DefinitionForm, a-definition, PlainForm, a-leaf, a-few, a-counted, an-open, a-few-typed, a-counted-typed, an-open-typed, a-map, a-typed-map, a-few-object, an-object, a-reference, ValueForm}
 
 -- ---- parts: an int, a count, a name, fields, a pair
 int-then : {A : Type 0} (g : ℕ → ℕ → Reader A) {u : List ℕ} {v : ℕ} {c c′ : Known} {w : List ℕ} {a : A} {is : List Item} → Int u v → ((o : ℕ) → Makes (g o v) c w a is c′)

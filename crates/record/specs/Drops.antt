@@ -8,13 +8,14 @@ use lib.Dec.{ltb, eqb, leb}
 use lib.ListN.{length, getD}
 use Rattle.scalar.specs.Scalars.{shortestScalar, shortestInt, shortestText}
 use Rattle.record.specs.Records.{Value, Leaf, UntypedList, TypedList, UntypedMap, TypedMap, Object, Reference, Item, Val, Definition, ClassName, FieldName, TypeName, TypeNumber, Known, opened, typed, Ceilings}
-use Rattle.record.specs.Answers.{Put, putThen, putMany, putNothing, putBytes, putCode, putIf, value?, definition?, className?, fieldName?, putName, putOpen, putList, codeThen, objectCode, putContainer, putDefined, putType, putDefinition, putPreceded, putPlainBy, putPlain, putValue}
+use Rattle.record.specs.Answers.{Put, putThen, putMany, putBytes, putCode, putIf, value?, definition?, className?, fieldName?, putName, putOpen, putList, objectCode, putContainer, putType, putDefinition, putPreceded, putPlainBy, putValue}
+use Rattle.record.specs.Shorthands.{codeThen, putDefined, putPlain}
 use Rattle.record.specs.Walked.{Dropped, Drops, then-drops, many-drops, bytes-drops, if-drops, item-drops}
 
 pub name-drops : (part : Item → Option (List ℕ)) → Drops (putName part)
 name-drops part = item-drops part (λ cs. putBytes (shortestText cs)) (λ cs. bytes-drops (shortestText cs))
 
-pub nothing-drops : Drops putNothing
+pub nothing-drops : Drops (putBytes (some []))
 nothing-drops c s = (0, refl)
 
 pub defined-drops : (n : ℕ) → Drops (putDefined n)
@@ -112,11 +113,11 @@ module _ (ℓ : Ceilings) (openFrom : ℕ) where
   unfolding putPlainBy
   by-drops below h (Leaf x) c s = bytes-drops (shortestScalar x) c s
   by-drops below h (UntypedList n) c s =
-      container-drops below h (λ g. putList openFrom 0x78 0x58 0x57 n putNothing (putMany g n)) (λ g k. list-drops 0x78 0x58 0x57 n putNothing (putMany g n) nothing-drops (many-drops g k n)) c s
+      container-drops below h (λ g. putList openFrom 0x78 0x58 0x57 n (putBytes (some [])) (putMany g n)) (λ g k. list-drops 0x78 0x58 0x57 n (putBytes (some [])) (putMany g n) nothing-drops (many-drops g k n)) c s
   by-drops below h (TypedList n t) c s =
       container-drops below h (λ g. putList openFrom 0x70 0x56 0x55 n (putType ℓ t) (putMany g n)) (λ g k. list-drops 0x70 0x56 0x55 n (putType ℓ t) (putMany g n) (type-drops ℓ t) (many-drops g k n)) c s
   by-drops below h (UntypedMap n) c s =
-      container-drops below h (λ g. putOpen 0x48 putNothing (putMany (putThen g g) n)) (λ g k. open-drops 0x48 putNothing (putMany (putThen g g) n) nothing-drops (many-drops (putThen g g) (then-drops g g k k) n)) c s
+      container-drops below h (λ g. putOpen 0x48 (putBytes (some [])) (putMany (putThen g g) n)) (λ g k. open-drops 0x48 (putBytes (some [])) (putMany (putThen g g) n) nothing-drops (many-drops (putThen g g) (then-drops g g k k) n)) c s
   by-drops below h (TypedMap n t) c s =
       container-drops below h (λ g. putOpen 0x4d (putType ℓ t) (putMany (putThen g g) n)) (λ g k. open-drops 0x4d (putType ℓ t) (putMany (putThen g g) n) (type-drops ℓ t) (many-drops (putThen g g) (then-drops g g k k) n)) c s
   by-drops below h (Object k n) c s =
@@ -125,7 +126,6 @@ module _ (ℓ : Ceilings) (openFrom : ℕ) where
   by-drops below h (Reference k) c s = if-drops (ltb k (c .references)) (putBytes (codeThen 0x51 (shortestInt k))) (bytes-drops (codeThen 0x51 (shortestInt k))) c s
 
   pub plain-drops : (below : Option Put) → Inside below → Drops (putPlain ℓ openFrom below)
-  unfolding putPlain
   plain-drops below h = item-drops value? (putPlainBy ℓ openFrom below) (by-drops below h)
 
   pub value-drops : (d : ℕ) → Drops (putValue ℓ openFrom d)

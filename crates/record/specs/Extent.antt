@@ -14,8 +14,10 @@ use Rattle.scalar.specs.Scalars as scalars
 use Rattle.scalar.specs.Grammar as scalar-grammar
 use Rattle.scalar.specs.NumberLaws.{number-some}
 use Rattle.scalar.specs.TextLaws.{string-some}
-use Rattle.record.specs.Records.{Item, FieldName, Known, start, Ceilings, valueFrom, Reads}
-use Rattle.record.specs.Grammar.{NameForm, a-name, TypeForm, type-name, type-number, PairForm, a-pair, DefinitionForm, a-definition, PlainForm, a-leaf, a-few, a-counted, an-open, a-few-typed, a-counted-typed, an-open-typed, a-map, a-typed-map, a-few-object, an-object, a-reference, Nowhere, ValueForm}
+use Rattle.record.specs.Records.{Item, FieldName, Known, start, Ceilings, valueFrom}
+use Rattle.record.specs.Terms.{Reads}
+use Rattle.record.specs.Grammar.{NameForm, a-name, TypeForm, type-name, type-number, PairForm, a-pair, DefinitionForm, a-definition, PlainForm, a-leaf, a-few, a-counted, an-open, a-few-typed, a-counted-typed, an-open-typed, a-map, a-typed-map, a-few-object, an-object, a-reference, ValueForm}
+use Rattle.record.specs.Shorthands.{Nowhere}
 use Rattle.record.specs.Parses.{value-reads}
 use Rattle.record.specs.Derives.{value-makes}
 use Rattle.record.specs.Meaning.{reads-derived}

@@ -1,5 +1,5 @@
 -- The first byte of a value, by name: its form; the reading by forms; and the laws of the first byte.
-use mathlib.Core.Path.{_≡_, refl, sym, _∙_, ap}
+use mathlib.Core.Path.{_≡_, refl, _∙_, ap}
 use mathlib.Core.Bool.{Bool, true, false, cond, not}
 use mathlib.Core.Option.{Option}
 use Prim.Native.Nat.{ℕ, _+_, _-_, _≤_, _<_}
@@ -11,8 +11,8 @@ use Rattle.flow.specs.Flow.{pick, within, One, mapped, headed, many, untilEnd}
 use Rattle.scalar.specs.Scalars.{scalarFrom}
 use Rattle.scalar.specs.Chart.{ranges, rangeOf, leadOf, kindOf}
 use Rattle.scalar.specs.ScalarLaws.{isScalar}
-use Rattle.record.specs.Records.{Leaf, UntypedList, TypedList, UntypedMap, TypedMap, Object, Reference, Val, Ceilings, Opening, int, count, referenceTo, Reader, container, fieldValues, pair, withType, plainFrom}
-use Rattle.record.specs.Shorthands.{with-two}
+use Rattle.record.specs.Records.{Leaf, UntypedList, TypedList, UntypedMap, TypedMap, Object, Reference, Val, Ceilings, Opening, int, count, Reader, container, fieldValues, pair, withType, plainFrom}
+use Rattle.record.specs.Shorthands.{with-two, referenceTo}
 
 pub data Form : Type 0 where  -- the first byte of a value
   leaf : Form  -- a scalar; also what opens nothing: 5a, the reserved bytes, and 43, which the definitions before a value take

@@ -3,8 +3,7 @@ use mathlib.Core.{Bool.Bool, Bool.true, Bool.false, List.List, List.[], List._�
 use Prim.Native.Nat.{ℕ, zero, suc, _+_, _^_, _≤_, _<_}
 use lib.{Dec.T, ListN.length, ListN.getD}
 use Rattle.flow.specs.Grammar.{Phrase, Many, Ended, Preceded}
-use Rattle.scalar.specs.Scalars.{Scalar}
-use Rattle.scalar.specs.Grammar.{Spelt, Int, Text}
+use Rattle.scalar.specs.{Scalars.Scalar, Grammar.{Spelt, Int, Text}}
 use Rattle.record.specs.Records.{Leaf, UntypedList, TypedList, UntypedMap, TypedMap, Object, Reference, Item, Val, Definition, ClassName, FieldName, TypeName, TypeNumber, Known, start, opened, typed, defined, Ceilings}
 
 pub data NameForm (x : List ℕ → Item) : Known → List ℕ → List Item → Known → Type 0 where  -- a text, as the item x
@@ -50,14 +49,10 @@ pub data DefinitionForm (ℓ : Ceilings) : Known → List ℕ → List Item → 
   a-definition : {c c₁ : Known} {u v w cs : List ℕ} {n : ℕ} {is : List Item} → length (c .classes) < ℓ .classes → Text u cs → Int v n → n < 2 ^ 63 → n ≤ ℓ .fields
       → Many (NameForm FieldName) n c w is c₁ → DefinitionForm ℓ c (u ++ (v ++ w)) (Definition n ∷ ClassName cs ∷ is) (defined n c₁)
 
-abbrev pub Nowhere : Phrase Known Item
-Nowhere c w is c′ = ⊥
-
 -- definitions, each after its 43, and then a value; d more containers may open
 abbrev pub ValueForm : Ceilings → ℕ → Known → List ℕ → List Item → Known → Type 0
-ValueForm ℓ zero = Preceded 0x43 (DefinitionForm ℓ) (PlainForm ℓ false Nowhere)
+ValueForm ℓ zero = Preceded 0x43 (DefinitionForm ℓ) (PlainForm ℓ false (λ c w is c′. ⊥))
 ValueForm ℓ (suc d) = Preceded 0x43 (DefinitionForm ℓ) (PlainForm ℓ true (ValueForm ℓ d))
 
-pub record Message (ℓ : Ceilings) (d : ℕ) (m : List ℕ) (r : List Item) : Type 0 where  -- the message m has the items r
-  pub known : Known
-  pub derived : ValueForm ℓ d start m r known
+abbrev pub Message : Ceilings → ℕ → List ℕ → List Item → Type 0  -- the message m has the items r
+Message ℓ d m r = record { known : Known; derived : ValueForm ℓ d start m r known }

@@ -6,7 +6,8 @@ use mathlib.Core.Option.{Option, none, some}
 use Prim.Native.Nat.{ℕ, _≤_}
 use native.Mathlib.Omega.{arith}
 use lib.ListN.{length}
-use Rattle.record.specs.Records.{Item, Ceilings, Reads}
+use Rattle.record.specs.Records.{Item, Ceilings}
+use Rattle.record.specs.Terms.{Reads}
 use Rattle.record.specs.Grammar.{Message}
 use Rattle.record.specs.Answers.{spell}
 use Rattle.record.specs.Meaning.{reads-derived, derived-reads}

@@ -1,6 +1,7 @@
 pub mod Records
 pub mod Grammar
 pub mod Answers
+pub mod Terms
 pub mod Shorthands
 pub mod RowLaws
 pub mod Forms

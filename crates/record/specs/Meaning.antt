@@ -12,8 +12,10 @@ use Rattle.flow.specs.Tests.{bytes-append}
 use Rattle.flow.specs.Steps.{before}
 use Rattle.flow.specs.Laws.{Parsed, byte-reads, leads-byte}
 use Rattle.scalar.specs.ScalarLaws.{scalar-bytes, int-bytes, text-bytes}
-use Rattle.record.specs.Records.{Item, FieldName, Known, start, Ceilings, valueFrom, ending, message, Accepted, Reads}
-use Rattle.record.specs.Grammar.{NameForm, a-name, TypeForm, type-name, type-number, PairForm, a-pair, DefinitionForm, a-definition, PlainForm, a-leaf, a-few, a-counted, an-open, a-few-typed, a-counted-typed, an-open-typed, a-map, a-typed-map, a-few-object, an-object, a-reference, Nowhere, ValueForm, Message}
+use Rattle.record.specs.Records.{Item, FieldName, Known, start, Ceilings, valueFrom, message}
+use Rattle.record.specs.Terms.{Accepted, Reads}
+use Rattle.record.specs.Grammar.{NameForm, a-name, TypeForm, type-name, type-number, PairForm, a-pair, DefinitionForm, a-definition, PlainForm, a-leaf, a-few, a-counted, an-open, a-few-typed, a-counted-typed, an-open-typed, a-map, a-typed-map, a-few-object, an-object, a-reference, ValueForm, Message}
+use Rattle.record.specs.Shorthands.{Nowhere, ending}
 use Rattle.record.specs.Parses.{value-reads}
 use Rattle.record.specs.Derives.{value-makes}
 
@@ -128,4 +130,5 @@ module _ (ℓ : Ceilings) (d : ℕ) where
       one = leads-byte (valueFrom ℓ d) m (value-makes ℓ d start m r (x .known) (x .derived)) .makes 0 []
 
       made : Accepted r (message ℓ d start 0 (m ++ []))
-      made = rw (one .1, drop-append-seam) (ap items (append-nil (one .0)) ∙ one .2)
+      made = rw (one .1) (subst (λ (s : List ℕ). Accepted r (before (length m) (one .0) (ending (x .known) (0 + length m) s))) (sym (drop-append-seam m []))
+          (ap items (append-nil (one .0)) ∙ one .2))

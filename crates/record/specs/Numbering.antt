@@ -9,8 +9,10 @@ use lib.ListN.{length, length-append}
 use Rattle.flow.specs.Flow.{Bytes}
 use Rattle.flow.specs.Grammar.{Phrase, Many, finished, another, Ended, ended, Preceded, alone, first}
 use Rattle.record.specs.Records.{Item, FieldName, Known, start, Ceilings}
-use Rattle.record.specs.Grammar.{NameForm, a-name, TypeForm, type-name, type-number, PairForm, a-pair, PlainForm, a-leaf, a-few-typed, a-counted-typed, an-open-typed, a-few, a-counted, an-open, a-typed-map, a-map, a-few-object, an-object, a-reference, DefinitionForm, a-definition, Nowhere, ValueForm}
-use Rattle.record.specs.Answers.{definition?, Accepts}
+use Rattle.record.specs.Grammar.{NameForm, a-name, TypeForm, type-name, type-number, PairForm, a-pair, PlainForm, a-leaf, a-few-typed, a-counted-typed, an-open-typed, a-few, a-counted, an-open, a-typed-map, a-map, a-few-object, an-object, a-reference, DefinitionForm, a-definition, ValueForm}
+use Rattle.record.specs.Shorthands.{Nowhere}
+use Rattle.record.specs.Answers.{definition?}
+use Rattle.record.specs.Terms.{Accepts}
 use Rattle.record.specs.Meaning.{message-form}
 use Rattle.record.specs.Writing.{judged-done}
 

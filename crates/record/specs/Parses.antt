@@ -15,10 +15,10 @@ use Rattle.flow.specs.Laws as Laws
 use Rattle.scalar.specs.Scalars.{isText, scalarFrom, intFrom, textFrom}
 use Rattle.scalar.specs.Grammar.{Spelt, Int, Text}
 use Rattle.scalar.specs.ScalarLaws.{scalar-scans, int-scans, text-scans}
-use Rattle.record.specs.Records.{Leaf, UntypedList, TypedList, UntypedMap, TypedMap, Object, Reference, Item, Val, Definition, ClassName, FieldName, TypeName, TypeNumber, Known, opened, typed, defined, Ceilings, Reader, Opening, int, count, name, typeNumber, referenceTo, container, fieldValues, pair, typeFrom, withType, fieldNames, plainFrom, definition, valueFrom}
+use Rattle.record.specs.Records.{Leaf, UntypedList, TypedList, UntypedMap, TypedMap, Object, Reference, Item, Val, Definition, ClassName, FieldName, TypeName, TypeNumber, Known, opened, typed, defined, Ceilings, Reader, Opening, int, count, name, container, fieldValues, pair, typeFrom, withType, fieldNames, plainFrom, definition, valueFrom}
 use Rattle.record.specs.Forms.{Form, leaf, few, few-typed, few-object, counted, counted-typed, open-list, open-typed, open-map, typed-map, object, reference, formOf, plainBy, plain-is, FormFact, form-fact}
-use Rattle.record.specs.Shorthands.{Two, with-two}
-use Rattle.record.specs.Grammar.{NameForm, a-name, TypeForm, type-name, type-number, PairForm, a-pair, DefinitionForm, a-definition, PlainForm, a-leaf, a-few, a-counted, an-open, a-few-typed, a-counted-typed, an-open-typed, a-map, a-typed-map, a-few-object, an-object, a-reference, Nowhere, ValueForm}
+use Rattle.record.specs.Shorthands.{Two, with-two, Nowhere, typeNumber, referenceTo}
+use Rattle.record.specs.Grammar.{NameForm, a-name, TypeForm, type-name, type-number, PairForm, a-pair, DefinitionForm, a-definition, PlainForm, a-leaf, a-few, a-counted, an-open, a-few-typed, a-counted-typed, an-open-typed, a-map, a-typed-map, a-few-object, an-object, a-reference, ValueForm}
 
 -- ---- parts: an int, a count, a name
 ints : {A : Type 0} (H : Goal Known Item A) (g : ℕ → ℕ → Reader A) (c : Known) (at : ℕ) (s : List ℕ) → Bytes s

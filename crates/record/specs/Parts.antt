@@ -21,7 +21,8 @@ use Rattle.scalar.specs.Answers.{numberAt}
 use Rattle.scalar.specs.NumberAt.{number-lifts}
 use Rattle.scalar.specs.TextLaws.{string-lifts}
 use Rattle.scalar.specs.Answers.{Sizes, sized, sizes, measuredAt}
-use Rattle.record.specs.Records.{Item, TypeName, TypeNumber, Known, typed, Ceilings, Reader, Opening, int, count, name, typeNumber, typeName, typeFrom, Row, row, textRow, itemRow}
+use Rattle.record.specs.Records.{Item, TypeName, TypeNumber, Known, typed, Ceilings, Reader, Opening, int, count, name, typeFrom, Row, row, textRow, itemRow}
+use Rattle.record.specs.Shorthands.{typeNumber, typeName}
 use Rattle.record.specs.Placed.{Placed, Got, Lost, placed, run, on, through, topped, front-none, run-give, run-fail, run-byte, run-end, run-changing, run-asking, run-test, run-headed, run-mapped, run-bind}
 
 -- ---- readers that neither ask what is known nor give items: numbers and texts

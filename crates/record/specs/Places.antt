@@ -15,9 +15,9 @@ use Rattle.flow.specs.Laws.{Parsed, Quiet, quiet-is}
 use Rattle.scalar.specs.Scalars.{isText, scalarFrom, intFrom, textFrom}
 use Rattle.scalar.specs.Grammar.{Spelt, Int, Text}
 use Rattle.scalar.specs.ScalarLaws.{scalar-scans, int-scans, text-scans}
-use Rattle.record.specs.Records.{Leaf, UntypedList, TypedList, UntypedMap, TypedMap, Object, Reference, Item, Val, Definition, ClassName, FieldName, TypeName, TypeNumber, Known, start, opened, typed, defined, Ceilings, Reader, Opening, int, count, name, typeNumber, referenceTo, container, fieldValues, pair, typeFrom, withType, fieldNames, plainFrom, definition, valueFrom, ending, message}
+use Rattle.record.specs.Records.{Leaf, UntypedList, TypedList, UntypedMap, TypedMap, Object, Reference, Item, Val, Definition, ClassName, FieldName, TypeName, TypeNumber, Known, start, opened, typed, defined, Ceilings, Reader, Opening, int, count, name, container, fieldValues, pair, typeFrom, withType, fieldNames, plainFrom, definition, valueFrom, message}
 use Rattle.record.specs.Forms.{Form, leaf, few, few-typed, few-object, counted, counted-typed, open-list, open-typed, open-map, typed-map, object, reference, formOf, plainBy, plain-is}
-use Rattle.record.specs.Shorthands.{with-two}
+use Rattle.record.specs.Shorthands.{with-two, typeNumber, referenceTo, ending}
 
 -- such bytes stand at the head of s
 abbrev pub Stands : (List ℕ → Type 0) → List ℕ → Type 0

@@ -2,33 +2,25 @@
 use mathlib.Core.{Path._≡_, Bool.cond, Bool._||_, List.List, List.[], List._∷_, List._++_, List.map, Option.Option, Option.none, Option.some}
 use Prim.Native.Nat.{ℕ, zero, suc, _-_, _^_}
 use lib.{Dec.ltb, Dec.eqb, ListN.length, ListN.getD}
-use Rattle.flow.specs.Flow.{pick, within, Bytes, Entry, Outcome, Done, Fault, Read, From, One, items, give, fail, byteAt, changing, asking, mapped, headed, bind, after, many, untilEnd, precededBy}
-use Rattle.scalar.specs.declared.Kind.{the-variants.Utf8, the-variants.Binary}
-use Rattle.scalar.specs.Scalars.{sortKind, units, stringAt, Scalar, Num, Str, isText, scalarFrom, intFrom, textFrom}
+use Rattle.flow.specs.Flow.{pick, within, Entry, Outcome, Done, Fault, Read, From, One, give, fail, byteAt, changing, asking, mapped, headed, bind, after, many, untilEnd, precededBy}
+use Rattle.scalar.specs.{declared.Kind.the-variants.{Utf8, Binary}, Scalars.{sortKind, units, stringAt, Scalar, Num, Str, isText, scalarFrom, intFrom, textFrom}}
 
 -- a value, by the kind of its row: 0 to 8 a scalar; 9 a list of so many elements; 10 one of a type number; 11 a map of so many
 -- pairs; 12 one of a type number; 13 an object of a class number, with so many fields; 14 a reference to a number
 pub data Value : Type 0 where
   Leaf : Scalar → Value
-  UntypedList : ℕ → Value
-  TypedList : ℕ → ℕ → Value
-  UntypedMap : ℕ → Value
-  TypedMap : ℕ → ℕ → Value
-  Object : ℕ → ℕ → Value
-  Reference : ℕ → Value
+  UntypedList UntypedMap Reference : ℕ → Value
+  TypedList TypedMap Object : ℕ → ℕ → Value
 
 -- an item of a record: a value; 15 a class definition of so many fields, 16 its name, 17 a field's name; 18 a type name written out, 19 a type by number.
 -- A name carries its content: the UTF-8 bytes, its chunks joined
 pub data Item : Type 0 where
   Val : Value → Item
-  Definition : ℕ → Item
+  Definition TypeNumber : ℕ → Item
   ClassName FieldName TypeName : List ℕ → Item
-  TypeNumber : ℕ → Item
 
-pub record Known : Type 0 where  -- what is known: reference numbers given, type numbers given, and each class's number of fields
-  pub references : ℕ
-  pub types : ℕ
-  pub classes : List ℕ
+abbrev pub Known : Type 0  -- what is known: reference numbers given, type numbers given, and each class's number of fields
+Known = record { references : ℕ; types : ℕ; classes : List ℕ }
 
 abbrev pub start : Known  -- all numbers are given from 0
 start = record { references = 0; types = 0; classes = [] }
@@ -43,10 +35,8 @@ abbrev pub defined : ℕ → Known → Known  -- a definition of n fields is com
 defined n c = record { references = c .references; types = c .types; classes = c .classes ++ (n ∷ []) }
 
 -- the ceilings: type names, class definitions, fields of one class. Containers open at once, and the length, are arguments
-pub record Ceilings : Type 0 where
-  pub types : ℕ
-  pub classes : ℕ
-  pub fields : ℕ
+abbrev pub Ceilings : Type 0
+Ceilings = record { types : ℕ; classes : ℕ; fields : ℕ }
 
 -- ---- what a message reads as: items with their places, or the first refusal from left to right
 abbrev pub Reader : Type 0 → Type 0
@@ -64,16 +54,9 @@ count g = int (λ o n. cond (ltb n (2 ^ 63)) (g o n) (fail 5 o))
 abbrev pub name : (List ℕ → Item) → Opening One  -- a text, as the item x
 name x p b = headed p x (textFrom p b)
 
-abbrev pub typeNumber : ℕ → ℕ → Reader ℕ  -- the type of number k, whose int stands at p: an ungiven one is refusal 6 there
-typeNumber p k = asking (λ c. cond (ltb k (c .types)) (mapped (λ u. k) (headed p TypeNumber (give k))) (fail 6 p))
-
-abbrev pub referenceTo : ℕ → ℕ → Reader ℕ  -- the reference number k, of the reference at p: an ungiven one is refusal 6 there
-referenceTo p k = asking (λ c. cond (ltb k (c .references)) (give k) (fail 6 p))
-
 -- a list, map or object whose opening code stands at p: refusal 7 there where no more may open, before all else about it
 abbrev pub container : Option (Opening One) → ℕ → (Opening One → Reader One) → Reader One
-container none p body = fail 7 p
-container (some f) p body = changing opened (body f)
+container below p body = elim below [ none ↦ fail 7 p | some f ↦ changing opened (body f) ]
 
 -- the fields of an object of class k, and how many: an ungiven class is refusal 6 at the object's code, at p
 abbrev pub fieldValues : Opening One → ℕ → ℕ → Reader ℕ
@@ -82,22 +65,17 @@ fieldValues f p k = asking (λ c. cond (ltb k (length (c .classes))) (mapped (λ
 abbrev pub pair : Opening One → Opening One  -- a key and its value
 pair f p b = after (f p b) (byteAt f)
 
-abbrev pub ending : Reader One  -- the end of the message: a byte there is refusal 8
-ending c at [] = Done 0 tt [] c
-ending c at (b ∷ s) = Fault 8 at
-
 module _ (ℓ : Ceilings) where
-  abbrev pub typeName : Opening ℕ  -- a type name after its first byte b, at p, and the number that it gets: one too many is refusal 7 there
-  typeName p b = asking (λ c. cond (ltb (c .types) (ℓ .types)) (mapped (λ u. c .types) (changing typed (name TypeName p b))) (fail 7 p))
-
-  unfoldable pub typeFrom : Opening ℕ  -- a type, and its number: a text, or an int
-  typeFrom p b = cond (isText b) (typeName p b) (bind (intFrom p b) (typeNumber p))
+  -- a type, and its number: a text gets the next one, and one too many is refusal 7 at p; an int names one, and an ungiven one is refusal 6 there
+  unfoldable pub typeFrom : Opening ℕ
+  typeFrom p b = cond (isText b) (asking (λ c. cond (ltb (c .types) (ℓ .types)) (mapped (λ u. c .types) (changing typed (name TypeName p b))) (fail 7 p)))
+      (bind (intFrom p b) (λ k. asking (λ c. cond (ltb k (c .types)) (mapped (λ u. k) (headed p TypeNumber (give k))) (fail 6 p))))
 
   abbrev pub withType : {A : Type 0} → (ℕ → Reader A) → Reader A  -- a type, and then what its number says
   withType g = bind (byteAt typeFrom) g
 
-  -- a value with no definition before it, after its first byte b, at p: the containers and the reference of 01's table of first bytes, in its order; else a
-  -- scalar, so that 5a, the reserved bytes and 43 are refusal 3. `below` reads the values in it, where one more container may open
+  -- a value with no definition before it, after its first byte b, at p: the containers and the reference, an ungiven one refusal 6 at p, in the order of 01's
+  -- table of first bytes; else a scalar, so that 5a, the reserved bytes and 43 are refusal 3. `below` reads the values in it, where one more container may open
   unfoldable pub plainFrom : Option (Opening One) → Opening One
   plainFrom below p b =
       pick (within 0x70 0x78 b) (container below p (λ f. headed p (λ t. Val (TypedList (b - 0x70) t)) (withType (λ t. mapped (λ u. t) (many f (b - 0x70))))))
@@ -110,7 +88,7 @@ module _ (ℓ : Ceilings) where
       (pick (eqb b 0x48) (container below p (λ f. headed p (λ n. Val (UntypedMap n)) (untilEnd 0x5a (pair f))))
       (pick (within 0x60 0x70 b) (container below p (λ f. headed p (λ n. Val (Object (b - 0x60) n)) (fieldValues f p (b - 0x60))))
       (pick (eqb b 0x4f) (container below p (λ f. headed p (λ (x : ℕ × ℕ). Val (Object (x .0) (x .1))) (int (λ o k. mapped (λ n. (k, n)) (fieldValues f p k)))))
-      (pick (eqb b 0x51) (headed p (λ k. Val (Reference k)) (int (λ o. referenceTo p)))
+      (pick (eqb b 0x51) (headed p (λ k. Val (Reference k)) (int (λ o k. asking (λ c. cond (ltb k (c .references)) (give k) (fail 6 p)))))
       (headed p (λ x. Val (Leaf x)) (scalarFrom p b))))))))))))
 
   -- the field names of a class, whose count n stands at o: too many are refusal 7 there. The class number is given when they are read
@@ -124,23 +102,12 @@ module _ (ℓ : Ceilings) where
   valueFrom zero = precededBy 0x43 definition (plainFrom none)
   valueFrom (suc d) = precededBy 0x43 definition (plainFrom (some (valueFrom d)))
 
-  unfoldable pub message : ℕ → Reader One  -- a message: one record, and nothing after it
-  message d = after (byteAt (valueFrom d)) ending
-
-abbrev pub Accepted : {A : Type 0} → List Item → Outcome Known Item A → Type 0
-Accepted r (Done n u es c) = items es ≡ r
-Accepted r (Fault x o) = ⊥
-
-pub record Reads (ℓ : Ceilings) (d : ℕ) (m : List ℕ) (r : List Item) : Type 0 where  -- the message m, of bytes, is read, all of it, as the items r
-  pub bytes : Bytes m
-  pub accepted : Accepted r (message ℓ d start 0 m)
+  unfoldable pub message : ℕ → Reader One  -- a message: one record, and nothing after it: a byte there is refusal 8
+  message d = after (byteAt (valueFrom d)) (λ c at s. elim s [ [] ↦ Done 0 tt [] c | b ∷ t ↦ Fault 8 at ])
 
 -- ---- rows: kind, place, first, second. An unused first or second is 0
-pub record Row : Type 0 where
-  pub kind : ℕ
-  pub place : ℕ
-  pub first : ℕ
-  pub second : ℕ
+abbrev pub Row : Type 0
+Row = record { kind : ℕ; place : ℕ; first : ℕ; second : ℕ }
 
 abbrev pub row : ℕ → ℕ → ℕ → ℕ → Row
 row k p a b = record { kind = k; place = p; first = a; second = b }
@@ -148,22 +115,17 @@ row k p a b = record { kind = k; place = p; first = a; second = b }
 abbrev pub textRow : ℕ → ℕ → List ℕ → Row  -- a text's row, of the kind k: UTF-16 units, UTF-8 bytes
 textRow k p cs = row k p (units Utf8 cs) (length cs)
 
-abbrev pub scalarRow : ℕ → Scalar → Row  -- 0 null, 1 false, 2 true, 3 int, 4 long, 5 double, 6 date: first is the value; 7 text, 8 bytes
-scalarRow p (Num s v) = row (sortKind s) p v 0
-scalarRow p (Str Utf8 cs) = textRow 7 p cs
-scalarRow p (Str Binary cs) = row 8 p (length cs) 0
-
-abbrev pub valueRow : ℕ → Value → Row
-valueRow p (Leaf x) = scalarRow p x
-valueRow p (UntypedList n) = row 9 p n 0
-valueRow p (TypedList n t) = row 10 p n t
-valueRow p (UntypedMap n) = row 11 p n 0
-valueRow p (TypedMap n t) = row 12 p n t
-valueRow p (Object k n) = row 13 p k n
-valueRow p (Reference k) = row 14 p k 0
-
-abbrev pub itemRow : ℕ → Item → Row  -- the row of an item whose first byte stands at p
-itemRow p (Val v) = valueRow p v
+-- the row of an item whose first byte stands at p. A scalar's kind: 0 null, 1 false, 2 true, 3 int, 4 long, 5 double, 6 date, 7 text, 8 bytes
+abbrev pub itemRow : ℕ → Item → Row
+itemRow p (Val (Leaf (Num s v))) = row (sortKind s) p v 0
+itemRow p (Val (Leaf (Str Utf8 cs))) = textRow 7 p cs
+itemRow p (Val (Leaf (Str Binary cs))) = row 8 p (length cs) 0
+itemRow p (Val (UntypedList n)) = row 9 p n 0
+itemRow p (Val (TypedList n t)) = row 10 p n t
+itemRow p (Val (UntypedMap n)) = row 11 p n 0
+itemRow p (Val (TypedMap n t)) = row 12 p n t
+itemRow p (Val (Object k n)) = row 13 p k n
+itemRow p (Val (Reference k)) = row 14 p k 0
 itemRow p (Definition n) = row 15 p n 0
 itemRow p (ClassName cs) = textRow 16 p cs
 itemRow p (FieldName cs) = textRow 17 p cs
@@ -174,19 +136,15 @@ abbrev pub rows : List (Entry Item) → List Row  -- the rows of a record, in me
 rows es = map (λ (e : Entry Item). itemRow (e .place) (e .item)) es
 
 -- ---- what the rows of a table claim: the items whose rows they are, with the contents that their places open in the source
-abbrev pub scalarContent : Scalar → List ℕ
-scalarContent x = elim x [ Num s v ↦ [] | Str k cs ↦ cs ]
-
 abbrev pub valueContent : Value → List ℕ
-valueContent v = elim v [ Leaf x ↦ scalarContent x | UntypedList n ↦ [] | TypedList n t ↦ [] | UntypedMap n ↦ [] | TypedMap n t ↦ [] | Object k n ↦ [] | Reference k ↦ [] ]
+valueContent v = elim v [ Leaf x ↦ elim x [ Num s n ↦ [] | Str k cs ↦ cs ] | UntypedList n ↦ [] | TypedList n t ↦ [] | UntypedMap n ↦ [] | TypedMap n t ↦ [] | Object k n ↦ [] | Reference k ↦ [] ]
 
 -- an item's content: a text's or name's characters in UTF-8, a byte string's bytes
 abbrev pub contentOf : Item → List ℕ
 contentOf x = elim x [ Val v ↦ valueContent v | Definition n ↦ [] | ClassName cs ↦ cs | FieldName cs ↦ cs | TypeName cs ↦ cs | TypeNumber k ↦ [] ]
 
 abbrev pub told : Outcome One One (List ℕ) → Option (List ℕ)
-told (Done n cs es c) = some cs
-told (Fault x o) = none
+told a = elim a [ Done n cs es c ↦ some cs | Fault x o ↦ none ]
 
 -- the content that a row of the kind k and the place p has in the source: 7, 16, 17 and 18 a text's, 8 a byte string's, the others an empty one;
 -- none where no complete item of its kind is opened there
@@ -194,9 +152,8 @@ unfoldable pub contentAt : List ℕ → ℕ → ℕ → Option (List ℕ)
 contentAt source k p = pick (eqb k 8) (told (stringAt Binary source p)) (pick (eqb k 7 || within 16 19 k) (told (stringAt Utf8 source p)) (some []))
 
 -- a row claims an item: it is the item's row at its own place, which opens the item's content
-pub record Claims (source : List ℕ) (x : Row) (i : Item) : Type 0 where
-  pub agrees : itemRow (x .place) i ≡ x
-  pub content : contentAt source (x .kind) (x .place) ≡ some (contentOf i)
+abbrev pub Claims : List ℕ → Row → Item → Type 0
+Claims source x i = record { agrees : itemRow (x .place) i ≡ x; content : contentAt source (x .kind) (x .place) ≡ some (contentOf i) }
 
 pub data ClaimAll (source : List ℕ) : List Row → List Item → Type 0 where
   no-rows : ClaimAll source [] []

@@ -11,9 +11,9 @@ use Rattle.flow.specs.Flow.{Fault, One, give, fail, byteAt, changing, mapped, h
 use Rattle.flow.specs.Refusals as tell
 use Rattle.scalar.specs.Scalars.{isText, scalarFrom, intFrom, textFrom}
 use Rattle.scalar.specs.Refusals.{scalar-tells, int-tells, text-tells}
-use Rattle.record.specs.Records.{Leaf, UntypedList, TypedList, UntypedMap, TypedMap, Object, Reference, Item, Val, Definition, ClassName, FieldName, TypeName, TypeNumber, Known, start, typed, defined, Ceilings, Reader, Opening, int, count, name, typeNumber, referenceTo, container, fieldValues, pair, typeName, typeFrom, withType, fieldNames, plainFrom, definition, valueFrom, ending, message}
+use Rattle.record.specs.Records.{Leaf, UntypedList, TypedList, UntypedMap, TypedMap, Object, Reference, Item, Val, Definition, ClassName, FieldName, TypeName, TypeNumber, Known, start, typed, defined, Ceilings, Reader, Opening, int, count, name, container, fieldValues, pair, typeFrom, withType, fieldNames, plainFrom, definition, valueFrom, message}
 use Rattle.record.specs.Forms.{Form, leaf, few, few-typed, few-object, counted, counted-typed, open-list, open-typed, open-map, typed-map, object, reference, formOf, plainBy, plain-is}
-use Rattle.record.specs.Shorthands.{with-two}
+use Rattle.record.specs.Shorthands.{with-two, typeNumber, referenceTo, typeName, ending}
 
 abbrev pub Numbered : ℕ → Type 0
 Numbered x = (2 ≤ x) × (x ≤ 8)

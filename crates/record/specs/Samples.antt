@@ -8,7 +8,8 @@ use Rattle.flow.specs.Flow.{pick, Done, Fault}
 use Rattle.scalar.specs.Scalars.{scaled, whole, magnitude, widened, value, formsOf, formAt, shortest, partHead, lastHeads, charLead, stringFrom, stringAt, longest, content, shortestString, scalarFrom, intFrom, textFrom, shortestScalar}
 use Rattle.scalar.specs.Guesses.{wholeSize, wholeGuess, narrowMagnitude, narrowed, guess}
 use Rattle.record.specs.Records.{typeFrom, plainFrom, definition, valueFrom, message, Row, row, rows, contentAt}
-use Rattle.record.specs.Answers.{objectCode, putType, putDefinition, putPlainBy, putPlain, putValue, spell, ReadAnswer, Accept, Refuse, judged, read, WriteAnswer, Wrote, Refused, shortestOf, write, base}
+use Rattle.record.specs.Answers.{objectCode, putType, putDefinition, putPlainBy, putValue, spell, ReadAnswer, Accept, Refuse, judged, read, WriteAnswer, Wrote, Refused, shortestOf, base}
+use Rattle.record.specs.Terms.{write}
 use Rattle.record.specs.Claimed.{ofKind, itemAt}
 
 -- ---- the base: 32 containers open, 262,144 bytes, the open form from 48 elements on
@@ -231,17 +232,17 @@ placed =
 -- ---- they hold
 pub marked-hold : Hold marked
 unfolding judged message valueFrom plainFrom definition typeFrom pick scalarFrom intFrom textFrom stringFrom formsOf formAt value whole widened magnitude scaled leadingZeros partHead lastHeads charLead
-    write shortestOf itemAt ofKind contentAt stringAt spell putValue putPlain putPlainBy putDefinition putType objectCode shortestScalar shortest guess wholeGuess wholeSize narrowed narrowMagnitude shortestString content longest
+    write shortestOf itemAt ofKind contentAt stringAt spell putValue putPlainBy putDefinition putType objectCode shortestScalar shortest guess wholeGuess wholeSize narrowed narrowMagnitude shortestString content longest
 marked-hold = refl
 
 pub samples-hold : Hold (car ++ (classes ++ (accepted ++ (refused-1 ++ (refused-2 ++ (refused-3 ++ (refused-4 ++ (refused-5 ++ (refused-6 ++ (refused-7 ++ (refused-8 ++ (written ++ (list-forms ++ (no-records ++ placed))))))))))))))
 unfolding judged message valueFrom plainFrom definition typeFrom pick scalarFrom intFrom textFrom stringFrom formsOf formAt value whole widened magnitude scaled leadingZeros partHead lastHeads charLead
-    write shortestOf itemAt ofKind contentAt stringAt spell putValue putPlain putPlainBy putDefinition putType objectCode shortestScalar shortest guess wholeGuess wholeSize narrowed narrowMagnitude shortestString content longest
+    write shortestOf itemAt ofKind contentAt stringAt spell putValue putPlainBy putDefinition putType objectCode shortestScalar shortest guess wholeGuess wholeSize narrowed narrowMagnitude shortestString content longest
 samples-hold = refl
 
 -- lengths: a message too long for the ceiling, fewer rows lent than needed; a source too long, a shortest message too long, fewer bytes lent than needed
 pub lengths : (read base 32 3 9 (0x7b ∷ 0x90 ∷ 0x90 ∷ 0x90 ∷ []) ≡ Refuse 1 0 0) × (baseRead 1 (0x79 ∷ 0x90 ∷ []) ≡ Refuse 9 2 0)
     × (write base 48 32 1 9 (0x90 ∷ 0x90 ∷ []) [] ≡ Refused 1 0) × (write base 48 32 1 9 [] (row 3 0 48 0 ∷ []) ≡ Refused 1 0) × (baseWrite 1 [] (row 3 0 48 0 ∷ []) ≡ Refused 9 2)
 unfolding judged message valueFrom plainFrom definition typeFrom pick scalarFrom intFrom textFrom stringFrom formsOf formAt value whole widened magnitude scaled leadingZeros partHead lastHeads charLead
-    write shortestOf itemAt ofKind contentAt stringAt spell putValue putPlain putPlainBy putDefinition putType objectCode shortestScalar shortest guess wholeGuess wholeSize narrowed narrowMagnitude shortestString content longest
+    write shortestOf itemAt ofKind contentAt stringAt spell putValue putPlainBy putDefinition putType objectCode shortestScalar shortest guess wholeGuess wholeSize narrowed narrowMagnitude shortestString content longest
 lengths = (refl, refl, refl, refl, refl)

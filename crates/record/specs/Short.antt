@@ -1,5 +1,5 @@
 -- No message that has a record is shorter than its spelling.
-use mathlib.Core.Path.{_≡_, refl, subst}
+use mathlib.Core.Path.{_≡_, refl, _∙_, ap, subst}
 use mathlib.Core.Bool.{Bool, true, false, _&&_}
 use mathlib.Core.List.{List, [], _∷_, _++_, append-assoc, append-nil}
 use mathlib.Core.Option.{Option, none, some}
@@ -14,8 +14,9 @@ use Rattle.scalar.specs.Grammar.{Int, Text}
 use Rattle.scalar.specs.Scalars.{shortestScalar, shortestInt, shortestText}
 use Rattle.scalar.specs.ScalarLaws.{scalar-short, int-short, int-some, small-count, text-short}
 use Rattle.record.specs.Records.{Value, UntypedList, TypedList, UntypedMap, TypedMap, Object, Reference, Item, Val, Definition, ClassName, FieldName, TypeName, TypeNumber, Known, opened, typed, defined, Ceilings}
-use Rattle.record.specs.Grammar.{NameForm, a-name, TypeForm, type-name, type-number, PairForm, a-pair, DefinitionForm, a-definition, PlainForm, a-leaf, a-few, a-counted, an-open, a-few-typed, a-counted-typed, an-open-typed, a-map, a-typed-map, a-few-object, an-object, a-reference, Nowhere, ValueForm, Message}
-use Rattle.record.specs.Answers.{Spelled, Put, putThen, putMany, putBytes, putNothing, putCode, className?, fieldName?, putName, putList, putOpen, codeThen, objectCode, putContainer, putIf, putType, putPlainBy, putPlain, putDefined, putDefinition, putPreceded, putPrecededBy, putValue, spell}
+use Rattle.record.specs.Grammar.{NameForm, a-name, TypeForm, type-name, type-number, PairForm, a-pair, DefinitionForm, a-definition, PlainForm, a-leaf, a-few, a-counted, an-open, a-few-typed, a-counted-typed, an-open-typed, a-map, a-typed-map, a-few-object, an-object, a-reference, ValueForm, Message}
+use Rattle.record.specs.Shorthands.{onSpelled, prefixed, complete, Nowhere, codeThen, putDefined, putPrecededBy, putPlain}
+use Rattle.record.specs.Answers.{Spelling, Spelled, Put, putThen, putMany, putBytes, putCode, className?, fieldName?, putName, putList, putOpen, objectCode, putContainer, putIf, putType, putPlainBy, putDefinition, putPreceded, putValue, spell}
 
 -- of these items, whatever follows, g makes at most n bytes
 record Spells (g : Put) (c : Known) (is : List Item) (n : ℕ) (c′ : Known) : Type 0 where
@@ -33,12 +34,15 @@ Short o n = (w : List ℕ) × (o ≡ some w) × (length w ≤ n)
 at-most : {g : Put} {c c′ : Known} {is : List Item} {m n : ℕ} → Spells g c is m c′ → m ≤ n → Spells g c is n c′
 at-most h l = record { spells = λ rest. let p = h .spells rest in (p .0, p .1, omega arith) }
 
+both-put : (g g′ : Put) (c c₁ c₂ : Known) (r r₁ r₂ : List Item) (u v : List ℕ) → g c r ≡ Spelled u r₁ c₁ → g′ c₁ r₁ ≡ Spelled v r₂ c₂ → putThen g g′ c r ≡ Spelled (u ++ v) r₂ c₂
+both-put g g′ c c₁ c₂ r r₁ r₂ u v e f = ap (λ (o : Spelling). onSpelled o (λ w r′ c′. prefixed w (g′ c′ r′))) e ∙ ap (prefixed u) f
+
 then-spells : {g g′ : Put} {c c₁ c₂ : Known} {is js : List Item} {m n : ℕ} → Spells g c is m c₁ → Spells g′ c₁ js n c₂ → Spells (putThen g g′) c (is ++ js) (m + n) c₂
-then-spells {js = js} h k = record {
+then-spells {g} {g′} {js = js} h k = record {
   spells = λ rest.
       let p = h .spells (js ++ rest) in
       let q = k .spells rest in
-      (p .0 ++ q .0, rw (append-assoc, p .1, q .1) refl, rw length-append (omega arith));
+      (p .0 ++ q .0, rw append-assoc (both-put g g′ _ _ _ _ _ _ _ _ (p .1) (q .1)), rw length-append (omega arith));
 }
 
 many-spells : {G : Phrase Known Item} {g : Put} → Covers G g → {n : ℕ} {c c′ : Known} {w : List ℕ} {is : List Item} → Many G n c w is c′ → Spells (putMany g n) c is (length w) c′
@@ -58,7 +62,7 @@ bytes-spell o h = record { spells = λ rest. (h .0, rw (h .1) refl, h .2) }
 code-spells : (b : ℕ) {c : Known} → Spells (putCode b) c [] 1 c
 code-spells b = record { spells = λ rest. (b ∷ [], refl, omega arith) }
 
-nothing-spells : {c : Known} → Spells putNothing c [] 0 c
+nothing-spells : {c : Known} → Spells (putBytes (some [])) c [] 0 c
 nothing-spells = record { spells = λ rest. ([], refl, omega arith) }
 
 if-spells : (t : Bool) {g : Put} {c c′ : Known} {is : List Item} {n : ℕ} → t ≡ true → Spells g c is n c′ → Spells (putIf t g) c is n c′
@@ -127,7 +131,6 @@ module _ (ℓ : Ceilings) (openFrom : ℕ) (most : openFrom ≤ 48) where
       PlainSpells c v is n c′ = Spells (putPlain ℓ openFrom below) c (Val v ∷ is) n c′
 
       val : {v : Value} {c c′ : Known} {is : List Item} {n : ℕ} → Spells (putPlainBy ℓ openFrom below v) c is n c′ → PlainSpells c v is n c′
-      unfolding putPlain
       val h = record { spells = h .spells }
 
       holds : (body : Put → Put) {c c′ : Known} {is : List Item} {n : ℕ} → T room → ((g : Put) → Covers G g → Spells (body g) (opened c) is n c′) → Spells (putContainer below body) c is n c′
@@ -140,7 +143,7 @@ module _ (ℓ : Ceilings) (openFrom : ℕ) (most : openFrom ≤ 48) where
       -- whatever its form in the message, a list, map or object of so many bytes at least
       listed : {n : ℕ} {c c′ : Known} {v : List ℕ} {js : List Item} {m : ℕ} → T room → Many G n (opened c) v js c′ → 2 + length v ≤ m → PlainSpells c (UntypedList n) js m c′
       unfolding putPlainBy
-      listed {n} r y l = at-most (val (holds (λ g. putList openFrom 0x78 0x58 0x57 n putNothing (putMany g n)) r (λ g hg. list-spells 0x78 0x58 0x57 n nothing-spells (many-spells hg y)))) (omega arith)
+      listed {n} r y l = at-most (val (holds (λ g. putList openFrom 0x78 0x58 0x57 n (putBytes (some [])) (putMany g n)) r (λ g hg. list-spells 0x78 0x58 0x57 n nothing-spells (many-spells hg y)))) (omega arith)
 
       typed-listed : {n t : ℕ} {c c₁ c′ : Known} {u v : List ℕ} {is js : List Item} {m : ℕ} → T room → TypeForm ℓ (opened c) u t is c₁ → Many G n c₁ v js c′ → 2 + (length u + length v) ≤ m
           → PlainSpells c (TypedList n t) (is ++ js) m c′
@@ -157,7 +160,7 @@ module _ (ℓ : Ceilings) (openFrom : ℕ) (most : openFrom ≤ 48) where
 
       mapped : {n : ℕ} {c c′ : Known} {w : List ℕ} {js : List Item} → T room → Ended 0x5a (PairForm G) n (opened c) w js c′ → PlainSpells c (UntypedMap n) js (suc (length w)) c′
       unfolding putPlainBy
-      mapped {n} r (ended {v = v} y) = at-most (val (holds (λ g. putOpen 0x48 putNothing (putMany (putThen g g) n)) r
+      mapped {n} r (ended {v = v} y) = at-most (val (holds (λ g. putOpen 0x48 (putBytes (some [])) (putMany (putThen g g) n)) r
           (λ g hg. map-spells 0x48 nothing-spells (many-spells (pair-spells hg) y)))) (omega (arith, length-append v (0x5a ∷ [])))
 
       typed-mapped : {n t : ℕ} {c c₁ c′ : Known} {u w : List ℕ} {is js : List Item} → T room → TypeForm ℓ (opened c) u t is c₁ → Ended 0x5a (PairForm G) n c₁ w js c′
@@ -191,7 +194,7 @@ module _ (ℓ : Ceilings) (openFrom : ℕ) (most : openFrom ≤ 48) where
           (val (holds (λ g. putList openFrom 0x70 0x56 0x55 n (putType ℓ t) (putMany g n)) r (λ g hg. few-spells 0x70 0x56 0x55 n (type-spells q) (many-spells hg y) l))) (omega (arith, length-append u v))
       plain-spells (a-counted-typed {u = u} {v = v} {w = x} r q i l y) = typed-listed r q y (omega (arith, length-append u (v ++ x), length-append v x, int-some i))
       plain-spells (an-open-typed r q y) = typed-open-listed r q y
-      plain-spells (a-few {n = n} r l y) = at-most (val (holds (λ g. putList openFrom 0x78 0x58 0x57 n putNothing (putMany g n)) r
+      plain-spells (a-few {n = n} r l y) = at-most (val (holds (λ g. putList openFrom 0x78 0x58 0x57 n (putBytes (some [])) (putMany g n)) r
           (λ g hg. few-spells 0x78 0x58 0x57 n nothing-spells (many-spells hg y) l))) (omega arith)
       plain-spells (a-counted {u = u} {v = v} r i l y) = listed r y (omega (arith, length-append u v, int-some i))
       plain-spells (an-open r y) = open-listed r y
@@ -228,7 +231,6 @@ module _ (ℓ : Ceilings) (openFrom : ℕ) (most : openFrom ≤ 48) where
   -- a value's first item is no definition
   no-definition : (below : Option Put) (bound : ℕ) (c : Known) (r : List Item) (w : List ℕ) (rest : List Item) (c′ : Known) → putPlain ℓ openFrom below c r ≡ Spelled w rest c′
       → putPreceded ℓ bound (putPlain ℓ openFrom below) c r ≡ Spelled w rest c′
-  unfolding putPlain
   no-definition below zero c r w rest c′ e = e
   no-definition below (suc k) c [] w rest c′ e = e
   no-definition below (suc k) c (Val v ∷ r) w rest c′ e = e
@@ -247,7 +249,7 @@ module _ (ℓ : Ceilings) (openFrom : ℕ) (most : openFrom ≤ 48) where
       go rest (suc bound) i =
           let p = h .spells (js ++ rest) in
           let q = k .spells rest bound (omega (arith, length-append is js)) in
-          (p .0 ++ q .0, rw (append-assoc, p .1, q .1) refl, omega (arith, length-append (p .0) (q .0)))
+          (p .0 ++ q .0, rw append-assoc (both-put (putDefinition ℓ) (putPreceded ℓ bound g) _ _ _ _ _ _ _ _ (p .1) (q .1)), omega (arith, length-append (p .0) (q .0)))
 
   definition-first : {g : Put} {c c₁ c₂ : Known} {u : List ℕ} {m : ℕ} {is js : List Item} → DefinitionForm ℓ c u is c₁ → Spells (putDefinition ℓ) c is (suc (length u)) c₁
       → SpellsBy g c₁ js m c₂ → SpellsBy g c (is ++ js) (suc (length u) + m) c₂
@@ -277,4 +279,4 @@ module _ (ℓ : Ceilings) (openFrom : ℕ) (most : openFrom ≤ 48) where
   -- a record that the grammar derives has a spelling, of no more bytes
   pub message-short : (d : ℕ) (m : List ℕ) (r : List Item) → Message ℓ d m r → (w : List ℕ) × (spell ℓ openFrom d r ≡ some w) × (length w ≤ length m)
   unfolding spell
-  message-short d m r x = let p = value-spells d .covers (x .derived) .spells [] in (p .0, rw (rw append-nil at (p .1)) refl, p .2)
+  message-short d m r x = let p = value-spells d .covers (x .derived) .spells [] in (p .0, ap complete (rw append-nil at (p .1)), p .2)

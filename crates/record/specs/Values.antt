@@ -25,9 +25,9 @@ use Rattle.scalar.specs.Answers.{Sizes, sized, sizes, measuredAt}
 use Rattle.scalar.specs.ScalarLaws.{isScalar, scalar-shut}
 use Rattle.record.specs.declared.Group.{Group}
 use Rattle.record.specs.declared.Group.the-variants.{Counted, Fields, Open, Pairs}
-use Rattle.record.specs.Records.{Leaf, UntypedList, TypedList, UntypedMap, TypedMap, Object, Reference, Item, Val, Known, opened, Ceilings, Reader, Opening, int, count, referenceTo, fieldValues, pair, typeFrom, withType, plainFrom, Row, row, itemRow}
+use Rattle.record.specs.Records.{Leaf, UntypedList, TypedList, UntypedMap, TypedMap, Object, Reference, Item, Val, Known, opened, Ceilings, Reader, Opening, int, count, fieldValues, pair, typeFrom, withType, plainFrom, Row, row, itemRow}
 use Rattle.record.specs.Forms.{Form, leaf, few, few-typed, few-object, counted, counted-typed, open-list, open-typed, open-map, typed-map, object, reference, formOf, plainBy, plain-is}
-use Rattle.record.specs.Shorthands.{Two, with-two}
+use Rattle.record.specs.Shorthands.{Two, with-two, referenceTo}
 use Rattle.record.specs.Placed.{Placed, Got, Lost, placed, run, front, on, through, topped, topped-through, run-give, run-fail, run-changing, run-asking, run-test, run-headed, run-mapped, run-bind}
 use Rattle.record.specs.Runs.{rest, rest-many, rest-fields, rest-open, rest-pairs}
 use Rattle.record.specs.Parts.{lone, laid, number-behind, string-behind, string-laid, int-got, int-lost, count-got, count-negative, count-lost}

@@ -10,8 +10,8 @@ use lib.ListN.{length, drop, getD, length-drop, drop-of-length-le}
 use lib.Seq.{drop-cons, drop-drop}
 use Rattle.flow.specs.Tests.{split}
 use Rattle.record.specs.Records.{Item, Definition, Known, Row, row}
-use Rattle.record.specs.Answers.{Spelling, Spelled, NoRecord, Put, onSpelled, putThen, putMany, putBytes, putIf, putItem}
-use Rattle.record.specs.Shorthands.{prefixed}
+use Rattle.record.specs.Answers.{Spelling, Spelled, NoRecord, Put, putThen, putMany, putBytes, putIf, putItem}
+use Rattle.record.specs.Shorthands.{prefixed, onSpelled}
 use Rattle.record.specs.Claimed.{onSome, itemAt, recordOf}
 
 -- ---- the items that rows claim, up to the first row that claims none

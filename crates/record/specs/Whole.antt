@@ -10,8 +10,9 @@ use lib.Seq.{drop-cons}
 use borrow.Author.Tests.{lt-ltb, le-ltb}
 use Rattle.flow.specs.Flow.{pick, Entry, Outcome, Done, Fault, One, byteAt}
 use Rattle.flow.specs.Tests.{pick-true, pick-false}
-use Rattle.record.specs.Records.{Item, Known, start, Ceilings, valueFrom, ending, message, Row, rows}
-use Rattle.record.specs.Answers.{ReadAnswer, Accept, Refuse, judged, answered, read}
+use Rattle.record.specs.Records.{Item, Known, start, Ceilings, valueFrom, message, Row, rows}
+use Rattle.record.specs.Answers.{ReadAnswer, Accept, Refuse, judged, read}
+use Rattle.record.specs.Shorthands.{answered, ending}
 use Rattle.record.specs.Placed.{Placed, Got, Lost, placed, run, front, on, run-bind}
 
 -- ---- the end of the message

@@ -16,12 +16,13 @@ use Rattle.scalar.specs.NumberLaws.{number-some}
 use Rattle.scalar.specs.TextLaws.{string-some}
 use Rattle.scalar.specs.Bits.{number-bits, content-length, units-few}
 use Rattle.record.specs.Records.{Leaf, Item, Val, FieldName, Known, start, opened, typed, defined, Ceilings, row, itemRow, rows}
-use Rattle.record.specs.Grammar.{NameForm, a-name, TypeForm, type-name, type-number, PairForm, a-pair, DefinitionForm, a-definition, PlainForm, a-leaf, a-few, a-counted, an-open, a-few-typed, a-counted-typed, an-open-typed, a-map, a-typed-map, a-few-object, an-object, a-reference, Nowhere, ValueForm}
+use Rattle.record.specs.Grammar.{NameForm, a-name, TypeForm, type-name, type-number, PairForm, a-pair, DefinitionForm, a-definition, PlainForm, a-leaf, a-few, a-counted, an-open, a-few-typed, a-counted-typed, an-open-typed, a-map, a-typed-map, a-few-object, an-object, a-reference, ValueForm}
+use Rattle.record.specs.Shorthands.{Nowhere}
 use Rattle.record.specs.RowLaws.{item-moved}
 use Rattle.record.specs.Meaning.{reads-derived}
 use Rattle.record.specs.Extent.{scalar-some}
 use Rattle.record.specs.Places.{EntriesOpen, OutcomeOpens, places}
-use Rattle.record.specs.Answers.{Accepts}
+use Rattle.record.specs.Terms.{Accepts}
 use Rattle.record.specs.TableLaws.{Fits, All}
 use Rattle.record.specs.Writing.{judged-done, own-reads}
 

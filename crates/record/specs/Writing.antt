@@ -17,9 +17,10 @@ use Rattle.scalar.specs.declared.Kind.the-variants.{Utf8, Binary}
 use Rattle.scalar.specs.Scalars.{stringFrom, stringAt, Num, Str}
 use Rattle.scalar.specs.Grammar.{String, Spelt, a-string}
 use Rattle.scalar.specs.TextLaws.{string-makes}
-use Rattle.record.specs.Records.{Leaf, UntypedList, TypedList, UntypedMap, TypedMap, Object, Reference, Item, Val, Definition, ClassName, FieldName, TypeName, TypeNumber, Known, start, Ceilings, message, Accepted, Reads, Row, itemRow, rows, contentOf, told, contentAt, ClaimAll, no-rows, a-row}
+use Rattle.record.specs.Records.{Leaf, UntypedList, TypedList, UntypedMap, TypedMap, Object, Reference, Item, Val, Definition, ClassName, FieldName, TypeName, TypeNumber, Known, start, Ceilings, message, Row, itemRow, rows, contentOf, told, contentAt, ClaimAll, no-rows, a-row}
 use Rattle.record.specs.RowLaws.{item-moved}
-use Rattle.record.specs.Answers.{spell, judged, shortestOf, write, Wrote, Has}
+use Rattle.record.specs.Answers.{spell, judged, shortestOf, Wrote}
+use Rattle.record.specs.Terms.{write, Has, Accepted, Reads}
 use Rattle.record.specs.Meaning.{message-all}
 use Rattle.record.specs.ItemTheorems.{no-longer, reads-back}
 use Rattle.record.specs.Places.{Stands, Opens, EntriesOpen, OutcomeOpens, places}

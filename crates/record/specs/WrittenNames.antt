@@ -10,7 +10,8 @@ use lib.ListN.{length, drop}
 use borrow.Author.Tests.{lt-ltb, le-ltb, le-leb, lt-leb, eq-eqb, ne-eqb}
 use Rattle.scalar.specs.Scalars.{shortestInt, shortestText}
 use Rattle.record.specs.Records.{Item, Val, Definition, ClassName, FieldName, TypeName, TypeNumber, Known, typed, defined, Ceilings}
-use Rattle.record.specs.Answers.{Put, putThen, putMany, putBytes, putIf, definition?, className?, fieldName?, putName, putDefined, putType, putDefinition}
+use Rattle.record.specs.Answers.{Put, putThen, putMany, putBytes, putIf, definition?, className?, fieldName?, putName, putType, putDefinition}
+use Rattle.record.specs.Shorthands.{putDefined}
 use Rattle.record.specs.Walked.{At, End, at-within, Walked, Over, Stuck, walked, walk, behind, onOver, behind-behind, many-drops, walk-then, walk-bytes, walk-none, walk-both, walk-unless-one, walk-unless-other, walk-if-none, walk-item, walk-other, walk-over, walk-same, walk-within, walk-first, walk-first-none}
 use Rattle.record.specs.Drops.{name-drops, namesOf, countOf, bodyOf, definable, definitionBy}
 use Rattle.record.specs.declared.Contents.the-variants.{Elements}

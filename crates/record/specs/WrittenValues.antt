@@ -1,12 +1,13 @@
 -- What is written of a value at an index of the items: any number of class definitions, and then the value, with no bound of the recursion.
 use mathlib.Core.Path.{_≡_, refl, sym, ap, _∙_}
-use mathlib.Core.List.{List, [], _∷_}
+use mathlib.Core.List.{List, _∷_}
 use mathlib.Core.Option.{Option, none, some}
 use Prim.Native.Nat.{ℕ, zero, suc, _+_, _-_, _≤_, _<_}
 use native.Mathlib.Omega.{arith}
 use lib.ListN.{length, drop, length-drop, drop-of-length-le}
 use Rattle.record.specs.Records.{Item, Definition, Known, Ceilings}
-use Rattle.record.specs.Answers.{Put, putThen, definition?, putDefinition, putPreceded, putPrecededBy, putPlain, putValue}
+use Rattle.record.specs.Answers.{Put, putThen, definition?, putDefinition, putPreceded, putValue}
+use Rattle.record.specs.Shorthands.{putPrecededBy, putPlain}
 use Rattle.record.specs.Walked.{At, End, at-within, at-or-end, Walked, Over, Stuck, walked, walk, behind, onOver, walk-then, walk-item, walk-same, walk-forward}
 use Rattle.record.specs.Drops.{definitionBy, defining-drops, definition-drops}
 use Rattle.record.specs.Writes.{plain-end}

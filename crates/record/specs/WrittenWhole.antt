@@ -8,7 +8,9 @@ use lib.ListN.{length, length-drop}
 use borrow.Author.Tests.{lt-ltb, le-ltb}
 use Rattle.flow.specs.Tests.{pick-true, pick-false}
 use Rattle.record.specs.Records.{Item, Known, start, Ceilings, Row}
-use Rattle.record.specs.Answers.{Spelling, Spelled, NoRecord, putValue, spell, complete, Refused, shortestOf, stored, write}
+use Rattle.record.specs.Answers.{Spelling, Spelled, NoRecord, putValue, spell, Refused, shortestOf}
+use Rattle.record.specs.Shorthands.{complete, stored}
+use Rattle.record.specs.Terms.{write}
 use Rattle.record.specs.Claimed.{onSome, itemAt, recordOf}
 use Rattle.record.specs.Walked.{claimed, claimed-all, claimed-short, Walked, Over, Stuck, walked, walk, Dropped, walk-within}
 use Rattle.record.specs.Drops.{value-drops}

@@ -14,7 +14,8 @@ use Rattle.flow.specs.Tests.{pick-true, pick-false, split}
 use Rattle.scalar.specs.Scalars.{shortestInt}
 use Rattle.record.specs.declared.Contents.the-variants.{Elements, Couples}
 use Rattle.record.specs.Records.{Value, UntypedList, TypedList, UntypedMap, TypedMap, Object, Item, Val, Known, opened}
-use Rattle.record.specs.Answers.{Put, putThen, putMany, putBytes, codeThen, objectCode, base}
+use Rattle.record.specs.Answers.{Put, putThen, putMany, putBytes, objectCode, base}
+use Rattle.record.specs.Shorthands.{codeThen}
 use Rattle.record.specs.Claimed.{itemAt}
 use Rattle.record.specs.RowItems.{untyped-list, untyped-map, typed-list, typed-map, an-object, first-item, first-none, both-item}
 use Rattle.record.specs.Walked.{At, at-within, Walked, Stuck, walk, behind, Drops, many-drops, then-drops, walk-both, walk-unless-one, walk-unless-other, walk-first, walk-first-none}

@@ -14,8 +14,9 @@ use Rattle.flow.specs.Flow as slices
 use Rattle.scalar.specs.Answers.{reported}
 use Rattle.record.specs.declared.Contents.the-variants.{Elements}
 use Rattle.record.specs.Records.{Item, Known, start, Row}
-use Rattle.record.specs.Answers.{putValue, WriteAnswer, Wrote, Refused, base, shortestOf, answeredTo, asNumbers, asBytes, rowsOf, reportWritten, outputWritten, written, writeReport, writeOutput}
-use Rattle.record.specs.Answers as messages
+use Rattle.record.specs.Answers.{putValue, WriteAnswer, Wrote, Refused, base, shortestOf, answeredTo, asNumbers, asBytes, rowsOf, reportWritten, written, writeReport, writeOutput}
+use Rattle.record.specs.Shorthands.{outputWritten}
+use Rattle.record.specs.Shorthands as shorthands
 use Rattle.record.specs.Walked.{claimed-few, Walked, Over, Stuck, walk}
 use Rattle.record.specs.Drops.{value-drops}
 use Rattle.record.specs.Contents.{left, one-value}
@@ -79,19 +80,19 @@ module _ (openFrom : ℕ) (source t b : List ℕ) (n : ℕ) where
 -- ---- what is answered and stored, where the shortest message is o
 module _ (o : Option (List ℕ)) (out : List ℕ) where
   -- an answer of the code, by the definitions' answer
-  into : (a : WriteAnswer) → messages.stored 262_144 (length out) o ≡ a → (r : answer.WriteAnswer) → report r ≡ reportWritten a → (out′ : List ℕ) → out′ ≡ outputWritten out a → WritesInto o out r out′
+  into : (a : WriteAnswer) → shorthands.stored 262_144 (length out) o ≡ a → (r : answer.WriteAnswer) → report r ≡ reportWritten a → (out′ : List ℕ) → out′ ≡ outputWritten out a → WritesInto o out r out′
   into a h r e out′ f = record { says = e ∙ ap reportWritten (sym h); holds = f ∙ ap (outputWritten out) (sym h) }
 
   module _ (p : Put) (m : JudgeMet o p) where
     pub into-none : p ≡ put.NoRecord → WritesInto o out answers.NoRecord out
-    into-none e = into (Refused 10 0) (ap (messages.stored 262_144 (length out)) (subst (λ (p : Put). JudgeSays o p) e (m .says))) answers.NoRecord refl out refl
+    into-none e = into (Refused 10 0) (ap (shorthands.stored 262_144 (length out)) (subst (λ (p : Put). JudgeSays o p) e (m .says))) answers.NoRecord refl out refl
 
     module _ (s : ℕ) (e : p ≡ put.Done s) where
       sized : JudgeSays o (put.Done s)
       sized = subst (λ (p : Put). JudgeSays o p) e (m .says)
 
-      stored-as : messages.stored 262_144 (length out) o ≡ messages.stored 262_144 (length out) (some (sized .0))
-      stored-as = ap (messages.stored 262_144 (length out)) (sized .1)
+      stored-as : shorthands.stored 262_144 (length out) o ≡ shorthands.stored 262_144 (length out) (some (sized .0))
+      stored-as = ap (shorthands.stored 262_144 (length out)) (sized .1)
 
       pub into-long : 262_144 < s → WritesInto o out answers.TooLong out
       into-long l = into (Refused 1 0) (stored-as ∙ pick-true _ _ (lt-ltb 262_144 (length (sized .0)) (omega (arith, sized .2)))) answers.TooLong refl out refl
@@ -153,8 +154,8 @@ module _ (openFrom : ℕ) (source t b : List ℕ) (n : ℕ) (out : List ℕ) whe
   from-long l = from (Refused 1 0) (pick-true _ _ (lt-ltb 262_144 (length source) l)) answers.TooLong refl out refl
 
   module _ (short : length source ≤ 262_144) where
-    answered : (x : Option (List ℕ)) → pick (ltb (lentIn t b) n) none (Shortest openFrom source t b n) ≡ x → writtenFrom openFrom source t b n (length out) ≡ messages.stored 262_144 (length out) x
-    answered x h = pick-false _ _ (le-ltb 262_144 (length source) short) ∙ ap (messages.stored 262_144 (length out)) h
+    answered : (x : Option (List ℕ)) → pick (ltb (lentIn t b) n) none (Shortest openFrom source t b n) ≡ x → writtenFrom openFrom source t b n (length out) ≡ shorthands.stored 262_144 (length out) x
+    answered x h = pick-false _ _ (le-ltb 262_144 (length source) short) ∙ ap (shorthands.stored 262_144 (length out)) h
 
     module _ (lent : ℕ) (is : lent ≡ lentIn t b) where
       pub from-claim : lent < n → WritesFrom openFrom source t b n out answers.NoRecord out
@@ -162,7 +163,7 @@ module _ (openFrom : ℕ) (source t b : List ℕ) (n : ℕ) (out : List ℕ) whe
 
       pub from-rows : n ≤ lent → (r : answer.WriteAnswer) (out′ : List ℕ) → WritesInto (Shortest openFrom source t b n) out r out′ → WritesFrom openFrom source t b n out r out′
       from-rows l r out′ m =
-          from (messages.stored 262_144 (length out) (Shortest openFrom source t b n)) (answered (Shortest openFrom source t b n) (pick-false _ _ (le-ltb (lentIn t b) n (omega arith)))) r (m .says) out′ (m .holds)
+          from (shorthands.stored 262_144 (length out) (Shortest openFrom source t b n)) (answered (Shortest openFrom source t b n) (pick-false _ _ (le-ltb (lentIn t b) n (omega arith)))) r (m .says) out′ (m .holds)
 
 -- ---- one table
 lent-numbers : (t : List ℕ) → lentIn t [] ≡ length t / 4

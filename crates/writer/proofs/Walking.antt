@@ -18,7 +18,8 @@ use Rattle.scalar.specs.Scalars.{Num, Str}
 use Rattle.record.specs.declared.Contents.{Contents}
 use Rattle.record.specs.declared.Contents.the-variants.{Elements, Couples}
 use Rattle.record.specs.Records.{Value, Leaf, UntypedList, TypedList, UntypedMap, TypedMap, Object, Reference, Item, Val, Definition, ClassName, FieldName, TypeName, TypeNumber, Known, Row, itemRow}
-use Rattle.record.specs.Answers.{putPlain, putValue, base}
+use Rattle.record.specs.Answers.{putValue, base}
+use Rattle.record.specs.Shorthands.{putPlain}
 use Rattle.record.specs.Answers as spelling
 use Rattle.record.specs.Claimed.{itemAt, claims-back}
 use Rattle.record.specs.Walked.{Walked, Over, Stuck, walk, behind, behind-none, behind-behind, walk-within}

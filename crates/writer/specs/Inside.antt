@@ -14,8 +14,10 @@ use Rattle.scalar.specs.declared.Kind.{Kind}
 use Rattle.scalar.specs.Scalars.{units, stringAt, shortestString, shortestInt, sortKind, Form, form, formsOf}
 use Rattle.record.specs.declared.Contents.{Contents}
 use Rattle.record.specs.Records.{Item, Definition, Known, Row, row, told}
-use Rattle.record.specs.Answers.{putThen, putMany, putNothing, putBytes, putIf, className?, fieldName?, putName, putOpen, putList, objectCode, putType, putDefinition, putPlain, putValue, base, WriteAnswer, shortestOf, answeredTo, asNumbers, asBytes, rowsOf, reportWritten, outputWritten}
+use Rattle.record.specs.Answers.{putThen, putMany, putBytes, putIf, className?, fieldName?, putName, putOpen, putList, objectCode, putType, putDefinition, putValue, base, WriteAnswer, shortestOf, answeredTo, asNumbers, asBytes, rowsOf, reportWritten}
+use Rattle.record.specs.Shorthands.{putPlain, outputWritten}
 use Rattle.record.specs.Answers as spelling
+use Rattle.record.specs.Shorthands as shorthands
 use Rattle.record.specs.Claimed.{itemAt}
 use Rattle.record.specs.Walked.{claimed, At, End, Walked, Over, Stuck, walk, behind, Drops}
 use Rattle.record.specs.Writes.{ended}
@@ -170,7 +172,7 @@ pub record StepMet (o : Walked) (is : List Item) (from s : ℕ) (out : List ℕ)
 -- of a typed list or map, whose type number is t; of another
 abbrev pub typeBy : Bool → ℕ → spelling.Put
 typeBy true t = putType base t
-typeBy false t = putNothing
+typeBy false t = putBytes (some [])
 
 -- the type that the row r gives
 pub record TypeRowMet (source : List ℕ) (r : RowRead) (t : ℕ) (ks out : List ℕ) (s : ℕ) (p : Put) (ks′ out′ : List ℕ) : Type 0 where
@@ -309,8 +311,8 @@ pub record JudgeMet (o : Option (List ℕ)) (r : Put) : Type 0 where
 
 -- the rows lent have the shortest message o, or none
 pub record WritesInto (o : Option (List ℕ)) (out : List ℕ) (r : answer.WriteAnswer) (out′ : List ℕ) : Type 0 where
-  pub says : report r ≡ reportWritten (spelling.stored 262_144 (length out) o)
-  pub holds : out′ ≡ outputWritten out (spelling.stored 262_144 (length out) o)
+  pub says : report r ≡ reportWritten (shorthands.stored 262_144 (length out) o)
+  pub holds : out′ ≡ outputWritten out (shorthands.stored 262_144 (length out) o)
 
 -- the first n rows of the tables, which may be more than are lent
 abbrev pub writtenFrom : ℕ → List ℕ → List ℕ → List ℕ → ℕ → ℕ → WriteAnswer

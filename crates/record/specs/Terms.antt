@@ -1,0 +1,30 @@
+-- The terms in which the demands speak of records and rows. No function's promise needs them.
+use mathlib.Core.{Path._≡_, List.List}
+use Prim.Native.Nat.{ℕ}
+use lib.ListN.{length}
+use Rattle.flow.specs.Flow.{Bytes, Entry, Outcome, Done, Fault, items}
+use Rattle.record.specs.Records.{Item, Known, start, Ceilings, message, Row, ClaimAll}
+use Rattle.record.specs.Answers.{judged, WriteAnswer, shortestOf, answeredTo}
+
+abbrev pub Accepted : {A : Type 0} → List Item → Outcome Known Item A → Type 0
+Accepted r (Done n u es c) = items es ≡ r
+Accepted r (Fault x o) = ⊥
+
+pub record Reads (ℓ : Ceilings) (d : ℕ) (m : List ℕ) (r : List Item) : Type 0 where  -- the message m, of bytes, is read, all of it, as the items r
+  pub bytes : Bytes m
+  pub accepted : Accepted r (message ℓ d start 0 m)
+
+-- none of refusals 1 to 8 is given for the message m, which reads as the items r
+pub record Accepts (ℓ : Ceilings) (d longest : ℕ) (m : List ℕ) (r : List Item) : Type 0 where
+  pub entries : List (Entry Item)
+  pub known : Known
+  pub done : judged ℓ d longest m ≡ Done (length m) tt entries known
+  pub reads-as : items entries ≡ r
+
+unfoldable pub write : Ceilings → (openFrom d longest lent : ℕ) → List ℕ → List Row → WriteAnswer  -- the writer's answer for rows
+write ℓ openFrom d longest lent source r = answeredTo longest lent source (shortestOf ℓ openFrom d source r)
+
+pub record Has (ℓ : Ceilings) (d : ℕ) (source : List ℕ) (r : List Row) (m : List ℕ) : Type 0 where  -- the message m has the record that the rows claim
+  pub record-of : List Item
+  pub claimed : ClaimAll source r record-of
+  pub read-as : Reads ℓ d m record-of
