@@ -15,9 +15,8 @@ Bytes [] = Unit {0}
 Bytes (b ∷ s) = (b < 256) × Bytes s
 
 -- ---- readers. C: what is known so far. I: the items read. A: a reader's result
-pub record Entry (I : Type 0) : Type 0 where  -- an item, and the place of its first byte
-  pub place : ℕ
-  pub item : I
+abbrev pub Entry : Type 0 → Type 0  -- an item, and the place of its first byte
+Entry I = record { place : ℕ; item : I }
 
 pub data Outcome (C I A : Type 0) : Type 0 where
   Done : ℕ → A → List (Entry I) → C → Outcome C I A  -- bytes consumed, the result, the entries, what is known afterwards
@@ -102,7 +101,5 @@ module _ {A : Type 0} (width : ℕ) (encode : A → List ℕ) where
   overlay t k (x ∷ xs) = overlay (put t k x) (suc k) xs
 
 -- ---- an answer: a refusal's number, 0 where accepted; a count; a place
-pub record Report : Type 0 where
-  pub number : ℕ
-  pub count : ℕ
-  pub place : ℕ
+abbrev pub Report : Type 0
+Report = record { number : ℕ; count : ℕ; place : ℕ }

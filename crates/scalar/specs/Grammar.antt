@@ -1,14 +1,11 @@
 -- The grammar of scalars: their bytes, and what they are.
-use mathlib.Core.Path.{_≡_}
-use mathlib.Core.List.{List, [], _∷_, _++_}
+use mathlib.Core.{Path._≡_, List.List, List.[], List._∷_, List._++_}
 use Prim.Native.Nat.{ℕ, suc, _+_, _≤_, _<_}
 use lib.ListN.{length}
 use Rattle.flow.specs.Flow.{Bytes}
 use Rattle.wire.specs.BigEndian.{joined}
-use Rattle.scalar.specs.declared.Sort.{Sort}
 use Rattle.scalar.specs.declared.Sort.the-variants as sort
-use Rattle.scalar.specs.declared.Kind.{Kind, the-variants.Utf8, the-variants.Binary}
-use Rattle.scalar.specs.declared.CharLead.the-variants.{Basic, Supplementary}
+use Rattle.scalar.specs.declared.{Sort.Sort, Kind.Kind, Kind.the-variants.{Utf8, Binary}, CharLead.the-variants.{Basic, Supplementary}}
 use Rattle.scalar.specs.Scalars.{value, Form, formsOf, partHead, lastHeads, charLead, Scalar, Num, Str}
 
 -- ---- a form's bytes, and the value

@@ -45,11 +45,8 @@ value WholePair u = whole (toZ w16 u)
 value Float u = widened u
 
 -- `codes` first bytes from `head` on, and `extra` bytes more. They hold (code − head) · 256 ^ extra + the bytes, highest first
-pub record Form : Type 0 where
-  pub head : ℕ
-  pub codes : ℕ
-  pub extra : ℕ
-  pub rule : Rule
+abbrev pub Form : Type 0
+Form = record { head : ℕ; codes : ℕ; extra : ℕ; rule : Rule }
 
 abbrev pub form : ℕ → ℕ → ℕ → Rule → Form
 form head codes extra rule = record { head = head; codes = codes; extra = extra; rule = rule }
@@ -69,13 +66,7 @@ formsOf Double =
 formsOf Date = form 0x4b 1 4 Minutes ∷ form 0x4a 1 8 Plain ∷ []
 
 abbrev pub sortKind : Sort → ℕ  -- the kind of the row of such a value
-sortKind Null = 0
-sortKind False = 1
-sortKind True = 2
-sortKind Int = 3
-sortKind Long = 4
-sortKind Double = 5
-sortKind Date = 6
+sortKind s = elim s [ Null ↦ 0 | False ↦ 1 | True ↦ 2 | Int ↦ 3 | Long ↦ 4 | Double ↦ 5 | Date ↦ 6 ]
 
 abbrev pub inside : Form → ℕ → Bool  -- the byte b is one of the form's first bytes
 inside w b = within (w .head) (w .head + w .codes) b
