@@ -21,10 +21,21 @@ use Rattle.record.specs.Meaning.{reads-derived, derived-reads}
 use Rattle.record.specs.Writing.{judged-done, own-rows, rows-no-longer, rows-back, rows-none}
 use Rattle.record.specs.Demands.{accepted-exactly, rows-suffice}
 use Rattle.hessian.specs.Packed.{ReadGives, WriteGives}
-use Rattle.hessian.specs.Terms.{numberOf, countOf, placeOf, rowsAt, ReadRecord, RecordOf, ShortestOf}
+use Rattle.hessian.specs.Terms.{numberOf, countOf, placeOf, rowsAt, RecordOf, ShortestOf}
 use Rattle.hessian.specs.Calls.{Accepted, read-number, read-ten, read-cases, WriteCases, long-source, beyond, no-record, too-long, too-few, wrote, write-cases}
 
 -- ---- a call of hessian_read
+-- what an accepted call shows: the grammar reads the message as one record within the limits, the rows lent suffice, and the table holds
+-- that record
+record ReadRecord (m t : List ℕ) (a : ℕ) (t′ : List ℕ) : Type 0 where
+  record-of : List Item
+  grammar : Message base 32 m record-of
+  short : length m ≤ 262_144
+  enough : length record-of ≤ length t / 32
+  counted : countOf a ≡ length record-of
+  whole : placeOf a ≡ length m
+  table : ClaimAll m (rowsAt (countOf a) t′) record-of
+
 module _ (m t : List ℕ) (b : Bytes m) (a : ℕ) (t′ : List ℕ) (g : ReadGives m t a t′) where
   -- demand 1: accepted, or one of the numbered refusals; a refusal changes nothing
   pub read-numbered : numberOf a ≤ 9
@@ -52,12 +63,15 @@ module _ (m t : List ℕ) (b : Bytes m) (a : ℕ) (t′ : List ℕ) (g : ReadGiv
         table = subst (λ (r : List Row). ClaimAll m r (x .record-of)) (sym (x .held)) (subst (ClaimAll m (rows (y .entries))) (y .reads-as) (own-rows base 32 m b (length m) (y .entries) (y .known) (d .1)));
       }
 
-  pub read-record : numberOf a ≡ 0 → ReadRecord m t a t′
+  read-record : numberOf a ≡ 0 → ReadRecord m t a t′
   read-record z = go (read-cases m t b a t′ g)
     where
       go : ((numberOf a ≡ 0) × Accepted m t b a t′ g) ⊎ ((numberOf a ≡ 0 → ⊥) × (t′ ≡ t)) → ReadRecord m t a t′
       go (inl x) = from-accepted (x .1)
       go (inr x) = absurd (x .0 z)
+
+  pub read-holds : numberOf a ≡ 0 → (r : List Item) × Message base 32 m r × (length m ≤ 262_144) × (length r ≤ length t / 32) × (countOf a ≡ length r) × (placeOf a ≡ length m) × ClaimAll m (rowsAt (countOf a) t′) r
+  read-holds z = let x = read-record z in (x .record-of, x .grammar, x .short, x .enough, x .counted, x .whole, x .table)
 
   -- a message is accepted exactly when the grammar reads it as one record within the limits, and the lent rows suffice
   pub read-accepted : (numberOf a ≡ 0) ↔ ((r : List Item) × Message base 32 m r × (length m ≤ 262_144) × (length r ≤ length t / 32))

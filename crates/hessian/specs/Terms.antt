@@ -1,11 +1,8 @@
 -- The terms in which the demands speak of calls of the C functions.
-use mathlib.Core.Path.{_≡_}
-use mathlib.Core.List.{List}
+use mathlib.Core.{Path._≡_, List.List}
 use Prim.Native.Nat.{ℕ, _/_, _%_, _^_, _≤_}
 use lib.ListN.{length}
-use Rattle.record.specs.Records.{Item, Row, ClaimAll}
-use Rattle.record.specs.Grammar.{Message}
-use Rattle.record.specs.Answers.{base, asBytes, rowsOf}
+use Rattle.record.specs.{Records.{Item, Row, ClaimAll}, Grammar.Message, Answers.{base, asBytes, rowsOf}}
 
 -- the parts of an answer, as the header's macros take them
 abbrev pub numberOf : ℕ → ℕ
@@ -20,17 +17,6 @@ placeOf a = a % 2 ^ 24
 -- the first n rows of C's table
 abbrev pub rowsAt : ℕ → List ℕ → List Row
 rowsAt n t = rowsOf asBytes n t
-
--- what an accepted call of hessian_read shows: the grammar reads the message as one record within the limits, the rows lent suffice, and
--- the table holds that record
-pub record ReadRecord (m t : List ℕ) (a : ℕ) (t′ : List ℕ) : Type 0 where
-  pub record-of : List Item
-  pub grammar : Message base 32 m record-of
-  pub short : length m ≤ 262_144
-  pub enough : length record-of ≤ length t / 32
-  pub counted : countOf a ≡ length record-of
-  pub whole : placeOf a ≡ length m
-  pub table : ClaimAll m (rowsAt (countOf a) t′) record-of
 
 -- the message m has the record that the first n rows of the table t claim in the source s
 pub record RecordOf (s t : List ℕ) (n : ℕ) (m : List ℕ) : Type 0 where
