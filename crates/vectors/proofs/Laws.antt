@@ -1,25 +1,22 @@
 -- Laws for the proofs of the functions: what holds of each index up to a place, one law for each way out.
-use mathlib.Core.Path.{_≡_, refl, sym, _∙_, ap, subst}
+use mathlib.Core.Path.{_≡_, refl, sym, _∙_, ap}
 use mathlib.Core.Bool.{Bool, true, false, _&&_}
-use mathlib.Core.List.{List, [], _∷_}
+use mathlib.Core.List.{List}
 use mathlib.Core.Logic.{inl, inr}
-use Prim.Native.Nat.{ℕ, zero, suc, _+_, _-_, _*_, _/_, _%_, _^_, _≤_, _<_}
+use Prim.Native.Nat.{ℕ, suc, _+_, _-_, _*_, _/_, _≤_, _<_}
 use native.Mathlib.Numerals.{add-one}
-use native.Mathlib.Decide.{ℕ-discrete}
 use native.Mathlib.Omega.{arith}
-use lib.Dec.{T, ltb, eqb}
-use lib.ListN.{length, drop, getD, set, length-set, List·getD-eq-default, drop-of-length-le}
+use lib.Dec.{ltb, eqb}
+use lib.ListN.{length, drop, getD, set, List·getD-eq-default, drop-of-length-le}
 use lib.Seq.{drop-cons, getD-set-same, getD-set-other}
 use borrow.Author.Count.{below-more}
-use borrow.Author.Tests.{lt-ltb, le-ltb, ltb-true, eqb-true, eq-eqb}
+use borrow.Author.Tests.{lt-ltb, le-ltb, eq-eqb}
 use Rattle.flow.specs.Flow.{pick}
 use Rattle.flow.specs.Tests.{left-below, split}
 use Rattle.vectors.specs.declared.Scanned.{Scanned}
 use Rattle.vectors.specs.declared.Scanned.the-variants.{Number, NoNumber}
-use Rattle.vectors.specs.declared.Step.{Step}
-use Rattle.vectors.specs.declared.Step.the-variants.{On, Stuck}
-use Rattle.vectors.specs.CaseLaws.{true-false, both-true, times-says, step-says}
-use Rattle.vectors.specs.Cases.{LineEnds, digitOf, digitAt, worth, Digits, IsNumber, DecimalMet, TimesMet, StepMet, RepeatMet, fillingAt, Filled, sumWith, sumFrom}
+use Rattle.vectors.specs.CaseLaws.{true-false, both-true}
+use Rattle.vectors.specs.Cases.{LineEnds, digitOf, digitAt, worth, Digits, DecimalMet, TimesMet, fillingAt, Filled, sumWith, sumFrom}
 
 -- what holds from `from` on below i, and of i, holds below i + 1
 further : (P : ℕ → Type 0) {from i : ℕ} → ((k : ℕ) → from ≤ k → k < i → P k) → P i → (k : ℕ) → from ≤ k → k < i + 1 → P k
@@ -118,33 +115,6 @@ times-once line at h e = (λ q. absurd (not-both q), λ q. refl)
     not-both q =
         let l : at < length line = split at (length line) (λ l. l) (λ l. absurd (omega (arith, q, List·getD-eq-default line 0 l))) in
         true-false (sym (rw (lt-ltb at (length line) l, eq-eqb (getD line at 0) 0x2a q) refl) ∙ sym h ∙ e)
-
--- ---- steps
-module _ (line : List ℕ) (at room : ℕ) where
-  pub step-stuck : StepMet line at room Stuck
-  unfolding StepMet
-  step-stuck = tt
-
-  pub step-on : (next size : ℕ) → at ≤ next → (at ≤ length line → next ≤ length line) → size ≤ room → StepMet line at room (On next size)
-  unfolding StepMet
-  step-on next size a b h = (a, b, h)
-
-  -- a group whose bytes end at `next`, and its repeats at `end`
-  pub step-repeats : {next size value end : ℕ} {p : Step} (room′ : ℕ) (r : Step) {q : Scanned} → room′ ≡ room → StepMet line at room p → p ≡ On next size → TimesMet line next q → q ≡ Number value end → RepeatMet end room′ r → StepMet line at room r
-  unfolding StepMet RepeatMet
-  step-repeats {next} room′ (On n s) g m e t f w =
-      let k = step-says line at room m e in
-      let o = times-says line next t f in
-      (omega (arith, k .0, o .0, w .0), λ l. omega (arith, o .1 (k .1 l), w .0), omega (arith, w .1))
-  step-repeats room′ Stuck g m e t f w = tt
-
-pub repeat-stuck : (end room : ℕ) → RepeatMet end room Stuck
-unfolding RepeatMet
-repeat-stuck end room = tt
-
-pub repeat-on : (end room size : ℕ) → size ≤ room → RepeatMet end room (On end size)
-unfolding RepeatMet
-repeat-on end room size h = (refl, h)
 
 -- ---- lent bytes
 -- the bytes from `from` on and below i are filled

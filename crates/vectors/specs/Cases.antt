@@ -8,8 +8,6 @@ use lib.ListN.{length, getD}
 use Rattle.flow.specs.Flow.{pick, within}
 use Rattle.vectors.specs.declared.Scanned.{Scanned}
 use Rattle.vectors.specs.declared.Scanned.the-variants.{Number, NoNumber}
-use Rattle.vectors.specs.declared.Step.{Step}
-use Rattle.vectors.specs.declared.Step.the-variants.{On, Stuck}
 
 -- from `at` on there is no newline before `end`, where there is one, or the input ends
 pub record LineEnds (input : List ℕ) (at end : ℕ) : Type 0 where
@@ -49,15 +47,6 @@ DecimalMet line at NoNumber = IsNone line at
 
 unfoldable pub TimesMet : List ℕ → ℕ → Scanned → Type 0
 TimesMet line at r = (getD line at 0 ≡ 0x2a → DecimalMet line (at + 1) r) × ((getD line at 0 ≡ 0x2a → ⊥) → r ≡ Number 1 at)
-
--- the line goes on within it, and no more is stored than there is room
-unfoldable pub StepMet : List ℕ → ℕ → ℕ → Step → Type 0
-StepMet line at room (On next size) = (at ≤ next) × (at ≤ length line → next ≤ length line) × (size ≤ room)
-StepMet line at room Stuck = Unit {0}
-
-unfoldable pub RepeatMet : ℕ → ℕ → Step → Type 0
-RepeatMet end room (On next size) = (next ≡ end) × (size ≤ room)
-RepeatMet end room Stuck = Unit {0}
 
 -- ---- lent bytes
 unfoldable pub fillingAt : ℕ → ℕ

@@ -2,10 +2,12 @@
 // call, whether they still do, and their checksum.
 ghost use mathlib.Core.Path.{_≡_};
 ghost use mathlib.Core.Bool.{_&&_};
-ghost use Prim.Native.Nat.{_≤_, _<_, max};
-ghost use lib.Dec.{ltb, eqb};
+ghost use Prim.Native.Nat.{_+_, _-_, _≤_, _<_, max};
+ghost use lib.Dec.{ltb, leb, eqb};
 ghost use lib.ListN.{length, getD};
-ghost use Rattle.vectors.specs.Cases.{digitOf, digitAt, fillingAt, sumWith, sumFrom, LineEnds, DecimalMet, TimesMet, StepMet, RepeatMet, Filled, UnchangedMet};
+ghost use lib.Seq.{sets, slice};
+ghost use Rattle.vectors.specs.Cases.{digitOf, digitAt, fillingAt, sumWith, sumFrom, LineEnds, DecimalMet, TimesMet, Filled, UnchangedMet};
+ghost use Rattle.vectors.specs.Groups.{groupsOf, groupAt, tookBytes, repeated};
 
 // A number, and where the line goes on.
 pub enum Scanned {
@@ -109,7 +111,7 @@ pub fn times(line: &[u8], at: usize) -> Scanned
 // The bytes that the hexadecimal digits from `at` on are, in `bytes` from `from` on.
 fn take_bytes(line: &[u8], at: usize, bytes: &mut [u8], from: usize) -> Step
     requires { ⌜ from ≤ length (now bytes) ⌝ }
-    ensures { λ r. ⌜ StepMet (now (line .entry)) at (length (now (bytes .entry))) r ⌝ }
+    ensures { λ r. ⌜ tookBytes (now (line .entry)) at (now (bytes .entry)) from ≡ (r, now (bytes .exit)) ⌝ }
 {
     let mut here = at;
     let mut size = from;
@@ -132,58 +134,63 @@ fn take_bytes(line: &[u8], at: usize, bytes: &mut [u8], from: usize) -> Step
     Step::On { next: here, size }
 }
 
+// The bytes from `from` to below `size` once more, from `here` on, and whether there is room for all of them.
+fn again(bytes: &mut [u8], from: usize, size: usize, here: usize) -> bool
+    requires { ⌜ (from < size) × (size ≤ here) × (here ≤ length (now bytes)) ⌝ }
+    ensures { λ r. ⌜ r ≡ leb (here + (size - from)) (length (now (bytes .entry))) ⌝ }
+    ensures { λ _. ⌜ now (bytes .exit) ≡ sets (now (bytes .entry)) here (slice from size (now (bytes .entry))) ⌝ }
+{
+    let mut back = from;
+    let mut to = here;
+    while back < size {
+        if bytes.len() <= to {
+            return false;
+        }
+        bytes[to] = bytes[back];
+        to += 1;
+        back += 1;
+    }
+    true
+}
+
 // The bytes from `from` to below `size`, that often in all. `next` is where the line goes on.
 fn repeat(bytes: &mut [u8], from: usize, size: usize, times: u64, next: usize) -> Step
     requires { ⌜ (from < size) × (size ≤ length (now bytes)) ⌝ }
-    ensures { λ r. ⌜ RepeatMet next (length (now (bytes .entry))) r ⌝ }
+    ensures { λ r. ⌜ repeated (now (bytes .entry)) from size times next ≡ (r, now (bytes .exit)) ⌝ }
 {
     if times == 0 {
         return Step::On { next, size: from };
     }
-    let width = size - from;
     let mut left = times - 1;
-    let mut phase = width;
-    let mut back = from;
     let mut here = size;
     while 0 < left {
-        if bytes.len() <= here {
+        if !again(bytes, from, size, here) {
             return Step::Stuck;
         }
-        bytes[here] = bytes[back];
-        here += 1;
-        back += 1;
-        phase -= 1;
-        if phase == 0 {
-            phase = width;
-            left -= 1;
-        }
+        here += size - from;
+        left -= 1;
     }
     Step::On { next, size: here }
 }
 
 // The group at `at`, in `bytes` from `from` on.
 fn group(line: &[u8], at: usize, bytes: &mut [u8], from: usize) -> Step
-    requires { ⌜ from ≤ length (now bytes) ⌝ }
-    ensures { λ r. ⌜ StepMet (now (line .entry)) at (length (now (bytes .entry))) r ⌝ }
+    requires { ⌜ (digitAt (now line) at < 16) × (from ≤ length (now bytes)) ⌝ }
+    ensures { λ r. ⌜ groupAt (now (line .entry)) at (now (bytes .entry)) from ≡ (r, now (bytes .exit)) ⌝ }
 {
     match take_bytes(line, at, bytes, from) {
         Step::Stuck => Step::Stuck,
-        Step::On { next, size } => {
-            if size <= from {
-                return Step::Stuck;
-            }
-            match times(line, next) {
-                Scanned::NoNumber => Step::Stuck,
-                Scanned::Number { value, next: end } => repeat(bytes, from, size, value, end),
-            }
-        }
+        Step::On { next, size } => match times(line, next) {
+            Scanned::NoNumber => Step::Stuck,
+            Scanned::Number { value, next: end } => repeat(bytes, from, size, value, end),
+        },
     }
 }
 
 // The groups from `at` on, a space before each, from the first of the bytes on. A group is bytes, two hexadecimal digits each; `*` and a
 // number after them say how often they are there.
 pub fn groups(line: &[u8], at: usize, bytes: &mut [u8]) -> Step
-    ensures { λ r. ⌜ StepMet (now (line .entry)) at (length (now (bytes .entry))) r ⌝ }
+    ensures { λ r. ⌜ groupsOf (now (line .entry)) at (now (bytes .entry)) ≡ (r, now (bytes .exit)) ⌝ }
 {
     let mut here = at;
     let mut held: usize = 0;
