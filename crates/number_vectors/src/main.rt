@@ -9,9 +9,9 @@
 // Anything else is `bad`. vectors.py writes the cases, stdin, and what is to be printed, stdout.
 use libc::STDIN_FILENO;
 use libc::STDOUT_FILENO;
-use scalar::Written;
 use numbers::NumberRead;
 use scalar::Sort;
+use scalar::Written;
 ghost use Prim.Native.Nat.{_≤_};
 
 // What a buffer holds before anything is stored.

@@ -1,8 +1,8 @@
 // Ints, longs, doubles and dates read form by form, by plain loads: what read_number reads, in less time.
-use crate::doubles;
 use crate::NumberRead;
-use scalar::Sort;
+use crate::doubles;
 use crate::signed;
+use scalar::Sort;
 ghost use mathlib.Core.Path.{_≡_};
 ghost use Prim.Native.Nat.{_+_, _*_, _^_, _≤_, _<_};
 ghost use lib.ListN.{length, take, drop};

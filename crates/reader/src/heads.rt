@@ -1,10 +1,10 @@
 // What a value begins with, when no class definition stands before it. The laws of its meaning are in record's specs/Values.antt.
 //
 // What is known is kept in an array: each class's number of fields; then how many classes, types and references are given.
-use scalar::Lead;
 use numbers::NumberRead;
-use scalar::Sort;
 use scalar::Kind;
+use scalar::Lead;
+use scalar::Sort;
 use texts::StringRead;
 ghost use mathlib.Core.Path.{_≡_};
 ghost use Prim.Native.Nat.{_+_, _^_, _<_};

@@ -68,4 +68,3 @@ followOf b = rangeOf ranges b .follow
 
 unfoldable pub entry : ℕ → ℕ
 entry b = 10 * kindOf (leadOf b) + followOf b
-

@@ -13,8 +13,8 @@
 // What is no case is `bad`. vectors.py writes the cases, stdin, and what is to be printed, stdout.
 use libc::STDIN_FILENO;
 use libc::STDOUT_FILENO;
-use scalar::Written;
 use scalar::Kind;
+use scalar::Written;
 use texts::StringRead;
 use vectors::Scanned;
 use vectors::Step;

@@ -295,9 +295,10 @@ module _ (k : Kind) (m : List ℕ) (p : ℕ) where
         few : (u + v ≤ length m) × (b + n ≤ length m)
         few =
             let x = behind in
-            let y = string-parsed k m (bytes-all m (λ i. bytes i .fits)) q i (x .0) (x .1) (x .2) in
-            (omega (arith, j .few, j .onward, j .inside, x .3, x .4, string-few (y .1), content-length (y .1), length-take-le i (drop q m) (y .0), y .0, length-drop q m),
-            omega (arith, j .onward, j .inside, x .4, content-length (y .1), length-take-le i (drop q m) (y .0), y .0, length-drop q m))
+            let y = string-parsed k m (bytes-all m (λ i. bytes i .fits)) q i (x .0) (x .1) (x .2) in (
+              omega (arith, j .few, j .onward, j .inside, x .3, x .4, string-few (y .1), content-length (y .1), length-take-le i (drop q m) (y .0), y .0, length-drop q m),
+              omega (arith, j .onward, j .inside, x .4, content-length (y .1), length-take-le i (drop q m) (y .0), y .0, length-drop q m),
+            )
 
         pub find-units : Fits w64 (u + v)
         find-units = record { fits = omega (arith, f .fits, few .0) }

@@ -1,7 +1,7 @@
 // The shortest form of a text or byte string, from a place in a source: its length, and the form stored in a lent slice.
+use scalar::Kind;
 use scalar::Written;
 use texts::ChunkRead;
-use scalar::Kind;
 use texts::StringRead;
 ghost use mathlib.Core.Path.{_≡_};
 ghost use mathlib.Core.List.{[], _∷_};

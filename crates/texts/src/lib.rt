@@ -533,14 +533,7 @@ pub fn first_chunk(kind: Kind, message: &[u8], at: usize) -> ChunkRead
 }
 
 // The text or byte string at `at`: the chunks up to `from` are read, of u units and b bytes, and more follow.
-fn read_on(
-    kind: Kind,
-    message: &[u8],
-    at: usize,
-    from: usize,
-    u: usize,
-    b: usize,
-) -> StringRead
+fn read_on(kind: Kind, message: &[u8], at: usize, from: usize, u: usize, b: usize) -> StringRead
     requires { ⌜ Joining kind (now message) at from u b ⌝ }
     ensures { λ r. ⌜ toldString r ≡ measuredAt kind (now (message .entry)) at ⌝ }
 {

@@ -1,2 +1,3 @@
 pub mod BigEndian
 pub mod Laws
+pub mod Quads

@@ -5,6 +5,26 @@ ghost use lib.Dec.{leb};
 ghost use lib.ListN.{length, take, drop};
 ghost use Rattle.flow.specs.Flow.{stored};
 ghost use Rattle.wire.specs.BigEndian.{joined, be};
+ghost use Rattle.wire.specs.Quads.{quadOf, quadAt};
+
+// Four numbers that stand one after another.
+pub struct Quad {
+    pub first: u64,
+    pub second: u64,
+    pub third: u64,
+    pub fourth: u64,
+}
+
+fn four_numbers(first: u64, second: u64, third: u64, fourth: u64) -> Quad
+    ensures { λ r. ⌜ r ≡ quadOf first second third fourth ⌝ }
+{
+    Quad {
+        first,
+        second,
+        third,
+        fourth,
+    }
+}
 
 // A byte as a number of 64 bits.
 pub fn wide(b: u8) -> u64
@@ -59,6 +79,13 @@ pub fn four_at(bytes: &[u8], at: usize) -> u64
     four_in(bytes, at)
 }
 
+fn eight_in(bytes: &[u8], at: usize) -> u64
+    requires { ⌜ at + 8 ≤ length (now bytes) ⌝ }
+    ensures { λ r. ⌜ r ≡ joined 0 (take 8 (drop at (now (bytes .entry)))) ⌝ }
+{
+    four_in(bytes, at) * 0x1_0000_0000 + four_in(bytes, at + 4)
+}
+
 // The number of up to eight bytes from `at` on.
 pub fn eight_at(bytes: &[u8], at: usize) -> u64
     ensures { λ r. ⌜ r ≡ joined 0 (take 8 (drop at (now (bytes .entry)))) ⌝ }
@@ -70,7 +97,26 @@ pub fn eight_at(bytes: &[u8], at: usize) -> u64
     if len - 8 < at {
         return number_at(bytes, at, 8, 0);
     }
-    four_in(bytes, at) * 0x1_0000_0000 + four_in(bytes, at + 4)
+    eight_in(bytes, at)
+}
+
+// Four numbers of eight bytes each from `at` on, where all these bytes are there, and else four zeros.
+pub fn quad_at(bytes: &[u8], at: usize) -> Quad
+    ensures { λ r. ⌜ r ≡ quadAt (now (bytes .entry)) at ⌝ }
+{
+    let len = bytes.len();
+    if len < 32 {
+        return four_numbers(0, 0, 0, 0);
+    }
+    if len - 32 < at {
+        return four_numbers(0, 0, 0, 0);
+    }
+    four_numbers(
+        eight_in(bytes, at),
+        eight_in(bytes, at + 8),
+        eight_in(bytes, at + 16),
+        eight_in(bytes, at + 24),
+    )
 }
 
 // ---- storing

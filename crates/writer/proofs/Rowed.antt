@@ -15,6 +15,8 @@ use borrow.Author.Tests.{eq-eqb, ne-eqb}
 use Rattle.flow.specs.Flow.{pick}
 use Rattle.flow.specs.Tests.{pick-true, pick-false, pick-either, bytes-take, bytes-drop, bytes-all}
 use Rattle.wire.specs.BigEndian.{joined}
+use Rattle.wire.specs.declared.Quad.{Quad}
+use Rattle.wire.specs.Quads.{quadOf, eightAt, quadAt, quad-there}
 use Rattle.wire.specs.Laws.{joined-below}
 use Rattle.record.specs.Records.{Item, Row, row, itemRow}
 use Rattle.record.specs.Claimed.{itemAt, claims-back}
@@ -51,21 +53,21 @@ module _ (t b : List ℕ) (k : ℕ) (h : k < lentIn t b) where
         (λ i. row (x i) (y i) (u i) (v i)) ∙ sym (pick-true _ _ (eq-eqb (length b) 0 e))
 
   -- ---- of bytes
-  module _ (e : length b ≡ 0 → ⊥) where
+  module _ (e₀ : length b ≡ 0 → ⊥) where
     pub bytes-inside : k * 32 + 32 ≤ length b
-    bytes-inside = let l : k < length b / 32 = rw (pick-false (length t / 4) (length b / 32) (ne-eqb (length b) 0 e)) at h in omega arith
+    bytes-inside = let l : k < length b / 32 = rw (pick-false (length t / 4) (length b / 32) (ne-eqb (length b) 0 e₀)) at h in omega arith
 
     number-of : (i j z : ℕ) → i ≤ 24 → j ≡ k * 32 + i → z ≡ joined 0 (take 8 (drop j b)) → z ≡ joined 0 (take 8 (drop i (take 32 (drop (k * 32) b))))
     number-of i j z l q f = f ∙ ap (λ (j : ℕ). joined 0 (take 8 (drop j b))) q ∙ ap (λ (l : List ℕ). joined 0 (take 8 l)) (sym (drop-drop i (k * 32) b)) ∙ ap (joined 0) (sym (part-of 8 i 32 (drop (k * 32) b) (omega arith)))
 
-    pub bytes-row : (x y u v : ℕ) → x ≡ joined 0 (take 8 (drop (k * 32) b)) → y ≡ joined 0 (take 8 (drop (k * 32 + 8) b))
-        → u ≡ joined 0 (take 8 (drop (k * 32 + 16) b)) → v ≡ joined 0 (take 8 (drop (k * 32 + 24) b)) → row x y u v ≡ rowIn t b k
-    bytes-row x y u v ex ey eu ev =
-        let p = number-of 0 (k * 32) x (omega arith) (omega arith) ex in
-        let q = number-of 8 (k * 32 + 8) y (omega arith) refl ey in
-        let r = number-of 16 (k * 32 + 16) u (omega arith) refl eu in
-        let s = number-of 24 (k * 32 + 24) v (omega arith) refl ev in
-        (λ i. row (p i) (q i) (r i) (s i)) ∙ sym (pick-false _ _ (ne-eqb (length b) 0 e))
+    pub bytes-row : (q : Quad) → q ≡ quadAt b (k * 32) → row (q .first) (q .second) (q .third) (q .fourth) ≡ rowIn t b k
+    bytes-row q e =
+        let f : q ≡ quadOf (eightAt b (k * 32)) (eightAt b (k * 32 + 8)) (eightAt b (k * 32 + 16)) (eightAt b (k * 32 + 24)) = e ∙ quad-there b (k * 32) bytes-inside in
+        let x = number-of 0 (k * 32) (q .first) (omega arith) (omega arith) (ap (λ (z : Quad). z .first) f) in
+        let y = number-of 8 (k * 32 + 8) (q .second) (omega arith) refl (ap (λ (z : Quad). z .second) f) in
+        let u = number-of 16 (k * 32 + 16) (q .third) (omega arith) refl (ap (λ (z : Quad). z .third) f) in
+        let v = number-of 24 (k * 32 + 24) (q .fourth) (omega arith) refl (ap (λ (z : Quad). z .fourth) f) in
+        (λ i. row (x i) (y i) (u i) (v i)) ∙ sym (pick-false _ _ (ne-eqb (length b) 0 e₀))
 
 -- ---- the rows of a table, in order
 module _ (L : Layout) where

@@ -1,8 +1,8 @@
 // Bytes put behind those so far: stored where they fit, and counted. The count stops above the longest message, so that it cannot
 // overflow, whatever the rows claim.
-use scalar::Written;
-use scalar::Sort;
 use scalar::Kind;
+use scalar::Sort;
+use scalar::Written;
 ghost use mathlib.Core.Path.{_≡_};
 ghost use mathlib.Core.List.{[], _∷_};
 ghost use Prim.Native.Nat.{_+_, _≤_, min};

@@ -31,12 +31,12 @@ fn row_at(numbers: &[u64], bytes: &[u8], k: usize) -> RowRead
             second: numbers[i + 3],
         };
     }
-    let i = k * 32;
+    let q = wire::quad_at(bytes, k * 32);
     RowRead {
-        kind: wire::eight_at(bytes, i),
-        place: wire::eight_at(bytes, i + 8),
-        first: wire::eight_at(bytes, i + 16),
-        second: wire::eight_at(bytes, i + 24),
+        kind: q.first,
+        place: q.second,
+        first: q.third,
+        second: q.fourth,
     }
 }
 

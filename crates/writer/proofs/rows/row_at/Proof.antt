@@ -39,10 +39,4 @@ row-at-spec =
     returns
     (λ c. omega (arith, inside-bytes c))
     (λ c κs. search needs)
-    (λ c. omega (arith, inside-bytes (c .before)))
-    (λ c κs. search needs)
-    (λ c. omega (arith, inside-bytes (c .before .before)))
-    (λ c κs. search needs)
-    (λ c. omega (arith, inside-bytes (c .before .before .before)))
-    (λ c κs. search needs)
     returns-2)
