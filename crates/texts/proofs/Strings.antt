@@ -2,19 +2,18 @@
 use mathlib.Core.Path.{_≡_, refl, sym, _∙_, ap, subst}
 use mathlib.Core.Bool.{Bool, true, false}
 use mathlib.Core.List.{List, [], _∷_, _++_, map, append-assoc}
-use Prim.Native.Nat.{ℕ, zero, suc, _+_, _-_, _%_, _^_, _≤_, _<_}
-use native.Mathlib.Nat.{mod-eq-of-lt}
+use Prim.Native.Nat.{ℕ, zero, suc, _+_, _-_, _*_, _≤_, _<_}
 use native.Mathlib.Omega.{arith}
 use lib.Dec.{T}
-use lib.ListN.{length, take, drop, getD, length-append, length-take, length-drop}
+use lib.ListN.{length, take, drop, getD, length-append, length-drop}
 use lib.Seq.{length-take-le}
 use mir.Syntax.{w8, w64}
 use mir.Val.{Fits}
 use Rattle.flow.specs.Flow.{pick, Done, Fault}
 use Rattle.flow.specs.Steps.{Answer}
-use Rattle.flow.specs.Tests.{bytes-take, bytes-drop, bytes-all}
-use Rattle.wire.specs.BigEndian.{joined, wider}
-use Rattle.wire.specs.Laws.{joined-below}
+use Rattle.flow.specs.Tests.{bytes-all}
+use Rattle.wire.specs.BigEndian.{joined}
+use Rattle.wire.specs.Laws.{joined-one}
 use Rattle.scalar.specs.declared.Begun.{Begun}
 use Rattle.scalar.specs.declared.Begun.the-variants as begun
 use Rattle.scalar.specs.declared.Kind.{Kind}
@@ -177,6 +176,27 @@ module _ (k : Kind) (n : ℕ) (m : List ℕ) (p : ℕ) where
   pub content-cut : k ≡ Binary → p ≤ length m → length m - p < n → Fault 2 (length m) ≡ extentAt (body k n) m p
   content-cut e l h = rw e (sym (octets-fault n m p l h))
 
+-- ---- the length that a head says: u, and up to two bytes more, from i on
+module _ (m : List ℕ) (bytes : (i : ℕ) → Fits w8 (getD m i 0)) (i u : ℕ) (l : u < 256) (a : ℕ) (e : a ≡ getD m i 0) where
+  pub one-more : Fits w64 (u * 256 + a)
+  one-more = record { fits = omega (arith, bytes i .fits) }
+
+  pub one-held : (j : ℕ) → j ≡ 1 → i + j ≤ length m → u * 256 + a ≡ joined u (take j (drop i m))
+  one-held j f h = rw (f, joined-one m i 0 u (omega arith)) (omega (arith, e))
+
+  pub two-room : Fits w64 ((u * 256 + a) * 256)
+  two-room = record { fits = omega (arith, bytes i .fits) }
+
+  module _ (b : ℕ) (f : b ≡ getD m (i + 1) 0) where
+    pub two-more : Fits w64 ((u * 256 + a) * 256 + b)
+    two-more = record { fits = omega (arith, bytes i .fits, bytes (i + 1) .fits) }
+
+    pub two-held : (j : ℕ) → (j ≡ 0 → ⊥) → (j ≡ 1 → ⊥) → j ≤ 2 → i + j ≤ length m → (u * 256 + a) * 256 + b ≡ joined u (take j (drop i m))
+    two-held j x y z h =
+        let g : j ≡ 2 = omega arith in
+        let k : suc i ≡ i + 1 = omega arith in
+        rw (g, joined-one m i 1 u (omega arith), k, joined-one m (i + 1) 0 (256 * u + getD m i 0) (omega arith)) (omega (arith, e, f))
+
 -- ---- a chunk's head
 module _ (k : Kind) (m : List ℕ) (p : ℕ) where
   pub head-ends : length m ≤ p → HeadMet k m p (head.Refused 2 (length m))
@@ -190,22 +210,15 @@ module _ (k : Kind) (m : List ℕ) (p : ℕ) where
       pub head-cut : length m - p ≤ j → HeadMet k m p (head.Refused 2 (length m))
       head-cut h = record { says = string-cut k m p l j u a (sym is ∙ e) h }
 
-      -- n: the number that the head holds, in 64 bits
-      module _ (bytes : (i : ℕ) → Fits w8 (getD m i 0)) (h : j < length m - p) (n : ℕ) (at : n ≡ joined u (take j (drop (p + 1) m)) % 2 ^ 64) where
-        fits : joined u (take j (drop (p + 1) m)) < 2 ^ 64
-        fits = go j (s .0) (joined-below (take j (drop (p + 1) m)) j u 256 (simp (length-take, length-drop) (omega arith)) (bytes-take j (drop (p + 1) m) (bytes-drop (p + 1) m (bytes-all m (λ i. bytes i .fits)))) (omega (arith, s .1, bytes p .fits)))
-          where
-            s : (j ≤ 2) × (u ≤ getD m p 0)
-            s = head-small k (getD m p 0) j u a (sym is ∙ e)
+      pub head-few : j ≤ 2
+      head-few = head-small k (getD m p 0) j u a (sym is ∙ e) .0
 
-            go : {v : ℕ} (j : ℕ) → j ≤ 2 → v < wider j 256 → v < 2 ^ 64
-            go zero l w = omega arith
-            go (suc zero) l w = omega arith
-            go (suc (suc zero)) l w = omega arith
-            go (suc (suc (suc j))) l w = absurd (omega arith)
+      pub head-low : ((i : ℕ) → Fits w8 (getD m i 0)) → u < 256
+      head-low bytes = omega (arith, bytes p .fits, head-small k (getD m p 0) j u a (sym is ∙ e) .1)
 
-        pub head-there : HeadMet k m p (head.Head (j + 1) n a)
-        head-there = record { says = (string-there k m p l j u a (sym is ∙ e) h n (at ∙ mod-eq-of-lt fits), omega arith, omega arith) }
+      -- n: the number that the head holds
+      pub head-there : j < length m - p → (n : ℕ) → n ≡ joined u (take j (drop (p + 1) m)) → HeadMet k m p (head.Head (j + 1) n a)
+      head-there h n at = record { says = (string-there k m p l j u a (sym is ∙ e) h n at, omega arith, omega arith) }
 
 pub head-says : {k : Kind} {m : List ℕ} {p : ℕ} {x y : HeadRead} → HeadMet k m p x → x ≡ y → HeadSays k m p y
 head-says {k} {m} {p} t e = subst (HeadSays k m p) e (t .says)

@@ -4,7 +4,8 @@ use scalar::Kind;
 ghost use mathlib.Core.Path.{_≡_};
 ghost use mathlib.Core.Bool.{true};
 ghost use Prim.Native.Nat.{ℕ, _+_, _-_, _*_, _^_, _≤_, _<_};
-ghost use lib.ListN.{length, getD};
+ghost use lib.ListN.{length, getD, take, drop};
+ghost use Rattle.wire.specs.BigEndian.{joined};
 ghost use Rattle.scalar.specs.declared.Kind.the-variants as Kind;
 ghost use Rattle.scalar.specs.Scalars.{charLead, continued as continuedBy, characters as charactersOf, body as bodyOf};
 ghost use Rattle.texts.specs.Answers.{extentAt, toldExtent, CharMet, headForm, HeadMet, ChunkMet, toldString, Joining};
@@ -415,6 +416,21 @@ fn head_form(kind: Kind, b: u8) -> HeadForm
     }
 }
 
+// The length that a head says: what its first byte holds, and up to two bytes more, from `at` on.
+fn head_units(message: &[u8], at: usize, more: usize, held: u64) -> u64
+    requires { ⌜ (at + more ≤ length (now message)) × (more ≤ 2) × (held < 256) ⌝ }
+    ensures { λ r. ⌜ r ≡ joined held (take more (drop at (now (message .entry)))) ⌝ }
+{
+    if more == 0 {
+        return held;
+    }
+    let u = held * 256 + wire::wide(message[at]);
+    if more == 1 {
+        return u;
+    }
+    u * 256 + wire::wide(message[at + 1])
+}
+
 // The head of the chunk at `at`.
 fn head(kind: Kind, message: &[u8], at: usize) -> HeadRead
     ensures { λ r. ⌜ HeadMet kind (now (message .entry)) at r ⌝ }
@@ -440,7 +456,7 @@ fn head(kind: Kind, message: &[u8], at: usize) -> HeadRead
             }
             HeadRead::Head {
                 size: more + 1,
-                units: wire::number_at(message, at + 1, more, held) as usize,
+                units: head_units(message, at + 1, more, held) as usize,
                 last,
             }
         }

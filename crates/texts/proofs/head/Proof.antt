@@ -1,6 +1,6 @@
 -- Each way out has its law in proofs/Strings.antt.
 use borrow.Author.Needs.{needs}
-use Rattle.texts.proofs.Strings.{head-ends, head-other, head-cut, head-there}
+use Rattle.texts.proofs.Strings.{head-ends, head-other, head-cut, head-few, head-low, head-there}
 use Rattle.texts.proofs.head.Statement.{statement}
 use Rattle.texts.proofs.head.Tie as tie
 
@@ -12,6 +12,9 @@ returns-2 c = search (head-cut, needs)
 
 returns-3 : tie.Need-returns-3
 returns-3 c = search (head-other, needs)
+
+head-units-requires : tie.Need-head-units-requires
+head-units-requires c κs = (search needs, search (head-few, needs), search (head-low, needs))
 
 returns-4 : tie.Need-returns-4
 returns-4 c = search (head-there, needs)
@@ -29,6 +32,6 @@ head-spec =
     returns-2
     (λ c. search needs)
     (λ c. search needs)
-    (λ c κs. search needs)
+    head-units-requires
     returns-3
     returns-4)
