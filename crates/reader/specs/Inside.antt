@@ -6,7 +6,7 @@ use mathlib.Core.List.{List, [], _∷_}
 use mathlib.Core.Option.{Option, none, some}
 use Prim.Native.Nat.{ℕ, zero, suc, _+_, _-_, _^_, _≤_, _<_}
 use lib.Dec.{ltb, eqb}
-use lib.ListN.{length, take, getD}
+use lib.ListN.{length, take, getD, replicate}
 use Rattle.flow.specs.Flow.{pick, Bytes, Done, Fault, One, byteAt, overlay}
 use Rattle.scalar.specs.declared.Lead.{Lead}
 use Rattle.scalar.specs.declared.Lead.the-variants as lead
@@ -409,6 +409,11 @@ pub record ValuesMet (d : ℕ) (m : List ℕ) (p n : ℕ) (ks t b : List ℕ) (g
   pub says : ValuesSay (run (rest (valueFrom base d) g 0) (knownIn ks) m p) m p n t b g r ks′ t′ b′
 
 -- ---- messages
+-- the one value of the message, with nothing known before it
+pub record OneMet (m t b : List ℕ) (r : Values) (t′ b′ : List ℕ) : Type 0 where
+  pub after : List ℕ
+  pub met : ValuesMet 32 m 0 0 (replicate 259 0) t b (Counted 1) r after t′ b′
+
 pub record Record (m : List ℕ) (n : ℕ) : Type 0 where
   pub rows : List Row
   pub after : Known

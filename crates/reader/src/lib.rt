@@ -11,7 +11,8 @@ use crate::values::Values;
 ghost use mathlib.Core.Path.{_≡_};
 ghost use Rattle.record.specs.Answers.{base, asNumbers, asBytes, readReport, readTable};
 ghost use Rattle.reader.specs.Answers.{report};
-ghost use Rattle.reader.specs.Inside.{Judges, ReadsInto};
+ghost use Rattle.reader.specs.declared.Judged.the-variants as judged;
+ghost use Rattle.reader.specs.Inside.{OneMet, Judges, ReadsInto};
 
 // The longest message.
 const LONGEST: usize = 262_144;
@@ -32,51 +33,48 @@ pub enum Judged {
     Refused { number: u8, place: usize },
 }
 
+// One run over the message: the one value that it is, with nothing known before it, its rows in both tables, as far as they fit.
+fn read_value(message: &[u8], numbers: &mut [u64], bytes: &mut [u8]) -> Values
+    ensures { λ r. ⌜ OneMet (now (message .entry)) (now (numbers .entry)) (now (bytes .entry)) r (now (numbers .exit)) (now (bytes .exit)) ⌝ }
+{
+    let mut known = [0u64; 259];
+    let one = Plan {
+        shape: COUNTED,
+        count: 1,
+        class: 0,
+    };
+    values::read_values(message, numbers, bytes, &mut known, 0, 0, one, ALLOWANCE)
+}
+
+// A refusal.
+fn refused(number: u8, place: usize) -> Judged
+    ensures { λ r. ⌜ r ≡ judged.Refused number place ⌝ }
+{
+    Judged::Refused { number, place }
+}
+
 // Judges the message, and counts its rows. Nothing is stored.
 fn judge(message: &[u8]) -> Judged
     ensures { λ r. ⌜ Judges (now (message .entry)) r ⌝ }
 {
     let len = message.len();
     if len == 0 {
-        return Judged::Refused {
-            number: 1,
-            place: 0,
-        };
+        return refused(1, 0);
     }
     if LONGEST < len {
-        return Judged::Refused {
-            number: 1,
-            place: 0,
-        };
+        return refused(1, 0);
     }
     let mut numbers = [0u64; 1];
     let mut bytes = [0u8; 1];
-    let mut known = [0u64; 259];
-    match values::read_values(
-        message,
-        &mut numbers[..0],
-        &mut bytes[..0],
-        &mut known,
-        0,
-        0,
-        Plan {
-            shape: COUNTED,
-            count: 1,
-            class: 0,
-        },
-        ALLOWANCE,
-    ) {
-        Values::Fault { number, place } => Judged::Refused { number, place },
+    match read_value(message, &mut numbers[..0], &mut bytes[..0]) {
+        Values::Fault { number, place } => refused(number, place),
         Values::Done {
             next,
             rows,
             count: _,
         } => {
             if next < len {
-                return Judged::Refused {
-                    number: 8,
-                    place: next,
-                };
+                return refused(8, next);
             }
             Judged::Record { rows }
         }
@@ -93,21 +91,7 @@ fn read_into(message: &[u8], numbers: &mut [u64], bytes: &mut [u8], lent: usize)
             if lent < rows {
                 return ReadAnswer::TooFew { needed: rows };
             }
-            let mut known = [0u64; 259];
-            values::read_values(
-                message,
-                numbers,
-                bytes,
-                &mut known,
-                0,
-                0,
-                Plan {
-                    shape: COUNTED,
-                    count: 1,
-                    class: 0,
-                },
-                ALLOWANCE,
-            );
+            read_value(message, numbers, bytes);
             ReadAnswer::Accepted {
                 rows,
                 length: message.len(),

@@ -1,4 +1,4 @@
--- What the contracts of `judge`, `write_rows`, `write_from`, `write` and `write_bytes` ask at each of their ways out.
+-- What the contracts of `put_rows`, `write_rows`, `write_from`, `write` and `write_bytes` ask at each of their ways out.
 use mathlib.Core.Path.{_≡_, refl, sym, ap, subst, _∙_}
 use mathlib.Core.Bool.{Bool, true, false}
 use mathlib.Core.List.{List, []}
@@ -29,7 +29,7 @@ use Rattle.writer.specs.declared.puts.Step.the-variants as step
 use Rattle.writer.specs.declared.WriteAnswer as answer
 use Rattle.writer.specs.declared.WriteAnswer.the-variants as answers
 use Rattle.writer.specs.Answers.{report}
-use Rattle.writer.specs.Inside.{lentIn, rowsIn, itemsIn, Ready, Went, StepSays, StepMet, JudgeSays, JudgeMet, WritesInto, writtenFrom, WritesFrom}
+use Rattle.writer.specs.Inside.{lentIn, rowsIn, itemsIn, Ready, Went, StepSays, StepMet, PutSays, PutMet, WritesInto, writtenFrom, WritesFrom}
 use Rattle.writer.proofs.Rowed.{rows-counted}
 
 -- ---- before the first row nothing is known
@@ -64,18 +64,18 @@ module _ (openFrom : ℕ) (source t b : List ℕ) (n : ℕ) where
     said : (y : Step) → z ≡ y → StepSays All (itemsIn source t b n) 0 0 out y ks′ out′
     said y e = subst (λ (y : Step). StepSays All (itemsIn source t b n) 0 0 out y ks′ out′) e (m .says)
 
-    pub judge-none : z ≡ step.NoRecord → JudgeMet Shortest put.NoRecord
-    judge-none e = record { says = whole-stuck base openFrom 32 source (rowsIn t b n) (whole Stuck (said step.NoRecord e)) }
+    pub put-none : z ≡ step.NoRecord → PutMet Shortest out 0 put.NoRecord out′
+    put-none e = record { says = whole-stuck base openFrom 32 source (rowsIn t b n) (whole Stuck (said step.NoRecord e)) }
 
     module _ (q s : ℕ) (e : z ≡ step.Done q s) where
       went : Went All (itemsIn source t b n) 0 0 out q s ks′ out′
       went = said (step.Done q s) e
 
-      pub judge-short : q < n → JudgeMet Shortest put.NoRecord
-      judge-short l = record { says = whole-short base openFrom 32 source (rowsIn t b n) (went .written) q (knownIn ks′) (whole (Over (went .written) q (knownIn ks′)) (went .says)) (omega (arith, rows-counted t b n)) }
+      pub put-short : q < n → PutMet Shortest out 0 put.NoRecord out′
+      put-short l = record { says = whole-short base openFrom 32 source (rowsIn t b n) (went .written) q (knownIn ks′) (whole (Over (went .written) q (knownIn ks′)) (went .says)) (omega (arith, rows-counted t b n)) }
 
-      pub judge-done : n ≤ q → JudgeMet Shortest (put.Done s)
-      judge-done l = record { says = (went .written, written-all (went .written) q (knownIn ks′) (went .says) l (went .ready .within), omega (arith, went .puts .grows)) }
+      pub put-done : n ≤ q → PutMet Shortest out 0 (put.Done s) out′
+      put-done l = record { says = (went .written, written-all (went .written) q (knownIn ks′) (went .says) l (went .ready .within), went .puts) }
 
 -- ---- what is answered and stored, where the shortest message is o
 module _ (o : Option (List ℕ)) (out : List ℕ) where
@@ -83,67 +83,44 @@ module _ (o : Option (List ℕ)) (out : List ℕ) where
   into : (a : WriteAnswer) → shorthands.stored 262_144 (length out) o ≡ a → (r : answer.WriteAnswer) → report r ≡ reportWritten a → (out′ : List ℕ) → out′ ≡ outputWritten out a → WritesInto o out r out′
   into a h r e out′ f = record { says = e ∙ ap reportWritten (sym h); holds = f ∙ ap (outputWritten out) (sym h) }
 
-  module _ (p : Put) (m : JudgeMet o p) where
+  -- p: what the first run came to, with the output e, none
+  module _ (e e′ : List ℕ) (p : Put) (m : PutMet o e 0 p e′) where
     pub into-none : p ≡ put.NoRecord → WritesInto o out answers.NoRecord out
-    into-none e = into (Refused 10 0) (ap (shorthands.stored 262_144 (length out)) (subst (λ (p : Put). JudgeSays o p) e (m .says))) answers.NoRecord refl out refl
+    into-none d = into (Refused 10 0) (ap (shorthands.stored 262_144 (length out)) (subst (λ (p : Put). PutSays o e 0 p e′) d (m .says))) answers.NoRecord refl out refl
 
-    module _ (s : ℕ) (e : p ≡ put.Done s) where
-      sized : JudgeSays o (put.Done s)
-      sized = subst (λ (p : Put). JudgeSays o p) e (m .says)
+    module _ (s : ℕ) (d : p ≡ put.Done s) where
+      sized : PutSays o e 0 (put.Done s) e′
+      sized = subst (λ (p : Put). PutSays o e 0 p e′) d (m .says)
 
       stored-as : shorthands.stored 262_144 (length out) o ≡ shorthands.stored 262_144 (length out) (some (sized .0))
       stored-as = ap (shorthands.stored 262_144 (length out)) (sized .1)
 
       pub into-long : 262_144 < s → WritesInto o out answers.TooLong out
-      into-long l = into (Refused 1 0) (stored-as ∙ pick-true _ _ (lt-ltb 262_144 (length (sized .0)) (omega (arith, sized .2)))) answers.TooLong refl out refl
+      into-long l = into (Refused 1 0) (stored-as ∙ pick-true _ _ (lt-ltb 262_144 (length (sized .0)) (omega (arith, sized .2 .grows)))) answers.TooLong refl out refl
 
       module _ (short : s ≤ 262_144) where
         is-size : s ≡ length (sized .0)
-        is-size = omega (arith, sized .2)
+        is-size = omega (arith, sized .2 .grows)
 
         pub into-few : length out < s → WritesInto o out (answers.TooFew s) out
         into-few l = into (Refused 9 (length (sized .0)))
             (stored-as ∙ pick-false _ _ (le-ltb 262_144 (length (sized .0)) (omega (arith, is-size))) ∙ pick-true _ _ (lt-ltb (length out) (length (sized .0)) (omega (arith, is-size))))
             (answers.TooFew s) (ap (λ (n : ℕ). reported 9 n) is-size) out refl
 
+        -- the second run stores what the first counted
         module _ (fits : s ≤ length out) where
-          into-wrote : (out′ : List ℕ) → out′ ≡ slices.stored out 0 (sized .0) → WritesInto o out (answers.Written s) out′
-          into-wrote out′ f = into (Wrote (sized .0))
+          pub into-done : (z : Put) (out′ : List ℕ) → PutMet o out 0 z out′ → WritesInto o out (answers.Written s) out′
+          into-done z out′ h = into (Wrote (sized .0))
               (stored-as ∙ pick-false _ _ (le-ltb 262_144 (length (sized .0)) (omega (arith, is-size))) ∙ pick-false _ _ (le-ltb (length out) (length (sized .0)) (omega (arith, is-size))))
-              (answers.Written s) (ap (λ (n : ℕ). reported 0 n) is-size) out′ f
-
--- the second run stores what the first counted
-module _ (openFrom : ℕ) (source t b : List ℕ) (n : ℕ) (out : List ℕ) (p : Put) (m : JudgeMet (Shortest openFrom source t b n) p) (s : ℕ) (e : p ≡ put.Done s) (short : s ≤ 262_144) (fits : s ≤ length out) where
-  pub into-done : (z : Step) (ks′ out′ : List ℕ) → StepMet (All openFrom source t b n) (itemsIn source t b n) 0 0 out z ks′ out′ → WritesInto (Shortest openFrom source t b n) out (answers.Written s) out′
-  into-done z ks′ out′ h = go z (h .says)
-    where
-      w : JudgeSays (Shortest openFrom source t b n) (put.Done s)
-      w = sized (Shortest openFrom source t b n) out p m s e
-
-      go : (z : Step) → StepSays (All openFrom source t b n) (itemsIn source t b n) 0 0 out z ks′ out′ → WritesInto (Shortest openFrom source t b n) out (answers.Written s) out′
-      go step.NoRecord g =
-          let x = whole-stuck base openFrom 32 source (rowsIn t b n) (whole openFrom source t b n Stuck g) in
-          let y = w .1 in
-          let q : _≡_ {A = ℕ} 0 1 = cc in
-          absurd (omega arith)
-      go (step.Done q k) g = ends (ltb q n) refl
-        where
-          x : walk (putValue base openFrom 32) start (itemsIn source t b n) 0 ≡ Over (g .written) q (knownIn ks′)
-          x = whole openFrom source t b n (Over (g .written) q (knownIn ks′)) (g .says)
-
-          ends : (b′ : Bool) → ltb q n ≡ b′ → WritesInto (Shortest openFrom source t b n) out (answers.Written s) out′
-          ends true l =
-              let y = whole-short base openFrom 32 source (rowsIn t b n) (g .written) q (knownIn ks′) x (omega (arith, ltb-true q n l, rows-counted t b n)) in
-              let u = w .1 in
-              let z : _≡_ {A = ℕ} 0 1 = cc in
-              absurd (omega arith)
-          ends false l =
-              let y = written-all openFrom source t b n (g .written) q (knownIn ks′) (g .says) (omega (arith, ltb-false q n l)) (g .ready .within) in
-              let u = w .1 in
-              let v : g .written ≡ w .0 = cc in
-              let i = is-size (Shortest openFrom source t b n) out p m s e short in
-              let j : length (g .written) ≡ s = ap length v ∙ sym i in
-              into-wrote (Shortest openFrom source t b n) out p m s e short fits out′ (g .puts .holds (omega arith) (omega arith) ∙ ap (slices.stored out 0) v)
+              (answers.Written s) (ap (λ (n : ℕ). reported 0 n) is-size) out′ (go z (h .says))
+            where
+              go : (z : Put) → PutSays o out 0 z out′ → out′ ≡ slices.stored out 0 (sized .0)
+              go put.NoRecord g = let x = sized .1 in let q : _≡_ {A = ℕ} 0 1 = cc in absurd (omega arith)
+              go (put.Done k) g =
+                  let x = sized .1 in
+                  let y = g .1 in
+                  let v : g .0 ≡ sized .0 = cc in
+                  g .2 .holds (omega (arith, is-size, ap length v)) (omega (arith, is-size, ap length v)) ∙ ap (slices.stored out 0) v
 
 -- ---- rows that are lent or not
 module _ (openFrom : ℕ) (source t b : List ℕ) (n : ℕ) (out : List ℕ) where

@@ -301,14 +301,6 @@ pub record BeginMet (o : Walked) (openFrom d : ℕ) (is : List Item) (from s : �
   pub says : BeginSays o openFrom d is from s out r ks′ out′
 
 -- ---- messages
--- the size of the shortest message of the rows, up to one more than the longest message; or they are no record
-abbrev pub JudgeSays : Option (List ℕ) → Put → Type 0
-JudgeSays o (put.Done s) = (w : List ℕ) × (o ≡ some w) × (s ≡ min (length w) 262_145)
-JudgeSays o put.NoRecord = o ≡ none
-
-pub record JudgeMet (o : Option (List ℕ)) (r : Put) : Type 0 where
-  pub says : JudgeSays o r
-
 -- the rows lent have the shortest message o, or none
 pub record WritesInto (o : Option (List ℕ)) (out : List ℕ) (r : answer.WriteAnswer) (out′ : List ℕ) : Type 0 where
   pub says : report r ≡ reportWritten (shorthands.stored 262_144 (length out) o)

@@ -17,7 +17,7 @@ ghost use Prim.Native.Nat.{_≤_};
 ghost use lib.ListN.{length};
 ghost use Rattle.record.specs.Answers.{base, shortestOf, asNumbers, asBytes, writeReport, writeOutput};
 ghost use Rattle.writer.specs.Answers.{report};
-ghost use Rattle.writer.specs.Inside.{lentIn, rowsIn, JudgeMet, WritesInto, WritesFrom};
+ghost use Rattle.writer.specs.Inside.{lentIn, rowsIn, PutMet, WritesInto, WritesFrom};
 
 // The longest message.
 const LONGEST: usize = 262_144;
@@ -37,14 +37,21 @@ pub enum WriteAnswer {
     TooFew { needed: usize },
 }
 
-// Whether the first n rows are a record, and how many bytes its shortest message takes, up to one more than the longest message. Nothing
-// is stored.
-fn judge(source: &[u8], numbers: &[u64], bytes: &[u8], n: usize, open_from: u64) -> Put
+// One run over the first n rows: whether they are a record, and how many bytes its shortest message takes, up to one more than the
+// longest message. It is stored where it fits.
+fn put_rows(
+    source: &[u8],
+    numbers: &[u64],
+    bytes: &[u8],
+    n: usize,
+    out: &mut [u8],
+    open_from: u64,
+) -> Put
     requires { ⌜ n ≤ lentIn (now numbers) (now bytes) ⌝ }
-    ensures { λ r. ⌜ JudgeMet (shortestOf base open_from 32 (now (source .entry)) (rowsIn (now (numbers .entry)) (now (bytes .entry)) n)) r ⌝ }
+    ensures { λ r. ⌜ PutMet (shortestOf base open_from 32 (now (source .entry)) (rowsIn (now (numbers .entry)) (now (bytes .entry)) n)) (now (out .entry)) 0 r (now (out .exit)) ⌝ }
 {
-    let mut none: [u8; 0] = [];
     let mut known = [0u64; 259];
+    let one = Contents::Elements(1);
     match values::write_values(
         source,
         numbers,
@@ -52,8 +59,8 @@ fn judge(source: &[u8], numbers: &[u64], bytes: &[u8], n: usize, open_from: u64)
         n,
         &mut known,
         0,
-        Contents::Elements(1),
-        &mut none,
+        one,
+        out,
         0,
         ALLOWANCE,
         open_from,
@@ -68,7 +75,7 @@ fn judge(source: &[u8], numbers: &[u64], bytes: &[u8], n: usize, open_from: u64)
     }
 }
 
-// Writes the first n rows, which are lent: judges and counts first, then stores, so that a refusal stores nothing.
+// Writes the first n rows, which are lent: judges and counts first, with no output, then stores, so that a refusal stores nothing.
 fn write_rows(
     source: &[u8],
     numbers: &[u64],
@@ -80,7 +87,8 @@ fn write_rows(
     requires { ⌜ n ≤ lentIn (now numbers) (now bytes) ⌝ }
     ensures { λ r. ⌜ WritesInto (shortestOf base open_from 32 (now (source .entry)) (rowsIn (now (numbers .entry)) (now (bytes .entry)) n)) (now (out .entry)) r (now (out .exit)) ⌝ }
 {
-    match judge(source, numbers, bytes, n, open_from) {
+    let mut none: [u8; 0] = [];
+    match put_rows(source, numbers, bytes, n, &mut none, open_from) {
         Put::NoRecord => WriteAnswer::NoRecord,
         Put::Done { size } => {
             if LONGEST < size {
@@ -89,20 +97,7 @@ fn write_rows(
             if out.len() < size {
                 return WriteAnswer::TooFew { needed: size };
             }
-            let mut known = [0u64; 259];
-            values::write_values(
-                source,
-                numbers,
-                bytes,
-                n,
-                &mut known,
-                0,
-                Contents::Elements(1),
-                out,
-                0,
-                ALLOWANCE,
-                open_from,
-            );
+            put_rows(source, numbers, bytes, n, out, open_from);
             WriteAnswer::Written { size }
         }
     }

@@ -1,6 +1,6 @@
 -- Each way out has its law in proofs/Message.antt.
 use borrow.Author.Needs.{needs}
-use Rattle.reader.proofs.Message.{ready-first, judge-empty, judge-long, judge-fault, judge-over, judge-record}
+use Rattle.reader.proofs.Message.{judge-empty, judge-long, judge-fault, judge-over, judge-record}
 use Rattle.reader.proofs.judge.Statement.{statement}
 use Rattle.reader.proofs.judge.Tie as tie
 
@@ -9,9 +9,6 @@ returns c = search (judge-empty, needs)
 
 returns-2 : tie.Need-returns-2
 returns-2 c = search (judge-long, needs)
-
-read-values-requires : tie.Need-read-values-requires
-read-values-requires c κs = search (ready-first, needs)
 
 returns-3 : tie.Need-returns-3
 returns-3 c = search (judge-over, needs)
@@ -26,15 +23,19 @@ pub judge-spec : {M : Type 1} → statement M
 judge-spec =
     tie.close
     (tie.spec
+    (λ c κs. search needs)
     returns
+    (λ c κs. search needs)
     returns-2
     (λ c. search needs)
     (λ c. search needs)
     (λ c. search needs)
     (λ c. search needs)
-    read-values-requires
+    (λ c κs. search needs)
     (λ c. search needs)
+    (λ c κs. search needs)
     (λ c. search needs)
+    (λ c κs. search needs)
     returns-3
     returns-4
     returns-5)

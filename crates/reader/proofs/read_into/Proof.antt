@@ -1,14 +1,11 @@
 -- Each way out has its law in proofs/Message.antt.
 use borrow.Author.Needs.{needs}
-use Rattle.reader.proofs.Message.{ready-first, into-refused, into-few, into-record}
+use Rattle.reader.proofs.Message.{into-refused, into-few, into-record}
 use Rattle.reader.proofs.read_into.Statement.{statement}
 use Rattle.reader.proofs.read_into.Tie as tie
 
 returns : tie.Need-returns
 returns c = search (into-few, needs)
-
-read-values-requires : tie.Need-read-values-requires
-read-values-requires c κs = search (ready-first, needs)
 
 returns-2 : tie.Need-returns-2
 returns-2 c = search (into-refused, needs)
@@ -24,7 +21,7 @@ read-into-spec =
     (λ c. search needs)
     (λ c. search needs)
     returns
-    read-values-requires
+    (λ c κs. search needs)
     returns-2
     (λ c. search needs)
     (λ c. search needs)
