@@ -16,7 +16,7 @@ use Rattle.record.specs.Answers.{ReadAnswer, judged, read, shortestOf, L
 use Rattle.record.specs.Shorthands.{answered, stored}
 use Rattle.record.specs.Whole.{rows-length}
 use Rattle.record.specs.Refusals.{Numbered, message-within}
-use Rattle.record.specs.Demands.{read-numbered}
+use Rattle.record.specs.Demanded.{read-numbered}
 
 -- the count and the place of an answer are at most k
 abbrev Most : ℕ → ReadAnswer → Type 0

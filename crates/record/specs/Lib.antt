@@ -21,6 +21,7 @@ pub mod Refusals
 pub mod Answering
 pub mod Widths
 pub mod Numbering
+pub mod Demanded
 pub mod Demands
 pub mod Bounds
 pub mod Placed
