@@ -1,4 +1,4 @@
-// Doubles by their bits. The definitions are in specs/Scalars.antt.
+// Doubles by their bits. The definitions are in scalar's specs/Scalars.antt.
 ghost use mathlib.Core.Path.{_≡_};
 ghost use Prim.Native.Nat.{_+_, _^_, _≤_, _<_};
 ghost use mir.Syntax.{w8, w16};

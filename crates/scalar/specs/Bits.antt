@@ -1,4 +1,4 @@
--- A value has 64 bits; a content is no longer than its bytes, and has at most two units a byte.
+-- A value has 64 bits; a content is no longer than the bytes of its form; it has at most two units a byte, and in a form no more units than bytes.
 use mathlib.Core.List.{List, [], _∷_, _++_}
 use Prim.Native.Nat.{ℕ, _*_, _^_, _≤_, _<_}
 use native.Mathlib.Omega.{arith}
@@ -47,7 +47,7 @@ pub units-few : (k : Kind) (cs : List ℕ) → units k cs ≤ 2 * length cs
 units-few k [] = omega arith
 units-few k (b ∷ cs) = omega (arith, weight-few k b, units-few k cs)
 
--- a text has no more units than bytes
+-- what a form holds has no more units than bytes
 char-few : {k : Kind} {u : ℕ} {w : List ℕ} → Char k u w → u ≤ length w
 char-few (one-byte l) = omega arith
 char-few (one-unit e c) = omega arith

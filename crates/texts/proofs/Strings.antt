@@ -66,7 +66,7 @@ module _ {whole rest : Answer ℕ} {m : List ℕ} {at here : ℕ} (R : Along who
       let d : here + j - at ≡ here - at + j = omega (arith, R .onward) in
       record { says = rw d (sym (shifted-twice (here - at) j left) ∙ ap (shifted (here - at)) (sym e) ∙ R .says); onward = omega (arith, R .onward); inside = l }
 
--- ---- a character's first byte: the table of specs/Scalars.antt
+-- ---- a character's first byte: the table of scalar's specs/Scalars.antt
 abbrev leadRows : List (Row CharLead)
 leadRows =
     row 0x00 0x80 (λ b. Basic 0 0 0)

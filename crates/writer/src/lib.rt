@@ -1,5 +1,5 @@
-// Writes the shortest message of a table of rows, whose texts and byte strings lie in a source. What a record's shortest message is stands
-// in record's specs/Spelling.antt, what the writer answers in its specs/Answers.antt.
+// Writes the shortest message of a table of rows, whose texts and byte strings lie in a source. What a record's shortest message is, and what
+// the writer answers, stands in record's specs/Answers.antt.
 pub mod definitions;
 pub mod holders;
 pub mod leaves;

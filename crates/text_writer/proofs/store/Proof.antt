@@ -1,4 +1,4 @@
--- A form of one chunk has its laws in specs/TextLaying.antt.
+-- A form of one chunk has its laws in specs/Laying.antt.
 use borrow.Author.Needs.{needs}
 use Rattle.text_writer.specs.Laying.{one-start, one-copies, one-fits, laying-one}
 use Rattle.text_writer.proofs.store.Statement.{statement}
