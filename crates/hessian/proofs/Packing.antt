@@ -27,14 +27,17 @@ module _ (m t : List ℕ) (bytes : (i : ℕ) → Fits w8 (getD m i 0)) (r : Read
       let p = ap (λ (x : Report). x .place) f in
       (omega (arith, s .0), omega (arith, s .1))
 
-  pub small-accepted : (n k : ℕ) → r ≡ Accepted n k → (n ≤ 262144) × (k ≤ 262144)
-  small-accepted n k h = small (Accepted n k) h
+  pub rows-small : (n k : ℕ) → r ≡ Accepted n k → n ≤ 262144
+  rows-small n k h = small (Accepted n k) h .0
 
-  pub small-refused : (x o : ℕ) → r ≡ Refused x o → (0 ≤ 262144) × (o ≤ 262144)
-  small-refused x o h = small (Refused x o) h
+  pub length-small : (n k : ℕ) → r ≡ Accepted n k → k ≤ 262144
+  length-small n k h = small (Accepted n k) h .1
 
-  pub small-few : (n : ℕ) → r ≡ TooFew n → (n ≤ 262144) × (0 ≤ 262144)
-  small-few n h = small (TooFew n) h
+  pub place-small : (x o : ℕ) → r ≡ Refused x o → o ≤ 262144
+  place-small x o h = small (Refused x o) h .1
+
+  pub needed-small : (n : ℕ) → r ≡ TooFew n → n ≤ 262144
+  needed-small n h = small (TooFew n) h .0
 
   pub packed-accepted : (n k v : ℕ) → r ≡ Accepted n k → v ≡ packed (answer 0 n k) → v ≡ packed (readReport base 32 262144 asBytes m t)
   packed-accepted n k v h q = q ∙ ap packed (ap report (sym h) ∙ e)
@@ -53,11 +56,11 @@ module _ (s t : List ℕ) (n : ℕ) (o : List ℕ) (r : WriteAnswer) (e : writes
       let c = ap (λ (x : Report). x .count) f in
       omega (arith, written-small base 48 32 262144 asBytes s t n (length o))
 
-  pub small-written : (k : ℕ) → r ≡ wrote.Written k → (k ≤ 262144) × (0 ≤ 262144)
-  small-written k h = (count-small (wrote.Written k) h, omega arith)
+  pub size-small : (k : ℕ) → r ≡ wrote.Written k → k ≤ 262144
+  size-small k h = count-small (wrote.Written k) h
 
-  pub small-needed : (k : ℕ) → r ≡ wrote.TooFew k → (k ≤ 262144) × (0 ≤ 262144)
-  small-needed k h = (count-small (wrote.TooFew k) h, omega arith)
+  pub bytes-small : (k : ℕ) → r ≡ wrote.TooFew k → k ≤ 262144
+  bytes-small k h = count-small (wrote.TooFew k) h
 
   packed-as : (r′ : WriteAnswer) → r ≡ r′ → (v : ℕ) → v ≡ packed (writes.report r′) → v ≡ packed (writeReport base 48 32 262144 asBytes s t n o)
   packed-as r′ h v q = q ∙ ap packed (ap writes.report (sym h) ∙ e)

@@ -1,14 +1,14 @@
 -- Each way out has its law in proofs/Packing.antt.
 use borrow.Author.Needs.{needs}
-use Rattle.hessian.proofs.Packing.{small-written, small-needed, packed-written, packed-long, packed-none, packed-needed}
+use Rattle.hessian.proofs.Packing.{size-small, bytes-small, packed-written, packed-long, packed-none, packed-needed}
 use Rattle.hessian.proofs.hessian_write.Statement.{statement}
 use Rattle.hessian.proofs.hessian_write.Tie as tie
 
 pack-requires : tie.Need-pack-requires
-pack-requires c κs = small-written (c .before .before .before .before .before .before .before .before .before .before .args .source .now) (c .before .before .before .before .before .before .before .before .before .before .args .table .now) (c .before .before .before .before .before .before .before .before .before .before .args .rows) (c .before .before .before .before .before .before .before .before .before .before .args .output .now) _ (c .before .before .before .before .before .write-bytes .ensures .0) _ (c .before .size .given .1)
+pack-requires c κs = (search (size-small, needs), search needs)
 
 pack-requires-4 : tie.Need-pack-requires-4
-pack-requires-4 c κs = small-needed (c .before .before .before .before .before .before .before .before .before .before .args .source .now) (c .before .before .before .before .before .before .before .before .before .before .args .table .now) (c .before .before .before .before .before .before .before .before .before .before .args .rows) (c .before .before .before .before .before .before .before .before .before .before .args .output .now) _ (c .before .before .before .before .before .write-bytes .ensures .0) _ (c .before .needed .given .1)
+pack-requires-4 c κs = (search (bytes-small, needs), search needs)
 
 returns : tie.Need-returns
 returns c = search (packed-written, needs)
