@@ -230,20 +230,107 @@ static void build_mixed(void)
     put(0x5a);
 }
 
-const char *const input_names[INPUTS] = {
-    "text",    /* 50,000 plain characters, one text in chunks */
-    "bytes",   /* 50,000 bytes, in chunks */
-    "ints",    /* 50,000 ints in an open list */
-    "objects", /* 3,000 objects of one class */
-    "mixed"    /* 3,000 values of all kinds */
+/* The sample of 50,000 plain characters. */
+static void build_plain(void)
+{
+    FILE *sample = fopen(SAMPLE, "rb");
+    int byte;
+
+    if (sample == NULL) {
+        perror(SAMPLE);
+        exit(2);
+    }
+    while ((byte = getc(sample)) != EOF)
+        put((unsigned)byte);
+    fclose(sample);
+}
+
+/* 3,000 names of so many plain characters, up to 31. */
+static void put_names(unsigned len)
+{
+    unsigned i, j;
+
+    put(0x57);
+    for (i = 0; i < 3000; i++) {
+        put(len);
+        for (j = 0; j < len; j++)
+            put('a' + (i + j) % 26);
+    }
+    put(0x5a);
+}
+
+static void build_names_3(void)
+{
+    put_names(3);
+}
+
+static void build_names_8(void)
+{
+    put_names(8);
+}
+
+static void build_names_16(void)
+{
+    put_names(16);
+}
+
+static void build_names_31(void)
+{
+    put_names(31);
+}
+
+/* A text of many sentences, each of so many units, in one chunk each. */
+static void put_sentences(const char *sentence, unsigned units, unsigned times)
+{
+    size_t i;
+
+    for (; times > 0; times--) {
+        put(times > 1 ? 0x52 : 0x53);
+        put_number(units, 2);
+        for (i = 0; sentence[i] != '\0'; i++)
+            put((uint8_t)sentence[i]);
+    }
+}
+
+static void build_german(void)
+{
+    put_sentences("Die Pr\xc3\xbc" "ffahrt auf der nassen Stra\xc3\x9f" "e endet sp\xc3\xa4t am Abend; der Wagen fuhr "
+                  "ohne St\xc3\xb6rung. ", 86, 580);
+}
+
+static void build_cjk(void)
+{
+    put_sentences("\xe8\xa9\xa6\xe9\xa8\x93\xe8\xb5\xb0\xe8\xa1\x8c\xe3\x81\xaf\xe5\xa4\x9c\xe3\x81\xab"
+                  "\xe7\xb5\x82\xe3\x82\x8f\xe3\x81\xa3\xe3\x81\x9f\xe3\x80\x82", 12, 4200);
+}
+
+static const struct {
+    const char *name;
+    void (*build)(void);
+} inputs[INPUTS] = {
+    {"text", build_text},         /* 50,000 plain characters, one text in chunks */
+    {"plain", build_plain},       /* the stored sample: as many in one chunk */
+    {"names 3", build_names_3},   /* 3,000 short texts */
+    {"names 8", build_names_8},
+    {"names 16", build_names_16},
+    {"names 31", build_names_31},
+    {"german", build_german},     /* a text of 50,000 characters, one in 22 of two bytes */
+    {"cjk", build_cjk},           /* a text of 50,400 characters of three bytes */
+    {"bytes", build_bytes},       /* 50,000 bytes, in chunks */
+    {"ints", build_ints},         /* 50,000 ints in an open list */
+    {"objects", build_objects},   /* 3,000 objects of one class */
+    {"mixed", build_mixed}        /* 3,000 values of all kinds */
 };
+
+const char *input_name(size_t number)
+{
+    return inputs[number].name;
+}
 
 void build_input(size_t number)
 {
-    static void (*const builders[INPUTS])(void) = {build_text, build_bytes, build_ints, build_objects, build_mixed};
-
     message_len = 0;
-    builders[number]();
+    inputs[number].build();
 }
 
 /* ---- timing */

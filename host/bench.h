@@ -8,7 +8,7 @@
 enum {
     ROOM = 262144, /* bytes of a message, and rows of a table */
     ROW_SIZE = 32,
-    INPUTS = 5
+    INPUTS = 12
 };
 
 extern const char *const bench_name;
@@ -17,9 +17,8 @@ extern const char *const bench_name;
 extern uint8_t message[ROOM];
 extern size_t message_len;
 
-extern const char *const input_names[INPUTS];
-
-/* Builds the input of this number. */
+/* The name of the input of this number; builds it. */
+const char *input_name(size_t number);
 void build_input(size_t number);
 
 /* What is timed: one call, and its answer. */

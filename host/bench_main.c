@@ -1,6 +1,6 @@
 /*
- * Times the library and the plain C reader and writer of baseline/ side by side on the same messages: reading, writing the
- * table that was read, and both in one.
+ * Times the library and the plain C reader and writer of baseline/, or an older library that stands in for them (make
+ * bench_before), side by side on the same messages: reading, writing the table that was read, and both in one.
  *
  *     bench                               prints a table; a ratio above 1 says that the library is faster
  *     bench -i INPUT JOB WHO TIMES        does one job so many times; JOB is read, write or rewrite, WHO library or baseline
@@ -82,11 +82,11 @@ static int compare_all(void)
             prepare(i);
             answer = jobs[j][0]();
             if (answer >> 48 != 0 || answer != jobs[j][1]()) {
-                fprintf(stderr, "bench: %s %s is not accepted by both\n", job_names[j], input_names[i]);
+                fprintf(stderr, "bench: %s %s is not accepted by both\n", job_names[j], input_name(i));
                 return 1;
             }
             measure(jobs[j], best);
-            printf("%-8s %-8s %8zu %8lu %12.0f %12.0f %7.2f\n", job_names[j], input_names[i], message_len,
+            printf("%-8s %-8s %8zu %8lu %12.0f %12.0f %7.2f\n", job_names[j], input_name(i), message_len,
                    (unsigned long)rows, best[0], best[1], best[1] / best[0]);
             fflush(stdout);
         }
@@ -103,9 +103,18 @@ static size_t find(const char *const names[], size_t count, const char *name)
     return i;
 }
 
+static size_t find_input(const char *name)
+{
+    size_t i = 0;
+
+    while (i < INPUTS && strcmp(input_name(i), name) != 0)
+        i++;
+    return i;
+}
+
 static int run_one(char **words)
 {
-    size_t input = find(input_names, INPUTS, words[0]), job = find(job_names, JOBS, words[1]);
+    size_t input = find_input(words[0]), job = find(job_names, JOBS, words[1]);
     size_t who = find(who_names, 2, words[2]);
     long times = strtol(words[3], NULL, 10);
 

@@ -118,6 +118,12 @@ def sweep_wide(blocks):
         b"\x5f" + struct.pack(">f", 12.25) + counted_list(*(parted_binary(40, b) for b in blocks))
 
 
+def plain(size):
+    """So many characters below U+0080."""
+    lines = (f"{i:05d} lane {i % 4} speed {100 + i * 7 % 60} gear {i % 6} ok\n" for i in range(size))
+    return "".join(lines)[:size]
+
+
 BLOCKS = [samples(k) for k in range(4)]
 OTHER_BLOCKS = BLOCKS[:2] + [samples(9)] + BLOCKS[3:]
 
@@ -151,6 +157,8 @@ RECORDS = {
     # characters of one to four bytes, characters that are not to be seen, a text in chunks, an empty one
     "texts.rec": open_list(text(""), text("Grüße, 東京 🚗"), text('"quoted" \\ tab\t line\n bell\x07 mark\u202e'),
                            parted_text("one text ", "in ", "three parts"), binary(b""), binary(bytes(range(80)))),
+    # 50,000 plain characters, in lines of a logbook
+    "plain.rec": text(plain(50000)),
     # 60 elements: their count is spelled out here, and the open form is a byte shorter
     "long_list.rec": counted_list(*(int_(n * n) for n in range(60))),
     # what is no record: a reserved byte, a character that is not UTF-8, a second record, a reference to nothing, nothing

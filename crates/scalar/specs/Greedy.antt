@@ -7,7 +7,7 @@ use native.Mathlib.Omega.{arith}
 use lib.Dec.{T, ltb}
 use lib.ListN.{length, take, drop, length-drop}
 use lib.Seq.{drop-drop}
-use Rattle.flow.specs.Tests.{by-test, tests}
+use Rattle.flow.specs.Tests.{by-test, by-cases, tests}
 use Rattle.scalar.specs.Scalars.{total, span}
 
 abbrev pub Chars : List ℕ → Type 0
@@ -31,7 +31,7 @@ total-drop (suc j) [] = omega arith
 total-drop (suc j) (w ∷ ws) = omega (arith, total-drop j ws)
 
 -- what fits is no more than `span`
-span-most : (cap j : ℕ) (ws : List ℕ) → j ≤ length ws → total (take j ws) ≤ cap → j ≤ span cap ws
+pub span-most : (cap j : ℕ) (ws : List ℕ) → j ≤ length ws → total (take j ws) ≤ cap → j ≤ span cap ws
 span-most cap zero ws l h = omega arith
 span-most cap (suc j) [] l h = absurd (omega arith)
 span-most cap (suc j) (w ∷ ws) l h = by-test (λ (n : ℕ). suc j ≤ n) (ltb cap w) (λ t. absurd (omega (arith, tests))) (λ t. omega (arith, span-most (cap - w) j ws (omega arith) (omega (arith, tests))))
@@ -40,6 +40,17 @@ pub span-fits : (cap : ℕ) (ws : List ℕ) → (span cap ws ≤ length ws) × (
 span-fits cap [] = (omega arith, omega arith)
 span-fits cap (w ∷ ws) = by-test (λ (n : ℕ). (n ≤ length (w ∷ ws)) × (total (take n (w ∷ ws)) ≤ cap)) (ltb cap w) (λ t. (omega arith, omega arith))
     (λ t. let p = span-fits (cap - w) ws in (omega arith, omega (arith, tests)))
+
+-- where j fit, what fits of the rest
+pub span-cut : (cap j : ℕ) (ws : List ℕ) → j ≤ span cap ws → span cap ws ≡ j + span (cap - total (take j ws)) (drop j ws)
+span-cut cap zero ws l = let e : cap - 0 ≡ cap = omega arith in rw e (omega arith)
+span-cut cap (suc j) [] l = absurd (omega arith)
+span-cut cap (suc j) (w ∷ ws) l = by-cases (ltb cap w)
+    (λ t. absurd (omega (arith, rw t at l)))
+    (λ t.
+    let e : cap - (w + total (take j ws)) ≡ cap - w - total (take j ws) = omega arith in
+    let i : suc j ≤ suc (span (cap - w) ws) = rw t at l in
+    rw (t, e) (omega (arith, span-cut (cap - w) j ws (omega arith))))
 
 pub total-split : (j : ℕ) (ws : List ℕ) → total (take j ws) + total (drop j ws) ≡ total ws
 total-split zero ws = omega arith

@@ -6,7 +6,7 @@ use Prim.Native.Nat.{ℕ, suc, _+_, _-_, _≤_, _<_}
 use native.Mathlib.Omega.{arith}
 use lib.Dec.{ltb}
 use borrow.Author.Tests.{lt-ltb, le-ltb}
-use lib.ListN.{length, take, drop}
+use lib.ListN.{length, getD, take, drop}
 use lib.Seq.{take-append-add, drop-append-add}
 use Rattle.flow.specs.Tests.{by-test, pick-either, within-yes, within-below, within-above, within-is, bytes-append}
 use Rattle.flow.specs.Flow.{pick, within, Bytes}
@@ -41,6 +41,11 @@ weight-few Utf8 b = by-test (λ (n : ℕ). n ≤ 2) (within 0x80 0xc0 b) (λ t. 
 pub weights-chars : (k : Kind) (cs : List ℕ) → Chars (weights k cs)
 weights-chars k [] = tt
 weights-chars k (b ∷ cs) = (weight-few k b, weights-chars k cs)
+
+-- bytes that weigh one each
+pub singles : (k : Kind) (cs : List ℕ) → ((i : ℕ) → i < length cs → weight k (getD cs i 0) ≡ 1) → units k cs ≡ length cs
+singles k [] h = refl
+singles k (b ∷ cs) h = omega (arith, h 0 (omega arith), singles k cs (λ i l. h (suc i) (omega arith)))
 
 -- ---- the first byte of a character: a byte, what follows lies from 80 to bf, and it weighs the character's units
 abbrev Leads : ℕ → CharLead → Type 0
@@ -127,7 +132,7 @@ nothing-span : (us vs : List ℕ) (cap : ℕ) → Nothing us → span cap (us ++
 nothing-span [] vs cap n = omega arith
 nothing-span (u ∷ us) vs cap n = rw (n .0) (rw (le-ltb cap 0 (omega arith)) (ap suc (ap (λ (c : ℕ). span c (us ++ vs)) (omega arith) ∙ nothing-span us vs cap (n .1)) ∙ omega arith))
 
-weights-length : (k : Kind) (cs : List ℕ) → length (weights k cs) ≡ length cs
+pub weights-length : (k : Kind) (cs : List ℕ) → length (weights k cs) ≡ length cs
 weights-length k [] = refl
 weights-length k (b ∷ cs) = ap suc (weights-length k cs)
 

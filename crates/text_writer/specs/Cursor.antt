@@ -2,21 +2,24 @@
 use mathlib.Core.Path.{_≡_, refl, sym, _∙_, ap, subst}
 use mathlib.Core.Bool.{Bool, true, false, cond}
 use mathlib.Core.List.{List, [], _∷_, _++_, append-assoc, append-nil}
-use Prim.Native.Nat.{ℕ, _+_, _-_, _≤_, _<_}
+use Prim.Native.Nat.{ℕ, _+_, _-_, _≤_, _<_, min}
 use native.Mathlib.Omega.{arith}
-use lib.ListN.{length, take, drop, getD, length-append, length-drop}
-use lib.Seq.{take-add, drop-drop, drop-cons, length-take-le, take-append-seam, drop-append-seam}
+use lib.ListN.{length, take, drop, getD, length-append, length-take, length-drop}
+use lib.Seq.{take-add, take-at, drop-at, drop-drop, drop-cons, length-take-le, take-append-seam, drop-append-seam, getD-take, getD-drop}
 use borrow.Author.Tests.{lt-ltb, le-ltb}
 use Rattle.flow.specs.Steps.{Answer}
 use Rattle.flow.specs.Flow.{Done, Fault, stored}
 use Rattle.flow.specs.OverlayLaws.{stored-sets, stored-seam, length-stored}
 use Rattle.scalar.specs.declared.Kind.{Kind}
+use Rattle.scalar.specs.declared.Kind.the-variants.{Utf8, Binary}
 use Rattle.texts.specs.declared.ChunkRead.the-variants as chunk
 use Rattle.text_writer.specs.declared.Cursor.{Cursor}
-use Rattle.scalar.specs.Scalars.{weight, units, span, stringAt}
-use Rattle.scalar.specs.TextUnits.{weights, units-append}
+use Rattle.scalar.specs.Scalars.{weight, total, units, span, stringAt}
+use Rattle.scalar.specs.Greedy.{span-most, span-cut}
+use Rattle.scalar.specs.TextUnits.{weights, weights-append, weights-length, singles, single-low, units-append}
+use Rattle.texts.specs.Ascii.{few-are, ascii-are}
 use Rattle.texts.specs.Answers.{prefixed, ChunkSays}
-use Rattle.text_writer.specs.Writing.{contentOf, IsDone, rest, Going, Opens, Spans, Copies}
+use Rattle.text_writer.specs.Writing.{contentOf, IsDone, rest, Going, Opens, singlesAt, Spans, Copies}
 
 no : {A : Type 0} → true ≡ false → A
 no e = let z : _≡_ {A = ℕ} 0 1 = cc in absurd (omega arith)
@@ -110,6 +113,25 @@ module _ (k : Kind) (m : List ℕ) (a : Cursor) where
           omega (arith, R .onward, R .going .inside, length-append front (take n (drop (c .here) m)), length-take-le n (drop (c .here) m) (omega (arith, R .going .inside, length-drop (c .here) m)));
     }
 
+-- ---- bytes that weigh one each
+pub singles-few : (k : Kind) (m : List ℕ) (p most n : ℕ) → n ≡ singlesAt k m p most → n ≤ most
+unfolding singlesAt
+singles-few Utf8 m p most n e = few-are m p most e
+singles-few Binary m p most n e = omega arith
+
+singles-are : (k : Kind) (m : List ℕ) (p most n : ℕ) → p + most ≤ length m → n ≡ singlesAt k m p most → (n ≤ most) × (n ≡ units k (take n (drop p m)))
+unfolding singlesAt
+singles-are k m p most n l e = let f = singles-few k m p most n e in (f, sym (singles k (take n (drop p m)) (single k e) ∙ window f))
+  where
+    window : n ≤ most → length (take n (drop p m)) ≡ n
+    window f = length-take-le n (drop p m) (omega (arith, length-drop p m))
+
+    single : (k : Kind) → n ≡ singlesAt k m p most → (i : ℕ) → i < length (take n (drop p m)) → weight k (getD (take n (drop p m)) i 0) ≡ 1
+    single Utf8 e i j =
+        let g : i < n = omega (arith, length-take n (drop p m)) in
+        rw (getD-take n (drop p m) i 0 g, getD-drop p m i 0) (single-low (getD m (p + i) 0) (ascii-are m p most e .below i g))
+    single Binary e i j = refl
+
 -- ---- how many bytes fit: those passed, and what fits of the rest
 pub record Spanning (k : Kind) (m : List ℕ) (a : Cursor) (cap : ℕ) (c : Cursor) (bytes done : ℕ) : Type 0 where
   pub front : List ℕ
@@ -145,27 +167,56 @@ module _ {k : Kind} {m : List ℕ} {a : Cursor} {cap : ℕ} {c : Cursor} {bytes 
     spans = rw (opened k m a (R .front) c (R .passed) r z f o .1, ← rest-open k m c z f) (R .spans);
   }
 
-  module _ (l : 0 < c .left) (w : ℕ) (e : w ≡ weight k (getD m (c .here) 0)) where
-    byte : take 1 (drop (c .here) m) ≡ getD m (c .here) 0 ∷ []
-    byte = rw (drop-cons m (c .here) 0 (omega (arith, R .passed .going .inside))) refl
+  -- the next byte does not fit
+  pub spanning-stop : 0 < c .left → (w : ℕ) → w ≡ weight k (getD m (c .here) 0) → cap - done < w → Spans k (rest k m a) cap (record { bytes = bytes; units = done })
+  spanning-stop l w e h = stops (rw (next, ← e, lt-ltb (cap - done) w h) refl)
+    where
+      next : rest k m c ≡ getD m (c .here) 0 ∷ rest k m (moved c 1)
+      next = rest-run k m c 1 (omega arith) ∙ rw (drop-cons m (c .here) 0 (omega (arith, R .passed .going .inside))) refl
 
-    next : rest k m c ≡ getD m (c .here) 0 ∷ rest k m (moved c 1)
-    next = rest-run k m c 1 (omega arith) ∙ rw byte refl
+  -- the next n bytes fit
+  module _ (n u : ℕ) (l : n ≤ c .left) (e : u ≡ units k (take n (drop (c .here) m))) (h : u ≤ cap - done) where
+    abbrev run : List ℕ
+    run = take n (drop (c .here) m)
 
-    pub spanning-stop : cap - done < w → Spans k (rest k m a) cap (record { bytes = bytes; units = done })
-    spanning-stop h = stops (rw (next, ← e, lt-ltb (cap - done) w h) refl)
+    run-length : length run ≡ n
+    run-length = length-take-le n (drop (c .here) m) (omega (arith, length-drop (c .here) m, R .passed .going .inside))
 
-    pub spanning-byte : w ≤ cap - done → Spanning k m a cap (moved c 1) (bytes + 1) (done + w)
-    spanning-byte h =
-        let d : cap - done - w ≡ cap - (done + w) = omega arith in
+    run-span : span (cap - done) (weights k (rest k m c)) ≡ n + span (cap - done - u) (weights k (rest k m (moved c n)))
+    run-span =
+        let ws = weights k run in
+        let vs = weights k (rest k m (moved c n)) in
+        let d : length ws ≡ n = weights-length k run ∙ run-length in
+        let f : take n (ws ++ vs) ≡ ws = take-at ws vs n d in
+        let j : total (take n (ws ++ vs)) ≤ cap - done = rw f (omega arith) in
+        rw (rest-run k m c n l, weights-append k run (rest k m (moved c n)))
+        (span-cut (cap - done) n (ws ++ vs) (span-most (cap - done) n (ws ++ vs) (omega (arith, d, length-append ws vs)) j) ∙ rw (f, drop-at ws vs n d, ← e) refl)
+
+    pub spanning-run : Spanning k m a cap (moved c n) (bytes + n) (done + u)
+    spanning-run =
+        let d : cap - done - u ≡ cap - (done + u) = omega arith in
         record {
-          front = R .front ++ (getD m (c .here) 0 ∷ []);
-          passed = rw byte at (passed-run k m a (R .front) c (R .passed) 1 (omega arith));
-          bytes-are = omega (arith, R .bytes-are, length-append (R .front) (getD m (c .here) 0 ∷ []));
-          units-are = omega (arith, R .units-are, units-append k (R .front) (getD m (c .here) 0 ∷ []), e);
+          front = R .front ++ run;
+          passed = passed-run k m a (R .front) c (R .passed) n l;
+          bytes-are = omega (arith, R .bytes-are, length-append (R .front) run, run-length);
+          units-are = omega (arith, R .units-are, units-append k (R .front) run, e);
           within = omega (arith, R .within);
-          spans = R .spans ∙ rw (next, ← e, le-ltb (cap - done) w h, d) (omega arith);
+          spans = R .spans ∙ rw (run-span, d) (omega arith);
         }
+
+  -- one byte
+  pub spanning-byte : 0 < c .left → (w : ℕ) → w ≡ weight k (getD m (c .here) 0) → w ≤ cap - done → Spanning k m a cap (moved c 1) (bytes + 1) (done + w)
+  spanning-byte l w e h = spanning-run 1 w (omega arith) (rw (drop-cons m (c .here) 0 (omega (arith, R .passed .going .inside))) (omega (arith, e))) h
+
+  -- a run of bytes that weigh one each
+  module _ (n most : ℕ) (e : n ≡ singlesAt k m (c .here) most) (d : most ≡ min (c .left) (cap - done)) where
+    pub singles-fit : (n ≤ c .left) × (n ≤ cap - done)
+    singles-fit = let s = singles-few k m (c .here) most n e in (omega arith, omega arith)
+
+    pub spanning-singles : Spanning k m a cap (moved c n) (bytes + n) (done + n)
+    spanning-singles =
+        let f = singles-fit in
+        spanning-run n n (f .0) (singles-are k m (c .here) most n (omega (arith, R .passed .going .inside)) e .1) (f .1)
 
 -- ---- so many bytes copied: those passed are in the list, where all of them fit
 pub record Copying (k : Kind) (m : List ℕ) (a : Cursor) (count : ℕ) (l : List ℕ) (to : ℕ) (c : Cursor) (n place : ℕ) (l′ : List ℕ) : Type 0 where

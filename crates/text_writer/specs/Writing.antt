@@ -10,6 +10,7 @@ use Rattle.flow.specs.Steps.{Answer}
 use Rattle.flow.specs.Flow.{Done, Fault, stored, pick}
 use Rattle.scalar.specs.declared.Rule.the-variants.{Plain}
 use Rattle.scalar.specs.declared.Kind.{Kind}
+use Rattle.scalar.specs.declared.Kind.the-variants.{Utf8, Binary}
 use Rattle.text_writer.specs.declared.Cursor.{Cursor}
 use Rattle.text_writer.specs.declared.Heads.{Heads}
 use Rattle.text_writer.specs.declared.Span.{Span}
@@ -17,6 +18,7 @@ use Rattle.text_writer.specs.declared.Found.{Found}
 use Rattle.text_writer.specs.declared.Found.the-variants.{There, Nothing}
 use Rattle.scalar.specs.Scalars.{form, partHead, lastHeads, units, span, stringAt, spelled, shortestString}
 use Rattle.scalar.specs.TextUnits.{weights}
+use Rattle.texts.specs.Ascii.{asciiAt}
 
 -- ---- inside the code
 abbrev pub contentOf : Answer (List ℕ) → List ℕ
@@ -44,6 +46,11 @@ pub record Opens (k : Kind) (m : List ℕ) (p : ℕ) (r : Cursor) : Type 0 where
 pub record Spans (k : Kind) (cs : List ℕ) (cap : ℕ) (r : Span) : Type 0 where
   pub bytes : r .bytes ≡ span cap (weights k cs)
   pub units-are : r .units ≡ units k (take (r .bytes) cs)
+
+-- how many bytes from p on, up to so many, weigh one each: those of ASCII, or any of a byte string
+unfoldable pub singlesAt : Kind → List ℕ → ℕ → ℕ → ℕ
+singlesAt Utf8 m p most = asciiAt m p most
+singlesAt Binary m p most = most
 
 -- n bytes of the content from the cursor c on are in the list, where they fit; the cursor r is after them
 pub record Copies (k : Kind) (m : List ℕ) (c : Cursor) (n : ℕ) (l : List ℕ) (to : ℕ) (l′ : List ℕ) (r : Cursor) : Type 0 where

@@ -12,7 +12,7 @@ ghost use Rattle.scalar.specs.Scalars.{weight as weightOf, partHead, lastHeads,
 ghost use Rattle.scalar.specs.Answers.{report, reportOf, outputOf, lengthOf};
 ghost use Rattle.texts.specs.Answers.{Joining};
 ghost use Rattle.scalar.specs.Answers.{itemForm, sizedForm};
-ghost use Rattle.text_writer.specs.Writing.{Opens, Going, rest as restOf, Spans, Copies, HeadsOf, laid as laidOf, Item, FoundMet, Lays};
+ghost use Rattle.text_writer.specs.Writing.{Opens, Going, rest as restOf, singlesAt, Spans, Copies, HeadsOf, laid as laidOf, Item, FoundMet, Lays};
 
 // Where the content of a text or byte string goes on: the place of its next byte, the bytes left in that chunk, and whether the
 // chunk is the last.
@@ -61,6 +61,13 @@ fn weight(kind: Kind, b: u8) -> usize
     }
 }
 
+// The smaller of two numbers.
+fn least(a: usize, b: usize) -> usize
+    ensures { λ r. ⌜ r ≡ min a b ⌝ }
+{
+    if a < b { a } else { b }
+}
+
 // The content of the chunk at `at`.
 fn open(kind: Kind, source: &[u8], at: usize) -> Cursor
     requires { ⌜ at ≤ length (now source) ⌝ }
@@ -88,6 +95,16 @@ fn open(kind: Kind, source: &[u8], at: usize) -> Cursor
     }
 }
 
+// How many bytes of the source from `at` on, up to `most`, weigh one unit each: those of ASCII, or any of a byte string.
+fn singles(kind: Kind, source: &[u8], at: usize, most: usize) -> usize
+    ensures { λ r. ⌜ r ≡ singlesAt kind (now (source .entry)) at most ⌝ }
+{
+    match kind {
+        Kind::Utf8 => texts::ascii(source, at, most),
+        Kind::Binary => most,
+    }
+}
+
 // How many bytes from the cursor on fit `cap` units, and how many units they are.
 fn span_of(kind: Kind, source: &[u8], from: Cursor, cap: usize) -> Span
     requires { ⌜ Going kind (now source) from ⌝ }
@@ -106,17 +123,28 @@ fn span_of(kind: Kind, source: &[u8], from: Cursor, cap: usize) -> Span
             }
             c = open(kind, source, here);
         } else {
-            let w = weight(kind, source[here]);
-            if cap - units < w {
-                return Span { bytes, units };
+            let n = singles(kind, source, here, least(left, cap - units));
+            if 0 < n {
+                bytes += n;
+                units += n;
+                c = Cursor {
+                    here: here + n,
+                    left: left - n,
+                    last,
+                };
+            } else {
+                let w = weight(kind, source[here]);
+                if cap - units < w {
+                    return Span { bytes, units };
+                }
+                bytes += 1;
+                units += w;
+                c = Cursor {
+                    here: here + 1,
+                    left: left - 1,
+                    last,
+                };
             }
-            bytes += 1;
-            units += w;
-            c = Cursor {
-                here: here + 1,
-                left: left - 1,
-                last,
-            };
         }
     }
 }
@@ -195,13 +223,6 @@ fn copy_run(source: &[u8], from: usize, count: usize, out: &mut [u8], to: usize)
     }
     let n = copy_blocks(source, from, count, out, to);
     copy_bytes(source, from + n, count - n, out, to + n);
-}
-
-// The smaller of two numbers.
-fn least(a: usize, b: usize) -> usize
-    ensures { λ r. ⌜ r ≡ min a b ⌝ }
-{
-    if a < b { a } else { b }
 }
 
 // `count` bytes of the content from the cursor on, in `out` from `to` on, where they fit. The cursor after them.

@@ -247,10 +247,6 @@ pub opens-units : {b k lo hi u : ℕ} → Opens b k lo hi u → (0 < u) × (u �
 opens-units (basic e) = (omega arith, omega arith)
 opens-units (supplementary e) = (omega arith, omega arith)
 
--- n bytes from p on are ASCII: each of them is a character of one unit
-pub record Ascii (m : List ℕ) (p n : ℕ) : Type 0 where
-  pub below : (i : ℕ) → i < n → getD m (p + i) 0 < 0x80
-
 module _ (n : ℕ) (m : List ℕ) (p : ℕ) where
   pub characters-none : n ≤ 0 → extentAt (characters n) m p ≡ Done 0 0 [] tt
   characters-none z = none-left (λ i. extentAt (characters i) m p ≡ Done 0 0 [] tt) n z refl

@@ -3,14 +3,16 @@ use scalar::CharLead;
 use scalar::Kind;
 ghost use mathlib.Core.Path.{_≡_};
 ghost use mathlib.Core.Bool.{true};
-ghost use Prim.Native.Nat.{ℕ, _+_, _-_, _*_, _^_, _≤_, _<_};
+ghost use mathlib.Core.Logic.{_↔_};
+ghost use Prim.Native.Nat.{ℕ, _+_, _-_, _*_, _/_, _^_, _≤_, _<_};
 ghost use lib.ListN.{length, getD, take, drop};
 ghost use Rattle.wire.specs.BigEndian.{joined};
 ghost use Rattle.scalar.specs.declared.Kind.the-variants as Kind;
 ghost use Rattle.scalar.specs.Scalars.{charLead, continued as continuedBy, characters as charactersOf, body as bodyOf};
 ghost use Rattle.texts.specs.Answers.{extentAt, toldExtent, CharMet, headForm, HeadMet, ChunkMet, toldString, Joining};
 ghost use Rattle.scalar.specs.Answers.{measuredAt};
-ghost use Rattle.texts.specs.At.{Opens, Ascii};
+ghost use Rattle.texts.specs.Ascii.{Ascii, asciiAt};
+ghost use Rattle.texts.specs.At.{Opens};
 
 // How many bytes something takes; or a refusal's number and place.
 pub enum Extent {
@@ -216,10 +218,10 @@ fn four(a: u8, b: u8, c: u8, d: u8) -> u64
     ((wire::wide(d) * 256 + wire::wide(c)) * 256 + wire::wide(b)) * 256 + wire::wide(a)
 }
 
-// Whether the four bytes from `at` on are ASCII.
+// Whether the four bytes from `at` on are ASCII: the highest bit of each is clear.
 fn four_ascii(message: &[u8], at: usize) -> bool
     requires { ⌜ at + 4 ≤ length (now message) ⌝ }
-    ensures { λ r. ⌜ (r ≡ true → Ascii (now (message .entry)) at 4) ⌝ }
+    ensures { λ r. ⌜ (r ≡ true ↔ Ascii (now (message .entry)) at 4) ⌝ }
 {
     let word = four(
         message[at],
@@ -233,7 +235,7 @@ fn four_ascii(message: &[u8], at: usize) -> bool
 // Whether the eight bytes from `at` on are ASCII.
 fn eight_ascii(message: &[u8], at: usize) -> bool
     requires { ⌜ at + 8 ≤ length (now message) ⌝ }
-    ensures { λ r. ⌜ (r ≡ true → Ascii (now (message .entry)) at 8) ⌝ }
+    ensures { λ r. ⌜ (r ≡ true ↔ Ascii (now (message .entry)) at 8) ⌝ }
 {
     let low = four(
         message[at],
@@ -251,10 +253,47 @@ fn eight_ascii(message: &[u8], at: usize) -> bool
     word & 0x8080_8080_8080_8080 == 0
 }
 
+// Whether the sixteen bytes from `at` on are ASCII.
+fn sixteen_ascii(message: &[u8], at: usize) -> bool
+    requires { ⌜ at + 16 ≤ length (now message) ⌝ }
+    ensures { λ r. ⌜ (r ≡ true ↔ Ascii (now (message .entry)) at 16) ⌝ }
+{
+    if !eight_ascii(message, at) {
+        return false;
+    }
+    eight_ascii(message, at + 8)
+}
+
+// Whether the 32 bytes from `at` on are ASCII: four words.
+fn words_ascii(message: &[u8], at: usize) -> bool
+    requires { ⌜ at + 32 ≤ length (now message) ⌝ }
+    ensures { λ r. ⌜ (r ≡ true ↔ Ascii (now (message .entry)) at 32) ⌝ }
+{
+    if !sixteen_ascii(message, at) {
+        return false;
+    }
+    sixteen_ascii(message, at + 16)
+}
+
+// How many bytes from `at` on are ASCII, four words by four words, up to `most`.
+fn ascii_words(message: &[u8], at: usize, most: usize) -> usize
+    requires { ⌜ at + most ≤ length (now message) ⌝ }
+    ensures { λ r. ⌜ r ≡ asciiAt (now (message .entry)) at most / 32 * 32 ⌝ }
+{
+    let mut n: usize = 0;
+    while 32 <= most - n {
+        if !words_ascii(message, at + n) {
+            break;
+        }
+        n += 32;
+    }
+    n
+}
+
 // How many bytes from `at` on are ASCII, eight by eight, up to `most`.
 fn ascii_eights(message: &[u8], at: usize, most: usize) -> usize
     requires { ⌜ at + most ≤ length (now message) ⌝ }
-    ensures { λ r. ⌜ (r ≤ most) × Ascii (now (message .entry)) at r ⌝ }
+    ensures { λ r. ⌜ r ≡ asciiAt (now (message .entry)) at most / 8 * 8 ⌝ }
 {
     let mut n: usize = 0;
     while 8 <= most - n {
@@ -269,7 +308,7 @@ fn ascii_eights(message: &[u8], at: usize, most: usize) -> usize
 // How many bytes from `at` on are ASCII, up to `most`.
 fn ascii_bytes(message: &[u8], at: usize, most: usize) -> usize
     requires { ⌜ at + most ≤ length (now message) ⌝ }
-    ensures { λ r. ⌜ (r ≤ most) × Ascii (now (message .entry)) at r ⌝ }
+    ensures { λ r. ⌜ r ≡ asciiAt (now (message .entry)) at most ⌝ }
 {
     let mut n = ascii_eights(message, at, most);
     while n < most {
@@ -282,9 +321,8 @@ fn ascii_bytes(message: &[u8], at: usize, most: usize) -> usize
 }
 
 // How many characters from `at` on are ASCII, up to so many units: of one byte and one unit each.
-fn ascii(message: &[u8], at: usize, units: usize) -> usize
-    requires { ⌜ at ≤ length (now message) ⌝ }
-    ensures { λ r. ⌜ (r ≤ units) × (at + r ≤ length (now (message .entry))) × Ascii (now (message .entry)) at r ⌝ }
+pub fn ascii(message: &[u8], at: usize, units: usize) -> usize
+    ensures { λ r. ⌜ r ≡ asciiAt (now (message .entry)) at units ⌝ }
 {
     let len = message.len();
     if len <= at {
@@ -298,13 +336,24 @@ fn ascii(message: &[u8], at: usize, units: usize) -> usize
     ascii_bytes(message, at, most)
 }
 
+// How many characters from `at` on are ASCII, four words by four words, up to so many units: long plain texts begin so.
+fn ascii_start(message: &[u8], at: usize, units: usize) -> usize
+    requires { ⌜ at ≤ length (now message) ⌝ }
+    ensures { λ r. ⌜ r ≡ asciiAt (now (message .entry)) at units / 32 * 32 ⌝ }
+{
+    let room = message.len() - at;
+    let most = if room < units { room } else { units };
+    ascii_words(message, at, most)
+}
+
 // Characters of so many units from `at` on.
 fn characters(message: &[u8], at: usize, units: usize) -> Extent
     requires { ⌜ at ≤ length (now message) ⌝ }
     ensures { λ r. ⌜ toldExtent r ≡ extentAt (charactersOf units) (now (message .entry)) at ⌝ }
 {
-    let mut here = at;
-    let mut left = units;
+    let start = ascii_start(message, at, units);
+    let mut here = at + start;
+    let mut left = units - start;
     while 0 < left {
         let n = ascii(message, here, left);
         if 0 < n {
@@ -466,7 +515,7 @@ fn head(kind: Kind, message: &[u8], at: usize) -> HeadRead
 // Whether the n bytes from `at` on are ASCII. Up to sixteen are told by the first and the last eight or four of them.
 fn short_ascii(message: &[u8], at: usize, n: usize) -> bool
     requires { ⌜ at + n ≤ length (now message) ⌝ }
-    ensures { λ r. ⌜ (r ≡ true → Ascii (now (message .entry)) at n) ⌝ }
+    ensures { λ r. ⌜ (r ≡ true ↔ Ascii (now (message .entry)) at n) ⌝ }
 {
     if 4 <= n {
         if n <= 8 {

@@ -3,32 +3,48 @@ use native.Mathlib.Omega.{arith}
 use borrow.Author.Needs.{needs}
 use Rattle.scalar.specs.Scalars.{characters}
 use Rattle.texts.specs.Answers.{extentAt}
+use Rattle.texts.specs.Ascii.{few-are, inside-are}
 use Rattle.texts.specs.At.{characters-none}
-use Rattle.texts.proofs.Strings.{Along, along-start, along-end, along-fault, along-more, char-says}
-use Rattle.texts.proofs.AsciiRuns.{along-ascii}
+use Rattle.texts.proofs.Strings.{Along, along-end, along-fault, along-more, char-says}
+use Rattle.texts.proofs.AsciiRuns.{along-run, steps-few, along-steps}
 use Rattle.texts.proofs.characters.Statement.{statement}
 use Rattle.texts.proofs.characters.Tie as tie
 
 abbrev Inv-loop : tie.InvT-loop
-Inv-loop message at units here₀ left₀ here left = Along (extentAt (characters units) message at) (extentAt (characters left) message here) message at here
+Inv-loop message at units start here₀ left₀ here left = Along (extentAt (characters units) message at) (extentAt (characters left) message here) message at here
 
 abbrev μ-loop : tie.MeasureT-loop
-μ-loop message at units here₀ left₀ here left = left
+μ-loop message at units start here₀ left₀ here left = left
+
+add-here : tie.Need-add-here Inv-loop μ-loop
+add-here c = omega (arith, steps-few _ _ _ (c .before .before .pre) (c .ascii-start .ensures) .1)
+
+sub-left : tie.Need-sub-left Inv-loop μ-loop
+sub-left c = steps-few _ _ _ (c .before .before .pre) (c .ascii-start .ensures) .0
 
 loop-holds : tie.Need-loop-holds Inv-loop μ-loop
-loop-holds c = along-start _ _ _ (c .before .pre)
+loop-holds c = along-steps _ _ _ (c .before .before .pre) (c .ascii-start .ensures)
+
+add-here-2 : tie.Need-add-here-2 Inv-loop μ-loop
+add-here-2 c = omega (arith, inside-are _ _ _ (c .before .ascii .ensures) (c .before .before .before .loop .inv .inside))
+
+sub-left-2 : tie.Need-sub-left-2 Inv-loop μ-loop
+sub-left-2 c = few-are _ _ _ (c .before .ascii .ensures)
+
+loop-less : tie.Need-loop-less Inv-loop μ-loop
+loop-less c = omega (arith, few-are _ _ _ (c .before .ascii .ensures))
 
 loop-again : tie.Need-loop-again Inv-loop μ-loop
-loop-again c = search (along-ascii, needs)
+loop-again c = along-run _ (c .before .before .before .loop .inv) (c .before .ascii .ensures)
 
 returns : tie.Need-returns Inv-loop μ-loop
 returns c = along-fault (c .before .before .before .before .before .before .before .loop .inv) _ _ (char-says (c .before .before .before .character .ensures) (c .before .number .given .1))
 
-add-here-2 : tie.Need-add-here-2 Inv-loop μ-loop
-add-here-2 c = omega (arith, char-says (c .before .before .before .character .ensures) (c .before .size .given .1) .2)
+add-here-3 : tie.Need-add-here-3 Inv-loop μ-loop
+add-here-3 c = omega (arith, char-says (c .before .before .before .character .ensures) (c .before .size .given .1) .2)
 
-sub-left-2 : tie.Need-sub-left-2 Inv-loop μ-loop
-sub-left-2 c = char-says (c .before .before .before .character .ensures) (c .before .size .given .1) .4
+sub-left-3 : tie.Need-sub-left-3 Inv-loop μ-loop
+sub-left-3 c = char-says (c .before .before .before .character .ensures) (c .before .size .given .1) .4
 
 loop-less-2 : tie.Need-loop-less-2 Inv-loop μ-loop
 loop-less-2 c = let s = char-says (c .before .before .before .character .ensures) (c .before .size .given .1) in omega (arith, s .3, s .4)
@@ -45,18 +61,21 @@ characters-spec =
     (tie.spec
     Inv-loop
     μ-loop
+    (λ c κs. search needs)
+    add-here
+    sub-left
     loop-holds
     (λ c κs. search needs)
-    (λ c. search needs)
-    (λ c. search needs)
-    (λ c. search needs)
+    add-here-2
+    sub-left-2
+    loop-less
     loop-again
     (λ c κs. search needs)
     (λ c. search needs)
     returns
     (λ c. search needs)
-    add-here-2
-    sub-left-2
+    add-here-3
+    sub-left-3
     loop-less-2
     loop-again-2
     (λ c. search needs)

@@ -1,13 +1,13 @@
 -- All the bytes that are counted are ASCII.
-use Rattle.texts.proofs.AsciiRuns.{ascii-fewer}
 use borrow.Author.Tests.{not-false}
 use native.Mathlib.Omega.{arith}
 use borrow.Author.Needs.{needs}
+use Rattle.texts.specs.Ascii.{ascii-part}
 use Rattle.texts.proofs.short_text.Statement.{statement}
 use Rattle.texts.proofs.short_text.Tie as tie
 
 returns-5 : tie.Need-returns-5
-returns-5 c = λ z. (omega arith, omega arith, omega arith, ascii-fewer _ _ _ _ (omega arith) (c .before .short-ascii .ensures (not-false _ (c .if4 .left))))
+returns-5 c = λ z. (omega arith, omega arith, omega arith, ascii-part _ _ _ 0 _ _ (omega arith) (omega arith) (c .before .short-ascii .ensures .0 (not-false _ (c .if4 .left))))
 
 pub short-text-spec : {M : Type 1} → statement M
 short-text-spec =
