@@ -273,6 +273,40 @@ static unsigned units_of(uint8_t lead)
     return lead < 0xf0 ? 1 : 2;
 }
 
+/* The code point of the character at p, of four bytes. */
+static uint32_t code_of(const uint8_t *p)
+{
+    return ((p[0] % 8u * 64 + p[1] % 64) * 64 + p[2] % 64) * 64 + p[3] % 64;
+}
+
+/* Puts the four bytes of the character whose halves are at p. */
+static void join_halves(const uint8_t *p, uint8_t *four)
+{
+    uint32_t high = p[1] % 16u * 64 + p[2] % 64, low = p[4] % 16u * 64 + p[5] % 64, code = 0x10000 + high * 1024 + low;
+
+    four[0] = (uint8_t)(0xf0 + code / (64 * 64 * 64));
+    four[1] = (uint8_t)(0x80 + code / (64 * 64) % 64);
+    four[2] = (uint8_t)(0x80 + code / 64 % 64);
+    four[3] = (uint8_t)(0x80 + code % 64);
+}
+
+/* Copies the bytes of a chunk, in a text each pair of halves as its character; the size of the content. */
+static size_t copy_content(const uint8_t *p, size_t bytes, bool text, uint8_t *content)
+{
+    size_t size = 0, i = 0;
+
+    while (i < bytes) {
+        if (text && p[i] == 0xed && p[i + 1] >= 0xa0) {
+            join_halves(p + i, content + size);
+            size += 4;
+            i += 6;
+        } else {
+            content[size++] = p[i++];
+        }
+    }
+    return size;
+}
+
 /* Joins the chunks of the text or bytes at p; the size of the content. */
 static size_t join(const uint8_t *p, bool text, uint8_t *content)
 {
@@ -291,13 +325,13 @@ static size_t join(const uint8_t *p, bool text, uint8_t *content)
             units = p[0] * 256u + p[1];
             p += 2;
         }
+        /* half of a pair is as wide as a character of one unit with this first byte */
         bytes = text ? 0 : units;
         while (text && units > 0) {
             units -= units_of(p[bytes]);
             bytes += width_of(p[bytes]);
         }
-        memcpy(content + size, p, bytes);
-        size += bytes;
+        size += copy_content(p, bytes, text, content + size);
         p += bytes;
     } while (!last);
     return size;
@@ -566,6 +600,21 @@ static size_t span(const uint8_t *p, bool text, size_t characters, size_t *units
     return bytes;
 }
 
+/* Content of a chunk. A character of two units may stand as a pair of halves. */
+static void spell_content(struct maker *m, const uint8_t *p, size_t bytes, bool text)
+{
+    size_t i = 0;
+
+    while (i < bytes) {
+        if (text && units_of(p[i]) == 2 && pick(2) == 1) {
+            put_pair(m, code_of(p + i));
+            i += 4;
+        } else {
+            put(m, p[i++]);
+        }
+    }
+}
+
 /* The text or bytes of the next row, in chunks; those that are not the last have a character. */
 static void spell_string(struct speller *s, bool text)
 {
@@ -586,8 +635,7 @@ static void spell_string(struct speller *s, bool text)
             put(s->m, text ? 0x52 : 0x41);
             put_number(s->m, units, 2);
         }
-        for (i = 0; i < bytes; i++)
-            put(s->m, content[at + i]);
+        spell_content(s->m, content + at, bytes, text);
         if (last)
             return;
         at += bytes;
@@ -745,6 +793,10 @@ static void check_spellings(void)
         " 0161",
         " 05 61c3a9 e282ac f09f9880",
         " 06 616263646566",
+        " 02 eda0bdedb880",
+        " 05 eda080edb080 61 edafbfedbfbf",
+        " 43 02 eda0bdedb880 91 02 eda0bdedb881 60 4e",
+        " 70 02 eda0bdedb880",
         " 20",
         " 23 010203",
         " 26 000102030405",

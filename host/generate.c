@@ -113,7 +113,21 @@ static void put_double(struct maker *m)
     }
 }
 
-/* Puts the UTF-8 of a random character that is at most `units` units wide; its units. */
+/* The three bytes of a character, or of half a pair, of 16 bits. */
+static void put_three(struct maker *m, uint32_t c)
+{
+    put(m, 0xe0 | c >> 12);
+    put(m, 0x80 | (c >> 6 & 0x3f));
+    put(m, 0x80 | (c & 0x3f));
+}
+
+void put_pair(struct maker *m, uint32_t c)
+{
+    put_three(m, 0xd800 + ((c - 0x10000) >> 10));
+    put_three(m, 0xdc00 + (c & 0x3ff));
+}
+
+/* Puts a random character that is at most `units` units wide: in UTF-8, or as a pair of halves; its units. */
 static unsigned put_character(struct maker *m, unsigned units)
 {
     static const uint32_t edges[] = {0x0, 0x7f, 0x80, 0x7ff, 0x800, 0xfff, 0x1000, 0xcfff, 0xd000, 0xd7ff, 0xe000,
@@ -122,6 +136,8 @@ static unsigned put_character(struct maker *m, unsigned units)
 
     if (chance(3) == 0)
         c = edges[chance(sizeof edges / sizeof edges[0])];
+    if (chance(30) == 0)
+        c = 0x10000 + chance(0x100000);
     if (c >= 0x10000 && units < 2)
         c = 0x20ac;
     if (c < 0x80) {
@@ -130,17 +146,42 @@ static unsigned put_character(struct maker *m, unsigned units)
         put(m, 0xc0 | c >> 6);
         put(m, 0x80 | (c & 0x3f));
     } else if (c < 0x10000) {
-        put(m, 0xe0 | c >> 12);
-        put(m, 0x80 | (c >> 6 & 0x3f));
-        put(m, 0x80 | (c & 0x3f));
+        put_three(m, c);
+    } else if (chance(2) == 0) {
+        put_pair(m, c);
     } else {
         put(m, 0xf0 | c >> 18);
         put(m, 0x80 | (c >> 12 & 0x3f));
         put(m, 0x80 | (c >> 6 & 0x3f));
         put(m, 0x80 | (c & 0x3f));
-        return 2;
     }
-    return 1;
+    return c < 0x10000 ? 1 : 2;
+}
+
+/*
+ * A text of two halves, which is refused as a rule: they are of one kind, in the wrong order or in two chunks, there is
+ * one unit for both, or bytes of them are wrong or missing.
+ */
+static void put_halves(struct maker *m)
+{
+    uint32_t high = 0xd800 + chance(0x400), low = 0xdc00 + chance(0x400);
+    bool parted = chance(4) == 0;
+
+    put_number(m, parted ? 0x520001 : 1 + chance(3), parted ? 3 : 1);
+    put_three(m, chance(6) ? high : low);
+    if (parted)
+        put(m, 0x01);
+    put_three(m, chance(6) ? low : high);
+    switch (chance(4)) {
+    case 0:
+        m->out[m->len - 1 - chance(6)] ^= (uint8_t)(1u << chance(8));
+        break;
+    case 1:
+        m->len -= chance(6);
+        break;
+    default:
+        break;
+    }
 }
 
 /* A random text or byte string, in chunks. */
@@ -148,6 +189,10 @@ static void put_string(struct maker *m, bool text)
 {
     bool last;
 
+    if (text && chance(400) == 0) {
+        put_halves(m);
+        return;
+    }
     do {
         unsigned n = chance(8), form = chance(3);
 

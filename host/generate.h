@@ -36,7 +36,10 @@ void start_message(struct maker *m, unsigned values);
 void put(struct maker *m, unsigned byte);
 void put_number(struct maker *m, uint64_t number, unsigned size);
 
-/* A random message without damage, but for what does not fit or passes a ceiling. */
+/* A character beyond the 16-bit range as a pair of halves, in six bytes. */
+void put_pair(struct maker *m, uint32_t c);
+
+/* A random message without damage, but for what does not fit or passes a ceiling, and for halves that are no pair. */
 void put_random(struct maker *m);
 
 /* Changes, inserts or removes bytes. */

@@ -60,6 +60,12 @@ def parted_text(*parts):
         b"\x53" + struct.pack(">H", units(parts[-1])) + parts[-1].encode()
 
 
+def halved(s):
+    """A short text as Java libraries spell it, where each half of a pair has three bytes."""
+    sixteen = struct.unpack(f">{units(s)}H", s.encode("utf-16-be"))
+    return bytes([len(sixteen)]) + b"".join(chr(n).encode("utf-8", "surrogatepass") for n in sixteen)
+
+
 def binary(b):
     if len(b) < 16:
         return bytes([0x20 + len(b)]) + b
@@ -74,7 +80,7 @@ def parted_binary(size, b):
     return b"".join(b"\x41" + struct.pack(">H", len(p)) + p for p in parts[:-1]) + binary(parts[-1])
 
 
-def class_(name, *fields):
+def class_(name, *fields, text=text):
     return b"\x43" + text(name) + int_(len(fields)) + b"".join(map(text, fields))
 
 
@@ -130,6 +136,13 @@ OTHER_BLOCKS = BLOCKS[:2] + [samples(9)] + BLOCKS[3:]
 MARK = class_("drive.Mark", "lane", "at", "sweep")
 DRIVE = class_("drive.Drive", "name", "marks", "next")
 
+
+def signs(text):
+    """Characters beyond the 16-bit range in the name of a class, of a field and of a type, and in values."""
+    return class_("drive.🚦", "🚗", "lanes", text=text) + b"\x60" + text("at the 🚦, 🚗 waits") + \
+        b"\x72" + text("[🛣") + text("🚗") + text("𝄞")
+
+
 RECORDS = {
     # 01's example of a class and an object, and the same record in a wider spelling
     "car.rec": class_("Car", "color") + b"\x60" + text("red"),
@@ -157,13 +170,18 @@ RECORDS = {
     # characters of one to four bytes, characters that are not to be seen, a text in chunks, an empty one
     "texts.rec": open_list(text(""), text("Grüße, 東京 🚗"), text('"quoted" \\ tab\t line\n bell\x07 mark\u202e'),
                            parted_text("one text ", "in ", "three parts"), binary(b""), binary(bytes(range(80)))),
+    # characters beyond the 16-bit range in four bytes; and the same record with each of them as a pair of halves
+    "pairs.rec": signs(text),
+    "pairs_java.rec": signs(halved),
     # 50,000 plain characters, in lines of a logbook
     "plain.rec": text(plain(50000)),
     # 60 elements: their count is spelled out here, and the open form is a byte shorter
     "long_list.rec": counted_list(*(int_(n * n) for n in range(60))),
-    # what is no record: a reserved byte, a character that is not UTF-8, a second record, a reference to nothing, nothing
+    # what is no record: a reserved byte, a character that is not UTF-8, a half alone, a second record, a reference to
+    # nothing, nothing
     "bad_byte.rec": open_list(int_(1), text("two"), b"\x40", int_(4)),
     "bad_text.rec": open_list(text("fine"), b"\x03a\xffb"),
+    "bad_half.rec": open_list(halved("fine 🚗"), b"\x03a\xed\xa0\xbdb"),
     "bad_after.rec": int_(1) + int_(2),
     "bad_reference.rec": b"\x79" + reference(1),
     "bad_empty.rec": b"",

@@ -28,7 +28,7 @@ enum hessian_refusal {
     HESSIAN_LENGTH = 1,    /* the message is empty or too long; writer: the source or the shortest message is */
     HESSIAN_CUT = 2,       /* the message ends where a byte is needed; place: its length */
     HESSIAN_BYTE = 3,      /* a byte cannot stand here */
-    HESSIAN_UTF8 = 4,      /* a character is not well-formed UTF-8, or has no room in its chunk; place: its first byte */
+    HESSIAN_UTF8 = 4,      /* a character is not UTF-8, is half a pair, or finds no room; place: its first byte */
     HESSIAN_NEGATIVE = 5,  /* a list or field count is negative */
     HESSIAN_UNGIVEN = 6,   /* no such class, type or reference number is given yet */
     HESSIAN_CEILING = 7,   /* more than 32 containers open, or 256 classes, types, or fields of one class */
@@ -37,7 +37,13 @@ enum hessian_refusal {
     HESSIAN_NO_RECORD = 10 /* writer: the rows are no record */
 };
 
-/* The kinds of rows, with their first and second numbers; one that is not named is 0. */
+/*
+ * The kinds of rows, with their first and second numbers; one that is not named is 0.
+ *
+ * Texts and names are UTF-8. In a message, a character beyond the 16-bit range may also stand as a pair of halves, each
+ * in three bytes, as Java libraries write it: ed a0..af 80..bf, and next to it, in the same chunk, ed b0..bf 80..bf. It
+ * is read as the character: a row counts two units and its four bytes of UTF-8, and hessian_write writes these four.
+ */
 enum hessian_kind {
     HESSIAN_NULL = 0,
     HESSIAN_FALSE = 1,

@@ -9,8 +9,9 @@ the call; and `ok`, where the numbers past the accepted rows, or after a refusal
 the call number i of the table is 0xb1a0000000000000 + i. The checksum starts at 7, and the high and then the low 32
 bits of each number of the table, h, take it from s to s * 1000003 + h, modulo 2^31 - 1.
 
-The reader below is written from 01 and docs/DECISIONS.md, and shares nothing with the code that is tested. UTF-8 is
-Python's own. Most cases are given with their answers, and each random message is made together with its rows.
+The reader below is written from 01, 2026-04 and docs/DECISIONS.md, and shares nothing with the code that is tested.
+UTF-8 and UTF-16 are Python's own. Most cases are given with their answers, and each random message is made together
+with its rows.
 """
 import functools
 import math
@@ -101,14 +102,22 @@ COLLECTIONS.update({0x78 + n: (9, False, 1, n) for n in range(8)})
 OBJECTS = {0x4F, *range(0x60, 0x70)}
 
 # ---- UTF-8
-# what some character begins with and is longer than: 64 characters at a time differ in the last byte only
-CHARACTERS = [chr(c).encode() for c in range(0x80, 0x110000, 64) if not 0xD800 <= c <= 0xDFFF]
-BEGINNINGS = {c[:n] for c in CHARACTERS for n in range(1, len(c))}
-PLAIN = re.compile(rb"[\x00-\x7f]*")
-
-
 def units_of(text):
     return len(text.encode("utf-16-le")) // 2
+
+
+def halves(text):
+    """The text with each character beyond the 16-bit range as a pair of halves in six bytes, as 2026-04 has it."""
+    units = text.encode("utf-16-be")
+    numbers = (int.from_bytes(units[i : i + 2], "big") for i in range(0, len(units), 2))
+    return b"".join(chr(n).encode("utf-8", "surrogatepass") for n in numbers)
+
+
+# what some character begins with and is longer than: 64 characters at a time differ in the last byte only
+CHARACTERS = [chr(c) for c in range(0x80, 0x110000, 64) if not 0xD800 <= c <= 0xDFFF]
+SPELLED = [c.encode() for c in CHARACTERS] + [halves(c) for c in CHARACTERS]
+BEGINNINGS = {c[:n] for c in SPELLED for n in range(1, len(c))}
+PLAIN = re.compile(rb"[\x00-\x7f]*")
 
 
 # ---- reading
@@ -150,23 +159,35 @@ def integer(m):
     return number(m, INTS)[2]
 
 
+def two_units(piece):
+    """Whether these bytes begin a character of two units: the first byte tells, or of a pair of halves the second."""
+    return 0xF0 <= piece[0] <= 0xF4 or piece[0] == 0xED and piece[1:2] >= b"\xa0"
+
+
 def characters(m, units):
-    """Takes characters of so many units."""
+    """Takes characters of so many units; their bytes in UTF-8."""
+    size = 0
     while units:
-        plain = PLAIN.match(m.data, m.at, m.at + units).end() - m.at
-        m.take(plain)
-        units -= plain
+        plain = len(m.take(PLAIN.match(m.data, m.at, m.at + units).end() - m.at))
+        units, size = units - plain, size + plain
         if not units:
-            return
+            break
         place, piece = m.at, m.take(1)
-        if 0xF0 <= piece[0] <= 0xF4 and units == 1:
-            raise Refused(4, place)
-        while piece in BEGINNINGS:
+        while piece in BEGINNINGS and not (two_units(piece) and units == 1):
             piece += m.take(1)
         try:
-            units -= units_of(piece.decode())
+            # a half is a character of its own, until UTF-16 joins it to the other one
+            sixteen = piece.decode("utf-8", "surrogatepass").encode("utf-16-be", "surrogatepass")
+            character = sixteen.decode("utf-16-be")
         except UnicodeDecodeError:
             raise Refused(4, place) from None
+        units, size = units - units_of(character), size + len(character.encode())
+    return size
+
+
+def octets(m, n):
+    """Takes so many bytes."""
+    return len(m.take(n))
 
 
 def string(m, chart, content):
@@ -176,9 +197,7 @@ def string(m, chart, content):
     while not last:
         code, (first, more, last) = m.due(chart)
         n = int.from_bytes(bytes([code - first]) + m.take(more), "big")
-        start = m.at
-        content(m, n)
-        units, size = units + n, size + m.at - start
+        units, size = units + n, size + content(m, n)
     return units, size
 
 
@@ -272,7 +291,7 @@ def value(m, allowance):
     if code in TEXT:
         return rows + [text(m, 7)]
     if code in BYTES:
-        return rows + [(8, place, string(m, BYTES, Message.take)[0], 0)]
+        return rows + [(8, place, string(m, BYTES, octets)[0], 0)]
     if code == 0x51:
         m.take(1)
         n = integer(m)
@@ -559,8 +578,6 @@ accepted("52 0001 'a' 52 0000 31 01" + "62" * 257, (7, 0, 258, 258))
 refused("52 0000 20", 3, 3)
 refused("41 0000 00", 3, 3)
 accepted("05 00 efbfbe efbfbf efb790 7f", (7, 0, 5, 11))
-refused("01 eda080", 4, 1)
-refused("02 eda0bd edb880", 4, 1)
 accepted("52 0002 61c3a9 02 f09f9880", (7, 0, 4, 7))
 refused("52 0001 f09f 01 9880", 4, 3)
 refused("52 0002 f09f 01 9880", 4, 3)
@@ -600,6 +617,7 @@ for n in (0, 1, 15, 16, 31, 32, 255, 256, 1023, 1024):
     accepted(text_of("\u20ac" * n), (7, 0, n, 3 * n))
     accepted(raw("52 0001 'x'") + text_of("\u00e9" * n), (7, 0, n + 1, 2 * n + 1))
     accepted(text_of(SMILE * (n // 2) + "y" * (n % 2)), (7, 0, n, 4 * (n // 2) + n % 2))
+    accepted(text_heads(n)[0] + halves(SMILE * (n // 2) + "y" * (n % 2)), (7, 0, n, 4 * (n // 2) + n % 2))
 EDGES = [0x00, 0x7F, 0x80, 0x7FF, 0x800, 0xFFF, 0x1000, 0xCFFF, 0xD000, 0xD7FF, 0xE000, 0xFFFF]
 EDGES += [0x10000, 0x3FFFF, 0x40000, 0xFFFFF, 0x100000, 0x10FFFF]
 for c in EDGES:
@@ -607,14 +625,46 @@ for c in EDGES:
     accepted(b"\x7a" + text_of("a" + chr(c) + "z") + b"\x90")
     for size in range(1, len(chr(c).encode())):
         refused(b"\x79\x02" + chr(c).encode()[:size], 2, 2 + size)
-BROKEN = "80 | bf | c0 80 | c1 bf | c2 00 | c2 c0 | df 7f | e0 9f bf | e1 80 00 | e1 7f 80 | ed a0 80 | ed bf bf"
+BROKEN = "80 | bf | c0 80 | c1 bf | c2 00 | c2 c0 | df 7f | e0 9f bf | e1 80 00 | e1 7f 80"
 BROKEN += "| ef bf c0 | f0 8f bf bf | f0 90 00 80 | f0 90 80 00 | f1 7f 80 80 | f4 90 80 80 | f4 8f bf c0 | f5 80 80 80"
+# halves that are no pair: a high one, a low one, two high ones, the wrong order, a fault inside the second
+BROKEN += "| ed a0 80 41 | ed bf bf | ed a0 80 ed a0 80 | ed b0 80 ed a0 80 | ed a0 80 ed b0 41"
 for broken in each(BROKEN + "| fe | ff"):
     refused(b"\x02" + broken, 4, 1)
     refused(b"\x7a\x90\x04a" + broken + b"b", 4, 4)
     refused(raw("70 52 0001 'a' 02") + broken, 4, 6)
     refused(b"\x43\x02" + broken, 4, 2)
     refused(raw("43 00 91 02") + broken, 4, 4)
+
+# ---- 2026-04: pairs of halves. The first is what a Java library writes for U+1F600, written down by hand
+accepted("02 eda0bdedb880", (7, 0, 2, 4))
+accepted("52 0003 'a' eda0bdedb880 03 f09f9880 'z'", (7, 0, 6, 10))
+accepted("26 eda0bdedb880", (8, 0, 6, 0))
+NAMED = (15, 0, 1, 0), (16, 1, 2, 4), (17, 9, 2, 4), (13, 16, 0, 1), (7, 17, 2, 4)
+accepted("43 02 eda0bdedb880 91 02 edafbfedbfbf 60 02 eda080edb080", *NAMED)
+accepted("71 02 eda0bdedb880 90", (10, 0, 1, 0), (18, 1, 2, 4), (3, 8, 0, 0))
+accepted("4d 02 eda0bdedb880 90 91 5a", (12, 0, 1, 0), (18, 1, 2, 4), (3, 8, 0, 0), (3, 9, 1, 0))
+# with one unit left, and with the end before the low half is complete
+LONE = {"01 ed": (2, 2), "01 eda0": (4, 1), "01 eda080": (4, 1), "01 eda080edb080": (4, 1), "01 edb0": (4, 1)}
+LONE.update({"02 ed": (2, 2), "02 eda0": (2, 3), "02 eda080": (2, 4), "02 eda080ed": (2, 5), "02 eda080edb0": (2, 6)})
+# another byte follows; a low half; not in the same chunk
+LONE.update({"02 eda041": (4, 1), "02 eda08041": (4, 1), "02 eda08080": (4, 1), "02 eda080ff": (4, 1)})
+LONE.update({"02 eda080ed9f": (4, 1), "02 eda080eda0": (4, 1), "02 eda080edb041": (4, 1), "02 eda080f09f9880": (4, 1)})
+LONE.update({"01 edb080": (4, 1), "02 edb080eda080": (4, 1), "02 edb080edb080": (4, 1), "02 eda080eda080": (4, 1)})
+LONE.update({"03 eda080edb080edb080": (4, 7), "03 eda080edb080eda0": (4, 7), "02 'a' eda080edb080": (4, 2)})
+LONE.update({"52 0001 eda080 01 edb080": (4, 3), "52 0002 'a' eda080 01 edb080": (4, 4), "52 0001 eda0": (4, 3)})
+for message, fault in LONE.items():
+    refused(message, *fault)
+    for before in each("7a 90 | 43 | 43 00 91 | 70"):
+        refused(before + raw(message), fault[0], len(before) + fault[1])
+for c in map(chr, EDGES):
+    if c > "\uffff":
+        accepted(b"\x04a" + halves(c) + b"z", (7, 0, 4, 6))
+        for size in range(1, 6):
+            refused(b"\x79\x02" + halves(c)[:size], 2, 2 + size)
+accepted(raw("52 fffe") + b"a" * 65534 + raw("02 eda0bdedb880"), (7, 0, 65536, 65538))
+accepted(raw("52 fffe") + halves(SMILE) * 32767 + raw("02 eda0bdedb880"), (7, 0, 65536, 131072))
+refused(raw("52 ffff") + halves(SMILE) * 32767 + raw("eda0bdedb880 00"), 4, 3 + 6 * 32767)
 
 # ---- lists, maps and objects: each form, with few and many elements, types spelled out and by number
 SOME = each("90 | 4e | 01 'a' | e1 | 54 | 21 00 | 5c | 78")
@@ -732,8 +782,8 @@ refused(raw("56 00 49 7fffffff") + b"\x90" * 100, 2, 107)
 # ---- cut at each byte
 TOUR = """57 4e 46 54 91 c930 d50000 49 00040000 e1 f900 3d0000 59 00040000 4c 0001020304050607
     4a 0001020304050607 4b 00010203 5b 5c 5d 7f 5e 0100 5f 41440000 44 4028800000000000 01 'a' 30 02 c3a9 e282ac
-    52 0002 f09f9880 53 0001 'b' 21 ff 34 01 fe 41 0001 fd 42 0001 fc 58 91 90 79 91 55 01 't' 92 5a 56 90 91 93
-    71 90 94 48 95 96 5a 4d 90 97 98 5a 43 01 'C' 91 01 'f' 60 99 4f 90 9a 51 90 5a"""
+    52 0002 f09f9880 53 0001 'b' 02 eda0bdedb880 21 ff 34 01 fe 41 0001 fd 42 0001 fc 58 91 90 79 91
+    55 01 't' 92 5a 56 90 91 93 71 90 94 48 95 96 5a 4d 90 97 98 5a 43 01 'C' 91 01 'f' 60 99 4f 90 9a 51 90 5a"""
 for message in map(raw, (TOUR, BEETLE, COLORS, LINKED, "52 0007 'hello, ' 05 'world'")):
     accepted(message)
     for size in range(1, len(message)):
@@ -832,6 +882,9 @@ def chunked(size, part, last):
 
 accepted(chunked(MOST_BYTES, 0x52, 0x53), (7, 0, MOST_BYTES - 12, MOST_BYTES - 12))
 accepted(chunked(MOST_BYTES, 0x41, 0x42), (8, 0, MOST_BYTES - 12, 0))
+PAIRS = raw("52 fffe") + halves(SMILE) * 32767 + raw("53 5558 'abcd'") + halves(SMILE) * 10922
+assert len(PAIRS) == MOST_BYTES
+accepted(PAIRS, (7, 0, 65534 + 0x5558, 4 + 4 * (32767 + 10922)))
 accepted(b"\x57" + (b"\x53\x80\x00" + b"a" * 32768) * 7 + chunked(MOST_BYTES - 2 - 7 * 32771, 0x52, 0x53) + b"\x5a")
 accepted(b"\x57" + b"\x90" * (MOST_BYTES - 2) + b"\x5a")
 accepted(b"\x57" + b"\x78" * (MOST_BYTES - 8) + b"\x51" + int_forms(MOST_BYTES - 8)[-1] + b"\x5a")
@@ -927,12 +980,12 @@ class Maker:
         while more:
             if part == 0x52:
                 piece = "".join(choice((chr(0x61 + chance(26)), chr(choice(EDGES)))) for _ in range(chance(6)))
-                n, content = units_of(piece), piece.encode()
+                n, content, spelled = units_of(piece), piece.encode(), choice((str.encode, halves))(piece)
             else:
-                content = bytes(chance(256) for _ in range(chance(6)))
+                content = spelled = bytes(chance(256) for _ in range(chance(6)))
                 n = len(content)
             more = chance(4) == 0
-            self.data += (bytes([part, 0, n]) if more else choice(heads(n))) + content
+            self.data += (bytes([part, 0, n]) if more else choice(heads(n))) + spelled
             units, size = units + n, size + len(content)
         return units, size
 

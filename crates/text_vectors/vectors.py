@@ -3,12 +3,15 @@
 `python3 vectors.py N K` writes each N-th of the short cases, from the K-th on: the interpreter of `rt try` stops after so many
 steps, which are too few for all, and enough for each part of six.
 
-Nothing here goes the way of the code. UTF-8 is Python's own decoder's, held to Unicode's table of byte sequences, and units are
-counted in UTF-16. The shortest form cuts UTF-16 units, and is held to the least length that any cut into chunks has. The shapes
-of stdin's and stdout's lines are described in src/main.rt.
+Nothing here goes the way of the code. UTF-8 is Python's own decoder's, once pairs of halves are put in four bytes,
+held to Unicode's table of byte sequences with a row for these pairs. Units are counted in UTF-16. The shortest form
+cuts UTF-16 units, and is held to the least length that any cut into chunks has. The shapes of stdin's and stdout's
+lines are described in src/main.rt.
 """
+import bisect
 import collections
 import os
+import re
 import sys
 
 LONGEST = 65535
@@ -52,7 +55,29 @@ TABLE = [
     [(0xF0, 0xF0), (0x90, 0xBF), (0x80, 0xBF), (0x80, 0xBF)],
     [(0xF1, 0xF3), (0x80, 0xBF), (0x80, 0xBF), (0x80, 0xBF)],
     [(0xF4, 0xF4), (0x80, 0x8F), (0x80, 0xBF), (0x80, 0xBF)],
+    # 2026-04: a pair of halves in six bytes
+    [(0xED, 0xED), (0xA0, 0xAF), (0x80, 0xBF), (0xED, 0xED), (0xB0, 0xBF), (0x80, 0xBF)],
 ]
+# such a pair, and one that the end of the message cuts; a half is known by its second byte
+HALVES = re.compile(rb"\xed[\xa0-\xaf][\x80-\xbf]\xed[\xb0-\xbf][\x80-\xbf]")
+CUT_HALVES = re.compile(rb"\xed[\xa0-\xaf]([\x80-\xbf](\xed[\xb0-\xbf]?)?)?\Z")
+
+
+def in_four(data):
+    """The bytes with each pair of halves as the four bytes of its character, by UTF-16."""
+
+    def character(pair):
+        units = pair[0].decode("utf-8", "surrogatepass").encode("utf-16-be", "surrogatepass")
+        return units.decode("utf-16-be").encode()
+
+    return HALVES.sub(character, data)
+
+
+def in_six(content):
+    """The text with each character of two units as a pair of halves."""
+    units = content.decode().encode("utf-16-be")
+    numbers = (int.from_bytes(units[i : i + 2], "big") for i in range(0, len(units), 2))
+    return b"".join(chr(n).encode("utf-8", "surrogatepass") for n in numbers)
 
 
 def begins(row, piece):
@@ -69,35 +94,42 @@ def by_table(message, at, units):
         if not rows:
             return 4, here
         size = len(rows[0])
-        if size == 4 and units == 1:
+        # two units for one that is left: known by the first byte of four, by the second of six
+        if units == 1 and (size == 4 or size == 6 and len(message) - here > 1):
             return 4, here
         if len(message) - here < size:
             return 2, len(message)
         here += size
-        units -= 2 if size == 4 else 1
+        units -= 2 if size >= 4 else 1
     return here - at
 
 
 def by_decoder(message, at, units):
-    """The same, by Python's decoder."""
+    """The same, by Python's decoder: with each pair of halves in four bytes, and a cut one as a first byte of four."""
+    starts = [pair.start() - at - 2 * i for i, pair in enumerate(HALVES.finditer(message, at))]
+
+    def place(size):
+        """The place in the message behind so many bytes of `rest`."""
+        return at + size + 2 * bisect.bisect_left(starts, size)
+
     # no more than these units can take, and a character behind them
-    rest = message[at : at + 3 * units + 4]
+    rest = CUT_HALVES.sub(b"\xf0", in_four(message[at:]))[: 3 * units + 4]
     try:
         text, stop, fault = rest.decode(), len(rest), (2, len(message))
     except UnicodeDecodeError as e:
         text, stop = rest[: e.start].decode(), e.start
-        fault = (2, len(message)) if e.reason == "unexpected end of data" else (4, at + stop)
+        fault = (2, len(message)) if e.reason == "unexpected end of data" else (4, place(stop))
     left = units
     for i, c in enumerate(text):
         if not left:
-            return len(text[:i].encode())
+            return place(len(text[:i].encode())) - at
         if c > "\uffff" and left == 1:
-            return 4, at + len(text[:i].encode())
+            return 4, place(len(text[:i].encode()))
         left -= 2 if c > "\uffff" else 1
     if not left:
-        return stop
+        return place(stop) - at
     if left == 1 and stop < len(rest) and 0xF0 <= rest[stop] <= 0xF4:
-        return 4, at + stop
+        return 4, place(stop)
     return fault
 
 
@@ -129,7 +161,7 @@ def read(kind, message, at):
         size = body(kind, message, here, n)
         if isinstance(size, tuple):
             return "refused", size[0], size[1]
-        content += message[here : here + size]
+        content += in_four(message[here : here + size]) if kind == "u" else message[here : here + size]
         here += size
         if forms[0] != PART:
             return "content", content, here - at
@@ -182,12 +214,12 @@ def pieces(kind, content):
     return found + [rest.decode("utf-16-le").encode()]
 
 
-def joined(kind, parts, form=None):
-    """A string of these chunks; the last with its shortest head, or one of this form."""
+def joined(kind, parts, form=None, spell=bytes):
+    """A string of these chunks; the last with its shortest head, or one of this form; the contents so spelled."""
     counts = [units_of(kind, part) for part in parts]
     form = last_form(kind, counts[-1]) if form is None else form
     forms = [PART] * (len(parts) - 1) + [form]
-    return b"".join(head(kind, f, n) + part for f, n, part in zip(forms, counts, parts))
+    return b"".join(head(kind, f, n) + spell(part) for f, n, part in zip(forms, counts, parts))
 
 
 def shortest(kind, content):
@@ -341,6 +373,40 @@ for broken in ("f0 80 80 80", "f0 8f bf bf", "f4 90 80 80", "f5 80 80 80", "f7 b
     refused("u", "02" + broken, 4, 1)
     refused("u", "02" + "41" + broken, 4, 2)
 
+# ---- 2026-04: pairs of halves. The first is what a Java library writes for U+1F600, written down by hand
+whole("u", "02 eda0bdedb880", SMILE, "02 f09f9880")
+whole("u", "52 0003 41eda0bdedb880 03 f09f98807a", b"A" + SMILE * 2 + b"z", "06 41f09f9880f09f98807a")
+whole("b", "26 eda0bdedb880", bytes.fromhex("eda0bdedb880"), "26 eda0bdedb880")
+# one unit is left
+for text, number, place in (("ed", 2, 2), ("eda0", 4, 1), ("eda080", 4, 1), ("eda080edb080", 4, 1), ("edb0", 4, 1)):
+    refused("u", "01" + text, number, place)
+# the message ends before the low half does
+for text, place in (("ed", 2), ("eda0", 3), ("eda080", 4), ("eda080ed", 5), ("eda080edb0", 6)):
+    refused("u", "02" + text, 2, place)
+# another byte follows than those of a low half
+for text in ("a041", "a08041", "a08080", "a080ff", "a080ed9f", "a080eda0", "a080edc0", "a080edb041", "a080f09f9880"):
+    refused("u", "02 ed" + text, 4, 1)
+    refused("u", "04 41 ed" + text + "42", 4, 2)
+# a low half first, or behind a pair
+for text, place in (("edb080eda080", 1), ("edb0", 1), ("eda080edb080edb080", 7), ("eda080edb080eda08041", 7)):
+    refused("u", "04" + text, 4, place)
+# not in the same chunk
+for chunks, place in (("0001 eda080 01 edb080", 3), ("0002 41eda080 01 edb080", 4), ("0002 eda080 01 edb080", 3)):
+    refused("u", "52" + chunks, 4, place)
+for chunks, place in (("0002 eda080edb080 01 edb080", 10), ("0000 01 eda080edb080", 4), ("0003 eda080edb080eda0", 9)):
+    refused("u", "52" + chunks, 4, place)
+for code in [code for code in EDGES if code > 0xFFFF] + [0x103FF, 0x10400, 0x1F600, 0xFFC00, 0x10FC00]:
+    c = chr(code).encode()
+    case("u", joined("u", [c], spell=in_six))
+    case("u", joined("u", [b"a" + c, c + b"z"], spell=in_six))
+# each byte on both sides of each bound, and each cut
+for at, near in ((1, "9fa0afb0bfc0"), (2, "7f80bfc0"), (3, "ecedeef0"), (4, "afb0bfc0"), (5, "7f80bfc0")):
+    c = bytes.fromhex("edaf80edbfbf")
+    for b in bytes.fromhex(near):
+        case("u", b"\x02" + c[:at] + bytes([b]) + c[at + 1 :])
+    for units in (1, 2, 3):
+        case("u", bytes([units]) + c[:at])
+
 # each kind of first byte with second, third and fourth bytes on both sides of each bound
 LEADS = [0xC2, 0xDF, 0xE0, 0xE1, 0xEC, 0xED, 0xEE, 0xEF, 0xF0, 0xF1, 0xF3, 0xF4]
 BYTES = [0x00, 0x41, 0x7F, 0x80, 0x8F, 0x90, 0x9F, 0xA0, 0xBF, 0xC0, 0xE0, 0xFF]
@@ -432,6 +498,7 @@ for n in (1022, 1023, 1024, 1025):
 
 # ---- places
 texts = bytes.fromhex("4e 52 0002 61c3a9 52 0000 30 03 f09f988061 90 23 410061")
+halves = bytes.fromhex("03 eda0bdedb88061 52 0002 edafbfedbfbf 00")
 octets = bytes.fromhex("90 41 0003 010203 41 0001 52 34 02 2161 05 42 0001 23 00")
 for message in (texts, octets):
     for kind in "ub":
@@ -439,6 +506,8 @@ for message in (texts, octets):
             case(kind, message, at)
         for at in (255, 256, 65536, 2**31, 2**32 - 1, 2**63, 2**64 - 1):
             case(kind, message, at)
+for at in range(len(halves)):
+    case("u", halves, at)
 for size in range(len(texts)):
     case("u", texts[:size], 1)
 for size in range(len(octets)):
@@ -466,7 +535,8 @@ def some_part(kind):
 for turn in range(160):
     kind = "uuub"[turn // 2 % 4]
     parts = [some_part(kind) for _ in range(1 + chance(4))]
-    message = joined(kind, parts, last_form(kind, units_of(kind, parts[-1])) if turn % 3 else THREE)
+    spell = in_six if kind == "u" and turn % 5 < 2 else bytes
+    message = joined(kind, parts, last_form(kind, units_of(kind, parts[-1])) if turn % 3 else THREE, spell)
     spot = chance(len(message))
     if turn % 2:
         message = message[:spot] + bytes([chance(256)]) + message[spot + chance(2) :]
@@ -513,6 +583,17 @@ for p in (2 * LONGEST - 2, 2 * LONGEST - 1):
     case("u", cut_into("u", b"a" * p + SMILE + b"bc", 50000, 50000))
 for p in (2 * LONGEST - 3, 2 * LONGEST - 2):
     case("u", cut_into("u", b"a" * (LONGEST - 1) + SMILE + b"b" * (p - LONGEST - 1) + SMILE + b"c", 50000, 50000))
+# the same in six bytes, and with one unit left for the high half
+case("u", joined("u", [b"a" * 65534, SMILE], spell=in_six))
+case("u", joined("u", [b"a" * 32768, b"a" * 32766 + SMILE], spell=in_six))
+case("u", joined("u", [b"a" * 65533 + SMILE, b"b" + SMILE], spell=in_six))
+refused("u", "52 ffff" + "61" * 65534 + "eda080 edb080", 4, 65537)
+# nothing but pairs in six bytes: a chunk has 65,534 units; a half that is left alone
+for n in (1, 2, 7000):
+    assert shortest("u", SMILE * (32767 + n)) == head("u", PART, 65534) + SMILE * 32767 + joined("u", [SMILE * n])
+    spelled("u", (b"\x52\xff\xfe", 1), (in_six(SMILE), 32767), (head("u", THREE, 2 * n), 1), (in_six(SMILE), n))
+spelled("u", (head("u", PART, 20000), 1), (in_six(SMILE), 10000), (head("u", THREE, 50000), 1), (in_six(SMILE), 25000))
+spelled("u", (head("u", THREE, LONGEST), 1), (in_six(SMILE), 32767), (b"\xed\xa0\xbd", 1), (b"\xed\xb8\x80", 1))
 # nothing but pairs; characters of two and three bytes
 case("u", cut_into("u", SMILE * 32768, 30000))
 case("u", cut_into("u", b"a" + SMILE * 32767, 30001))

@@ -11,12 +11,13 @@ call; and `ok`, where the output past what was written, or after a refusal the w
 byte i of the output is (i * 7 + 3) % 251. The checksum starts at 7, and each byte b takes it from s to s * 1000003 + b,
 modulo 2^31 - 1.
 
-The writer below is written from 01 and docs/DECISIONS.md, and shares nothing with the code that is tested, nor with the
-reader of record_vectors. That reader is asked what rows a message has, and whether what is written reads back as the same
-record: by then its own answers are checked. UTF-8 and UTF-16 are Python's own.
+The writer below is written from 01, 2026-04 and docs/DECISIONS.md, and shares nothing with the code that is tested, nor
+with the reader of record_vectors. That reader is asked what rows a message has, and whether what is written reads back
+as the same record: by then its own answers are checked. UTF-8 and UTF-16 are Python's own.
 """
 import functools
 import importlib.util
+import itertools
 import os
 import struct
 
@@ -25,6 +26,7 @@ spec = importlib.util.spec_from_file_location("record_vectors", os.path.join(HER
 reader = importlib.util.module_from_spec(spec)
 spec.loader.exec_module(reader)
 raw, each, data_of, chance, choice = reader.raw, reader.each, reader.data_of, reader.chance, reader.choice
+halves = reader.halves
 
 LONGEST = 262144
 DEEPEST = 32
@@ -121,13 +123,28 @@ def bytes_form(content):
 
 # ---- texts and bytes in a source
 def characters(data, units):
-    """The bytes of the characters at the front that are so many units; or None."""
-    # three bytes a unit are enough; a byte that breaks UTF-8 becomes a lone surrogate
-    found = data[: 3 * units].decode("utf-8", "surrogateescape").encode("utf-16-be", "surrogatepass")[: 2 * units]
+    """How many bytes at the front are characters of so many units, and their content in UTF-8; or None."""
+    # three bytes a unit are enough; up to a byte that breaks UTF-8, each half of a pair as a character of its own
+    data = data[: 3 * units]
     try:
-        return found.decode("utf-16-be").encode() if len(found) == 2 * units else None
+        text = data.decode("utf-8", "surrogatepass")
+    except UnicodeDecodeError as e:
+        text = data[: e.start].decode("utf-8", "surrogatepass")
+    ends = list(itertools.accumulate((1 + (c > "\uffff") for c in text), initial=0))
+    if units not in ends:
+        return None
+    text = text[: ends.index(units)]
+    try:
+        # UTF-16 joins the halves of a pair, and has no place for a lone one
+        content = text.encode("utf-16-be", "surrogatepass").decode("utf-16-be").encode()
     except UnicodeDecodeError:
         return None
+    return len(text.encode("utf-8", "surrogatepass")), content
+
+
+def octets(data, size):
+    """The same for so many bytes."""
+    return (size, data[:size]) if len(data) >= size else None
 
 
 @functools.lru_cache(maxsize=4096)
@@ -149,10 +166,10 @@ def string_at(source, place, text):
         if len(length) < more:
             return None
         size = size * 256**more + int.from_bytes(length, "big")
-        piece = characters(source[place : place + 3 * size], size) if text else source[place : place + size]
-        if piece is None or len(piece) < size:
+        found = (characters if text else octets)(source[place : place + 3 * size], size)
+        if found is None:
             return None
-        content, place = content + piece, place + len(piece)
+        content, place = content + found[1], place + found[0]
         if code != part:
             return content, text_form(content) if text else bytes_form(content)
     return None
@@ -544,6 +561,47 @@ for size in (32767, 32768, 40000):
     rewrites(pairs, text_form(SMILE * size))
 shortens(raw("52 ffff") + b"\xe2\x82\xac" * 65535 + raw("53 0800") + b"\xc3\xa9" * 2048)
 assert text_form(SMILE * 32768)[:3] == raw("52 fffe") and text_form(SMILE * 32768)[-5:] == b"\x02" + SMILE
+
+# ---- 2026-04: pairs of halves. The first is what a Java library writes for U+1F600, written down by hand
+writes("02 eda0bdedb880", [(7, 0, 2, 4)], "02 f09f9880")
+none("02 eda0bdedb880", [(7, 0, 2, 6)])
+writes("52 0003 'a' eda0bdedb880 03 f09f9880 'z'", [(7, 0, 6, 10)], "06 'a' f09f9880 f09f9880 'z'")
+for size in (8, 12, 14, 16):
+    none("52 0003 'a' eda0bdedb880 03 f09f9880 'z'", [(7, 0, 6, size)])
+writes("26 eda0bdedb880", [(8, 0, 6, 0)], "26 eda0bdedb880")
+none("26 eda0bdedb880", [(8, 0, 4, 0)])
+# in a class name, a field name and a value, and in a type name: with the length in four bytes, and with that in six
+NAMES = "43 02 eda0bdedb880 91 02 edafbfedbfbf 60 02 eda080edb080"
+NAMED = [(15, 0, 1, 0), (16, 1, 2, 4), (17, 9, 2, 4), (13, 16, 0, 1), (7, 17, 2, 4)]
+writes(NAMES, NAMED, "43 02 f09f9880 91 02 f48fbfbf 60 02 f0908080")
+for at in (1, 2, 4):
+    none(NAMES, [*NAMED[:at], (*NAMED[at][:3], 6), *NAMED[at + 1 :]])
+writes("71 02 eda0bdedb880 90", [(10, 0, 1, 0), (18, 1, 2, 4), ZERO], "71 02 f09f9880 90")
+none("71 02 eda0bdedb880 90", [(10, 0, 1, 0), (18, 1, 2, 6), ZERO])
+writes("4d 02 eda0bdedb880 5a", [(12, 0, 0, 0), (18, 1, 2, 4)], "4d 02 f09f9880 5a")
+none("4d 02 eda0bdedb880 5a", [(12, 0, 0, 0), (18, 1, 2, 6)])
+for place in range(len(raw(NAMES)) + 1):
+    assert (case(raw(NAMES), [(7, place, 2, 4)]) == 10) == (place not in (1, 9, 17))
+# halves that are no pair: with the lengths that they would have as characters, and as a pair
+for message in reader.LONE:
+    for units, size in ((1, 3), (1, 4), (2, 4), (2, 6), (3, 7)):
+        none(message, [(7, 0, units, size)])
+for c in map(chr, reader.EDGES):
+    if c > "\uffff":
+        rewrites(b"\x04a" + halves(c) + b"z", b"\x04a" + c.encode() + b"z")
+for n in (16, 30, 32, 1022, 1024):
+    rewrites(reader.text_heads(n)[-1] + halves("\U0001f600") * (n // 2), reader.text_of("\U0001f600" * (n // 2)))
+# beyond 65,535 units: chunks of 65,534
+SIX = raw("eda0bdedb880")
+rewrites(raw("52 fffe") + b"a" * 65534 + b"\x02" + SIX, PAIR)
+rewrites(raw("52 8000") + b"a" * 32768 + raw("53 8000") + b"a" * 32766 + SIX, PAIR)
+for size in (32767, 32768, 40000):
+    pairs = raw("52 8000") + SIX * 16384 + wide(0x53, 2 * (size - 16384), 2) + SIX * (size - 16384)
+    rewrites(pairs, text_form(SMILE * size))
+for at in (65533, 65534, 65535):
+    spelled = wide(0x52, at, 2) + b"a" * at + wide(0x53, 40002, 2) + SIX + b"b" * 40000
+    rewrites(spelled, text_form(b"a" * at + SMILE + b"b" * 40000))
+rewrites(reader.PAIRS, text_form(SMILE * 32767 + b"abcd" + SMILE * 10922))
 
 # ---- lists, maps and objects
 some = reader.some

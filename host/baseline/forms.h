@@ -119,14 +119,50 @@ static const struct heads text_heads = {0x00, 32, 0x30, 0x52, 0x53};
 static const struct heads bytes_heads = {0x20, 16, 0x34, 0x41, 0x42};
 
 /*
- * The length of the character at p, of two to four bytes, where `left` bytes and `units` UTF-16 units are left: 0 if
- * the message ends in it, -1 if it is ill-formed or does not fit the units.
+ * 2026-04: a character beyond the 16-bit range may also stand as a pair of halves in one chunk, each of three bytes:
+ * ed a0..af 80..bf, then ed b0..bf 80..bf. The bounds of these bytes.
+ */
+enum { PAIR_SIZE = 6 };
+
+static const uint8_t pair_low[PAIR_SIZE] = {0xed, 0xa0, 0x80, 0xed, 0xb0, 0x80};
+static const uint8_t pair_high[PAIR_SIZE] = {0xed, 0xaf, 0xbf, 0xed, 0xbf, 0xbf};
+
+/* Whether the two bytes at p begin a high half: a half is known by its second byte. */
+static inline bool is_high_half(const uint8_t *p)
+{
+    return p[0] == pair_low[0] && p[1] >= pair_low[1] && p[1] <= pair_high[1];
+}
+
+/*
+ * The length of the pair whose high half begins at p, as `character` gives it. A high half is alone where one unit is
+ * left, which is known by now, and where its low half does not follow.
+ */
+static int pair(const uint8_t *p, size_t left, size_t units)
+{
+    size_t i;
+
+    if (units < 2)
+        return -1;
+    for (i = 2; i < PAIR_SIZE; i++) {
+        if (i == left)
+            return 0;
+        if (p[i] < pair_low[i] || p[i] > pair_high[i])
+            return -1;
+    }
+    return PAIR_SIZE;
+}
+
+/*
+ * The length of the character at p, of two to four bytes or a pair of halves, where `left` bytes and `units` UTF-16
+ * units are left: 0 if the message ends in it, -1 if it is ill-formed, a half alone, or does not fit the units.
  */
 static int character(const uint8_t *p, size_t left, size_t units)
 {
     unsigned lead = p[0], low = 0x80, high = 0xbf;
     int length, i;
 
+    if (left >= 2 && is_high_half(p))
+        return pair(p, left, units);
     if (lead >= 0xc2 && lead <= 0xdf) {
         length = 2;
     } else if (lead >= 0xe0 && lead <= 0xef) {

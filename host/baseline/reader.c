@@ -280,11 +280,11 @@ static bool read_head(struct reader *r, const struct heads *h, size_t *size, boo
     return true;
 }
 
-/* The characters of a chunk. */
-static bool read_characters(struct reader *r, size_t units)
+/* The characters of a chunk. Their bytes are counted as in UTF-8, where a pair of halves has four. */
+static bool read_characters(struct reader *r, size_t units, size_t *bytes)
 {
     const uint8_t *message = r->message;
-    size_t at = r->at, len = r->len;
+    size_t at = r->at, len = r->len, pairs = 0;
 
     while (units > 0) {
         int length;
@@ -302,8 +302,10 @@ static bool read_characters(struct reader *r, size_t units)
         if (length == 0)
             return refuse(r, CUT_SHORT, len);
         at += (size_t)length;
-        units -= length == 4 ? 2 : 1;
+        units -= length >= 4 ? 2 : 1;
+        pairs += length == PAIR_SIZE;
     }
+    *bytes += at - r->at - 2 * pairs;
     r->at = at;
     return true;
 }
@@ -315,15 +317,11 @@ static bool read_text(struct reader *r, enum kind kind)
     bool last;
 
     do {
-        size_t size, start;
+        size_t size;
 
-        if (!read_head(r, &text_heads, &size, &last))
-            return false;
-        start = r->at;
-        if (!read_characters(r, size))
+        if (!read_head(r, &text_heads, &size, &last) || !read_characters(r, size, &bytes))
             return false;
         units += size;
-        bytes += r->at - start;
     } while (!last);
     add_row(r, kind, place, units, bytes);
     return true;

@@ -193,11 +193,11 @@ static bool read_head(struct cursor *c, const struct heads *h)
     return true;
 }
 
-/* Passes the characters of a chunk. */
-static bool pass_characters(struct cursor *c)
+/* Passes the characters of a chunk. Their bytes are counted as in UTF-8, where a pair of halves has four. */
+static bool pass_characters(struct cursor *c, uint64_t *bytes)
 {
     const uint8_t *p = c->p;
-    size_t units = c->left;
+    size_t units = c->left, pairs = 0;
 
     while (units > 0) {
         int length;
@@ -213,17 +213,20 @@ static bool pass_characters(struct cursor *c)
         if (length <= 0)
             return false;
         p += length;
-        units -= length == 4 ? 2 : 1;
+        units -= length >= 4 ? 2 : 1;
+        pairs += length == PAIR_SIZE;
     }
+    *bytes += (uint64_t)(p - c->p) - 2 * pairs;
     c->p = p;
     return true;
 }
 
-static bool pass_bytes(struct cursor *c)
+static bool pass_bytes(struct cursor *c, uint64_t *bytes)
 {
     if ((size_t)(c->end - c->p) < c->left)
         return false;
     c->p += c->left;
+    *bytes += c->left;
     return true;
 }
 
@@ -237,20 +240,16 @@ static bool judge_string(struct writer *w, const struct heads *h, uint64_t place
         return false;
     c.p = w->source + place;
     do {
-        const uint8_t *start;
-
         if (!read_head(&c, h))
             return false;
-        start = c.p;
-        if (!(h == &text_heads ? pass_characters(&c) : pass_bytes(&c)))
+        if (!(h == &text_heads ? pass_characters(&c, &all_bytes) : pass_bytes(&c, &all_bytes)))
             return false;
         all_units += c.left;
-        all_bytes += (uint64_t)(c.p - start);
     } while (!c.last);
     return all_units == units && all_bytes == bytes;
 }
 
-/* The bytes of the well-formed characters at p that fit so many units, and how many they are. */
+/* The bytes of the well-formed characters at p that fit so many units, up to a pair of halves; and their units. */
 static size_t fitting(const uint8_t *p, size_t units, size_t *fit)
 {
     const uint8_t *start = p;
@@ -260,6 +259,8 @@ static size_t fitting(const uint8_t *p, size_t units, size_t *fit)
         if (*p < 0x80) {
             p++;
             left--;
+        } else if (is_high_half(p)) {
+            break;
         } else if (*p < 0xf0) {
             p += *p < 0xe0 ? 2 : 3;
             left--;
@@ -274,12 +275,24 @@ static size_t fitting(const uint8_t *p, size_t units, size_t *fit)
     return (size_t)(p - start);
 }
 
+/* The character of the pair of halves at p, in four bytes. Each half has ten bits of it, in its last two bytes. */
+static void put_pair(struct writer *w, const uint8_t *p)
+{
+    uint32_t high = (p[1] & 0x0fu) << 6 | (p[2] & 0x3fu), low = (p[4] & 0x0fu) << 6 | (p[5] & 0x3fu);
+    uint32_t code = 0x10000 + (high << 10 | low);
+
+    put(w, 0xf0 | code >> 18);
+    put(w, 0x80 | (code >> 12 & 0x3f));
+    put(w, 0x80 | (code >> 6 & 0x3f));
+    put(w, 0x80 | (code & 0x3f));
+}
+
 /* Copies content up to so many units, and not half of a pair; how many they are. */
 static size_t copy_units(struct writer *w, const struct heads *h, struct cursor *c, size_t most)
 {
-    size_t done = 0;
+    size_t done = 0, over = 0;
 
-    while (done < most) {
+    while (done < most && over != 1) {
         size_t want, units, bytes;
 
         while (c->left == 0)
@@ -290,10 +303,15 @@ static size_t copy_units(struct writer *w, const struct heads *h, struct cursor 
             bytes = fitting(c->p, want, &units);
         put_copy(w, c->p, bytes);
         c->p += bytes;
+        /* where units are left over, a character of two comes next: of halves, if there is room for it */
+        over = want - units;
+        if (over >= 2) {
+            put_pair(w, c->p);
+            c->p += PAIR_SIZE;
+            units += 2;
+        }
         c->left -= units;
         done += units;
-        if (units < want)
-            break;
     }
     return done;
 }

@@ -5,6 +5,8 @@
 
 #include "hessian.h"
 
+enum { PAIR_SIZE = 6 };
+
 static uint64_t number_at(const uint8_t *p)
 {
     uint64_t n = 0;
@@ -57,25 +59,46 @@ static size_t width(const struct cursor *c, bool text, size_t *units)
 {
     uint8_t lead = c->p[0];
 
+    /* a pair of halves, of three bytes each, is known by the second byte */
+    if (text && lead == 0xed && c->end - c->p > 1 && c->p[1] >= 0xa0) {
+        *units = 2;
+        return PAIR_SIZE;
+    }
     *units = text && lead >= 0xf0 ? 2 : 1;
     if (!text || lead < 0x80)
         return 1;
     return lead < 0xe0 ? 2 : lead < 0xf0 ? 3 : 4;
 }
 
-/* Copies a chunk's bytes while they fit; false where one does not. */
+/* The character of a pair of halves, in the four bytes that the library counts. */
+static void join_halves(const uint8_t *pair, uint8_t *bytes)
+{
+    uint32_t high = (pair[1] & 0x0fu) << 6 | (pair[2] & 0x3fu), low = (pair[4] & 0x0fu) << 6 | (pair[5] & 0x3fu);
+    uint32_t code = 0x10000 + (high << 10 | low);
+
+    bytes[0] = (uint8_t)(0xf0 | code >> 18);
+    bytes[1] = (uint8_t)(0x80 | (code >> 12 & 0x3f));
+    bytes[2] = (uint8_t)(0x80 | (code >> 6 & 0x3f));
+    bytes[3] = (uint8_t)(0x80 | (code & 0x3f));
+}
+
+/* Copies a chunk's characters, or bytes, while they fit; false where one does not. */
 static bool copy_chunk(struct cursor *c, bool text, uint8_t *bytes, size_t most, size_t *len)
 {
     while (c->units > 0) {
-        size_t units, n;
+        size_t units, n, size;
 
         if (c->p == c->end)
             return false;
         n = width(c, text, &units);
-        if (n > most - *len || n > (size_t)(c->end - c->p) || units > c->units)
+        size = n == PAIR_SIZE ? 4 : n;
+        if (size > most - *len || n > (size_t)(c->end - c->p) || units > c->units)
             return false;
-        memcpy(bytes + *len, c->p, n);
-        *len += n;
+        if (n == PAIR_SIZE)
+            join_halves(c->p, bytes + *len);
+        else
+            memcpy(bytes + *len, c->p, n);
+        *len += size;
         c->p += n;
         c->units -= units;
     }

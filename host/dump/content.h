@@ -15,7 +15,7 @@ struct row row_at(const struct record *r, size_t index);
 
 /*
  * The first bytes of the text or byte string that a row names, its chunks joined: at most `most`, and whole characters of a
- * text. How many they are.
+ * text, which are UTF-8 also where the record has a pair of halves. How many they are.
  */
 size_t content(const struct record *r, const struct row *row, uint8_t *bytes, size_t most);
 

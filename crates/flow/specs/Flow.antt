@@ -14,6 +14,12 @@ abbrev pub Bytes : List ℕ → Type 0
 Bytes [] = Unit {0}
 Bytes (b ∷ s) = (b < 256) × Bytes s
 
+abbrev pub sameList : List ℕ → List ℕ → Bool  -- the same numbers in the same order
+sameList [] [] = true
+sameList [] (b ∷ t) = false
+sameList (a ∷ s) [] = false
+sameList (a ∷ s) (b ∷ t) = eqb a b && sameList s t
+
 -- ---- readers. C: what is known so far. I: the items read. A: a reader's result
 abbrev pub Entry : Type 0 → Type 0  -- an item, and the place of its first byte
 Entry I = record { place : ℕ; item : I }

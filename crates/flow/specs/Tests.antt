@@ -5,10 +5,10 @@ use mathlib.Core.List.{List, [], _∷_, _++_}
 use Prim.Native.Nat.{ℕ, zero, suc, _+_, _≤_, _<_}
 use native.Mathlib.Omega.{arith}
 use native.Mathlib.Decide.{ℕ-discrete}
-use lib.Dec.{T, ltb, eqb, leb, ltb→lt, nltb→le, eqb→eq, lt→ltb, not-T}
+use lib.Dec.{T, ltb, eqb, leb, ltb→lt, nltb→le, eqb→eq, eqb-refl, lt→ltb, not-T}
 use lib.Arith.{le→nltb}
 use lib.ListN.{take, drop, getD}
-use Rattle.flow.specs.Flow.{pick, within, Bytes}
+use Rattle.flow.specs.Flow.{pick, within, Bytes, sameList}
 use borrow.Author.Tests.{lt-ltb, le-ltb, le-leb, lt-leb, eq-eqb, ne-eqb, ltb-true, ltb-false, leb-true}
 
 -- ---- a choice by a test, over `cond`
@@ -172,6 +172,20 @@ bytes-take (suc n) (b ∷ s) h = (h .0, bytes-take n s (h .1))
 pub bytes-all : (s : List ℕ) → ((i : ℕ) → getD s i 0 < 256) → Bytes s
 bytes-all [] f = tt
 bytes-all (b ∷ s) f = (f 0, bytes-all s (λ i. f (suc i)))
+
+-- two lists are the same
+pub same-refl : (s : List ℕ) → T (sameList s s)
+same-refl [] = tt
+same-refl (a ∷ s) = and-both (eqb a a) (sameList s s) (eqb-refl a) (same-refl s)
+
+pub same-eq : (s t : List ℕ) → T (sameList s t) → s ≡ t
+same-eq [] [] h = refl
+same-eq [] (b ∷ t) h = absurd h
+same-eq (a ∷ s) [] h = absurd h
+same-eq (a ∷ s) (b ∷ t) h =
+    let e = eqb→eq a b (and-left (eqb a b) (sameList s t) h) in
+    let d = same-eq s t (and-right (eqb a b) (sameList s t) h) in
+    cc
 
 -- a fact of the first byte
 abbrev pub First : (ℕ → Type 0) → List ℕ → Type 0

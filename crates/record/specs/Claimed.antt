@@ -1,13 +1,13 @@
 -- The record that rows claim, computed; and that it is exactly the one claimed.
 use mathlib.Core.Path.{_≡_, refl, sym, _∙_, ap, subst}
-use mathlib.Core.Bool.{Bool, true, false, cond, _&&_}
+use mathlib.Core.Bool.{Bool, cond, _&&_}
 use mathlib.Core.Logic.{_↔_}
 use mathlib.Core.List.{List, [], _∷_}
 use mathlib.Core.Option.{Option, none, some}
 use Prim.Native.Nat.{ℕ}
 use lib.Dec.{T, eqb, eqb→eq, eqb-refl}
-use Rattle.flow.specs.Tests.{by-test, pass, and-left, and-right, and-both}
-use Rattle.flow.specs.Flow.{pick}
+use Rattle.flow.specs.Tests.{by-test, pass, and-left, and-right, and-both, same-refl, same-eq}
+use Rattle.flow.specs.Flow.{pick, sameList}
 use Rattle.scalar.specs.declared.Sort.the-variants as sort
 use Rattle.scalar.specs.declared.Kind.the-variants.{Utf8, Binary}
 use Rattle.scalar.specs.Scalars.{Num, Str}
@@ -37,12 +37,6 @@ ofKind x cs =
     (pick (eqb (x .kind) 18) (TypeName cs)
     (TypeNumber (x .first))))))))))))))))))))
 
-abbrev pub sameList : List ℕ → List ℕ → Bool
-sameList [] [] = true
-sameList [] (b ∷ t) = false
-sameList (a ∷ s) [] = false
-sameList (a ∷ s) (b ∷ t) = eqb a b && sameList s t
-
 abbrev pub sameRow : Row → Row → Bool
 sameRow x y = eqb (x .kind) (y .kind) && (eqb (x .place) (y .place) && (eqb (x .first) (y .first) && eqb (x .second) (y .second)))
 
@@ -63,19 +57,6 @@ recordOf source [] = some []
 recordOf source (x ∷ r) = onSome (λ i. onSome (λ is. some (i ∷ is)) (recordOf source r)) (itemAt source x)
 
 -- ---- it is the one claimed
-pub same-refl : (s : List ℕ) → T (sameList s s)
-same-refl [] = tt
-same-refl (a ∷ s) = and-both (eqb a a) (sameList s s) (eqb-refl a) (same-refl s)
-
-same-eq : (s t : List ℕ) → T (sameList s t) → s ≡ t
-same-eq [] [] h = refl
-same-eq [] (b ∷ t) h = absurd h
-same-eq (a ∷ s) [] h = absurd h
-same-eq (a ∷ s) (b ∷ t) h =
-    let e = eqb→eq a b (and-left (eqb a b) (sameList s t) h) in
-    let f = same-eq s t (and-right (eqb a b) (sameList s t) h) in
-    cc
-
 row-refl : (x : Row) → T (sameRow x x)
 row-refl x = and-both (eqb (x .kind) (x .kind)) _ (eqb-refl (x .kind)) (and-both (eqb (x .place) (x .place)) _ (eqb-refl (x .place))
     (and-both (eqb (x .first) (x .first)) _ (eqb-refl (x .first)) (eqb-refl (x .second))))

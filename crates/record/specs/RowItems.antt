@@ -8,7 +8,8 @@ use native.Mathlib.Omega.{arith}
 use lib.Dec.{T, eqb}
 use lib.ListN.{length}
 use borrow.Author.Tests.{eq-eqb, ne-eqb}
-use Rattle.flow.specs.Flow.{pick, Done, Fault}
+use Rattle.flow.specs.Tests.{same-refl}
+use Rattle.flow.specs.Flow.{pick, sameList, Done, Fault}
 use Rattle.flow.specs.Steps.{Answer, renamed}
 use Rattle.scalar.specs.declared.Sort.{Sort}
 use Rattle.scalar.specs.declared.Sort.the-variants as sort
@@ -18,7 +19,7 @@ use Rattle.scalar.specs.Scalars.{units, stringAt, shortestString, Num, Str, sor
 use Rattle.scalar.specs.Answers.{Sizes, sized, sizes, measuredAt}
 use Rattle.scalar.specs.Answers.{itemForm, formOf}
 use Rattle.record.specs.Records.{Leaf, UntypedList, TypedList, UntypedMap, TypedMap, Object, Reference, Item, Val, Definition, ClassName, FieldName, TypeName, TypeNumber, Row, row, itemRow, told, contentAt}
-use Rattle.record.specs.Claimed.{ofKind, sameList, onSome, itemAt, same-refl, claims-back}
+use Rattle.record.specs.Claimed.{ofKind, onSome, itemAt, claims-back}
 
 -- ---- kinds, each with the item of a row's numbers or content
 -- 0 to 6, 9, 11, 14, 15, 19: by the first number

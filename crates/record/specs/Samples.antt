@@ -5,7 +5,9 @@ use Prim.Native.Nat.{ℕ, zero, suc}
 use lib.Count.{leadingZeros}
 use lib.ListN.{length, replicate}
 use Rattle.flow.specs.Flow.{pick, Done, Fault}
-use Rattle.scalar.specs.Scalars.{scaled, whole, magnitude, widened, value, formsOf, formAt, shortest, partHead, lastHeads, charLead, stringFrom, stringAt, longest, content, shortestString, scalarFrom, intFrom, textFrom, shortestScalar}
+use Rattle.scalar.specs.Scalars.{scaled, whole, magnitude, widened, value, formsOf, formAt, shortest}
+use Rattle.scalar.specs.Scalars.{partHead, lastHeads, charLead, paired, stringFrom, stringAt, longest, content}
+use Rattle.scalar.specs.Scalars.{shortestString, scalarFrom, intFrom, textFrom, shortestScalar}
 use Rattle.scalar.specs.Guesses.{wholeSize, wholeGuess, narrowMagnitude, narrowed, guess}
 use Rattle.record.specs.Records.{typeFrom, plainFrom, definition, valueFrom, message, Row, row, rows, contentAt}
 use Rattle.record.specs.Answers.{objectCode, putType, putDefinition, putPlainBy, putValue, spell, ReadAnswer, Accept, Refuse, judged, read, WriteAnswer, Wrote, Refused, shortestOf, base}
@@ -229,6 +231,101 @@ placed =
     ∷ writes (0x40 ∷ 0x21 ∷ 0x61 ∷ []) (row 8 1 1 0 ∷ []) (Wrote (0x21 ∷ 0x61 ∷ []))
     ∷ []
 
+-- ---- 2026-04: pairs of halves
+-- U+10000, the first supplementary character: as a pair of halves, and in four bytes
+abbrev pair : List ℕ
+pair = 0xed ∷ 0xa0 ∷ 0x80 ∷ 0xed ∷ 0xb0 ∷ 0x80 ∷ []
+
+abbrev four : List ℕ
+four = 0xf0 ∷ 0x90 ∷ 0x80 ∷ 0x80 ∷ []
+
+-- read as the one character and written in four bytes: the first and the last, and with others around; U+1F600 as the
+-- Java library writes it, beside its four bytes. The characters below the halves and byte strings are as before
+abbrev pub pairs-read : List Sample
+pairs-read =
+    reads (0x02 ∷ pair) (Accept (row 7 0 2 4 ∷ []) 7)
+    ∷ rewrites (0x02 ∷ pair) (Becomes (0x02 ∷ four))
+    ∷ rewrites (0x02 ∷ 0xed ∷ 0xaf ∷ 0xbf ∷ 0xed ∷ 0xbf ∷ 0xbf ∷ []) (Becomes (0x02 ∷ 0xf4 ∷ 0x8f ∷ 0xbf ∷ 0xbf ∷ []))
+    ∷ rewrites (0x03 ∷ 0x41 ∷ pair) (Becomes (0x03 ∷ 0x41 ∷ four))
+    ∷ rewrites (0x03 ∷ pair ++ (0x41 ∷ [])) (Becomes (0x03 ∷ four ++ (0x41 ∷ [])))
+    ∷ rewrites (0x02 ∷ 0xed ∷ 0xa0 ∷ 0xbd ∷ 0xed ∷ 0xb8 ∷ 0x80 ∷ []) (Becomes (0x02 ∷ 0xf0 ∷ 0x9f ∷ 0x98 ∷ 0x80 ∷ []))
+    ∷ rewrites (0x04 ∷ pair ++ four) (Becomes (0x04 ∷ four ++ four))
+    ∷ rewrites (0x01 ∷ 0xed ∷ 0x80 ∷ 0x80 ∷ []) (Becomes (0x01 ∷ 0xed ∷ 0x80 ∷ 0x80 ∷ []))
+    ∷ rewrites (0x01 ∷ 0xed ∷ 0x9f ∷ 0xbf ∷ []) (Becomes (0x01 ∷ 0xed ∷ 0x9f ∷ 0xbf ∷ []))
+    ∷ rewrites (0x26 ∷ pair) (Becomes (0x26 ∷ pair))
+    ∷ []
+
+-- cut off before the low half is complete: 2 at the end
+abbrev pub pairs-cut : List Sample
+pairs-cut =
+    rewrites (0x01 ∷ 0xed ∷ []) (IsRefused 2 2)
+    ∷ rewrites (0x02 ∷ 0xed ∷ []) (IsRefused 2 2)
+    ∷ rewrites (0x02 ∷ 0xed ∷ 0xa0 ∷ []) (IsRefused 2 3)
+    ∷ rewrites (0x02 ∷ 0xed ∷ 0xa0 ∷ 0x80 ∷ []) (IsRefused 2 4)
+    ∷ rewrites (0x02 ∷ 0xed ∷ 0xa0 ∷ 0x80 ∷ 0xed ∷ []) (IsRefused 2 5)
+    ∷ rewrites (0x02 ∷ 0xed ∷ 0xa0 ∷ 0x80 ∷ 0xed ∷ 0xb0 ∷ []) (IsRefused 2 6)
+    ∷ []
+
+-- a lone high half, at its first byte: with one unit left, as soon as its second byte is read; followed by another byte
+-- than ed, or by ed and another byte than b0..bf. A fault in a third byte is at the same place
+abbrev pub high-halves : List Sample
+high-halves =
+    rewrites (0x01 ∷ 0xed ∷ 0xa0 ∷ []) (IsRefused 4 1)
+    ∷ rewrites (0x01 ∷ 0xed ∷ 0xa0 ∷ 0x41 ∷ []) (IsRefused 4 1)
+    ∷ rewrites (0x01 ∷ 0xed ∷ 0xa0 ∷ 0x80 ∷ []) (IsRefused 4 1)
+    ∷ rewrites (0x01 ∷ 0xed ∷ 0xa0 ∷ 0x80 ∷ 0xed ∷ 0xb0 ∷ 0x80 ∷ []) (IsRefused 4 1)
+    ∷ rewrites (0x02 ∷ 0x41 ∷ 0xed ∷ 0xa0 ∷ 0x80 ∷ 0xed ∷ 0xb0 ∷ 0x80 ∷ []) (IsRefused 4 2)
+    ∷ rewrites (0x02 ∷ 0xed ∷ 0xa0 ∷ 0x80 ∷ 0x41 ∷ []) (IsRefused 4 1)
+    ∷ rewrites (0x02 ∷ 0xed ∷ 0xa0 ∷ 0x80 ∷ 0x80 ∷ []) (IsRefused 4 1)
+    ∷ rewrites (0x02 ∷ 0xed ∷ 0xa0 ∷ 0x80 ∷ 0xff ∷ []) (IsRefused 4 1)
+    ∷ rewrites (0x02 ∷ 0xed ∷ 0xa0 ∷ 0x80 ∷ 0xc3 ∷ 0xa9 ∷ []) (IsRefused 4 1)
+    ∷ rewrites (0x03 ∷ 0xed ∷ 0xa0 ∷ 0x80 ∷ 0xf0 ∷ 0x9f ∷ 0x98 ∷ 0x80 ∷ []) (IsRefused 4 1)
+    ∷ rewrites (0x02 ∷ 0xed ∷ 0xa0 ∷ 0x80 ∷ 0xed ∷ 0x9f ∷ []) (IsRefused 4 1)
+    ∷ rewrites (0x02 ∷ 0xed ∷ 0xa0 ∷ 0x80 ∷ 0xed ∷ 0x9f ∷ 0xbf ∷ []) (IsRefused 4 1)
+    ∷ rewrites (0x02 ∷ 0xed ∷ 0xa0 ∷ 0x80 ∷ 0xed ∷ 0xa0 ∷ []) (IsRefused 4 1)
+    ∷ rewrites (0x04 ∷ 0xed ∷ 0xa0 ∷ 0x80 ∷ 0xed ∷ 0xa0 ∷ 0x80 ∷ 0xed ∷ 0xb0 ∷ 0x80 ∷ []) (IsRefused 4 1)
+    ∷ rewrites (0x02 ∷ 0xed ∷ 0xa0 ∷ 0x80 ∷ 0xed ∷ 0xc0 ∷ []) (IsRefused 4 1)
+    ∷ rewrites (0x02 ∷ 0xed ∷ 0xa0 ∷ 0x41 ∷ []) (IsRefused 4 1)
+    ∷ rewrites (0x02 ∷ 0xed ∷ 0xa0 ∷ 0xc0 ∷ []) (IsRefused 4 1)
+    ∷ rewrites (0x02 ∷ 0xed ∷ 0xa0 ∷ 0x80 ∷ 0xed ∷ 0xb0 ∷ 0x41 ∷ []) (IsRefused 4 1)
+    ∷ []
+
+-- a lone low half, at its first byte, as soon as its second byte is read; and second bytes that are of no character
+abbrev pub low-halves : List Sample
+low-halves =
+    rewrites (0x01 ∷ 0xed ∷ 0xb0 ∷ []) (IsRefused 4 1)
+    ∷ rewrites (0x02 ∷ 0xed ∷ 0xb0 ∷ []) (IsRefused 4 1)
+    ∷ rewrites (0x02 ∷ 0x41 ∷ 0xed ∷ 0xb0 ∷ 0x80 ∷ []) (IsRefused 4 2)
+    ∷ rewrites (0x02 ∷ 0xed ∷ 0xb0 ∷ 0x80 ∷ 0xed ∷ 0xa0 ∷ 0x80 ∷ []) (IsRefused 4 1)
+    ∷ rewrites (0x04 ∷ 0xed ∷ 0xa0 ∷ 0x80 ∷ 0xed ∷ 0xb0 ∷ 0x80 ∷ 0xed ∷ 0xb0 ∷ 0x80 ∷ []) (IsRefused 4 7)
+    ∷ rewrites (0x01 ∷ 0xed ∷ 0x7f ∷ []) (IsRefused 4 1)
+    ∷ rewrites (0x01 ∷ 0xed ∷ 0xc0 ∷ []) (IsRefused 4 1)
+    ∷ []
+
+-- chunks: a pair in one chunk; a high half, and the low half in the next chunk
+abbrev pub pairs-in-chunks : List Sample
+pairs-in-chunks =
+    rewrites (0x52 ∷ 0x00 ∷ 0x02 ∷ pair ++ (0x00 ∷ [])) (Becomes (0x02 ∷ four))
+    ∷ rewrites (0x52 ∷ 0x00 ∷ 0x01 ∷ 0xed ∷ 0xa0 ∷ 0x80 ∷ 0x01 ∷ 0xed ∷ 0xb0 ∷ 0x80 ∷ []) (IsRefused 4 3)
+    ∷ rewrites (0x52 ∷ 0x00 ∷ 0x02 ∷ 0x41 ∷ 0xed ∷ 0xa0 ∷ 0x80 ∷ 0x01 ∷ 0xed ∷ 0xb0 ∷ 0x80 ∷ []) (IsRefused 4 4)
+    ∷ rewrites (0x52 ∷ 0x00 ∷ 0x02 ∷ 0xed ∷ 0xa0 ∷ 0x80 ∷ 0x01 ∷ 0xed ∷ 0xb0 ∷ 0x80 ∷ []) (IsRefused 4 3)
+    ∷ []
+
+-- names: of a type; of a class and a field
+abbrev pub pairs-in-names : List Sample
+pairs-in-names =
+    rewrites (0x70 ∷ 0x02 ∷ pair) (Becomes (0x70 ∷ 0x02 ∷ four))
+    ∷ rewrites (0x43 ∷ 0x02 ∷ pair ++ (0x91 ∷ 0x02 ∷ pair ++ (0x60 ∷ 0x4e ∷ [])))
+    (Becomes (0x43 ∷ 0x02 ∷ four ++ (0x91 ∷ 0x02 ∷ four ++ (0x60 ∷ 0x4e ∷ []))))
+    ∷ []
+
+-- the writer compares a row's second number with the length in four-byte UTF-8
+abbrev pub pairs-in-rows : List Sample
+pairs-in-rows =
+    writes (0x02 ∷ pair) (row 7 0 2 4 ∷ []) (Wrote (0x02 ∷ four))
+    ∷ writes (0x02 ∷ pair) (row 7 0 2 6 ∷ []) (Refused 10 0)
+    ∷ []
+
 -- ---- they hold
 pub marked-hold : Hold marked
 unfolding judged message valueFrom plainFrom definition typeFrom pick scalarFrom intFrom textFrom stringFrom formsOf formAt value whole widened magnitude scaled leadingZeros partHead lastHeads charLead
@@ -239,6 +336,14 @@ pub samples-hold : Hold (car ++ (classes ++ (accepted ++ (refused-1 ++ (refused-
 unfolding judged message valueFrom plainFrom definition typeFrom pick scalarFrom intFrom textFrom stringFrom formsOf formAt value whole widened magnitude scaled leadingZeros partHead lastHeads charLead
     write shortestOf itemAt ofKind contentAt stringAt spell putValue putPlainBy putDefinition putType objectCode shortestScalar shortest guess wholeGuess wholeSize narrowed narrowMagnitude shortestString content longest
 samples-hold = refl
+
+pub pairs-hold : Hold (pairs-read ++ (pairs-cut ++ (high-halves ++ (low-halves
+    ++ (pairs-in-chunks ++ (pairs-in-names ++ pairs-in-rows))))))
+unfolding judged message valueFrom plainFrom definition typeFrom pick scalarFrom intFrom textFrom stringFrom formsOf
+    formAt value whole widened magnitude scaled leadingZeros partHead lastHeads charLead paired write shortestOf itemAt
+    ofKind contentAt stringAt spell putValue putPlainBy putDefinition putType objectCode shortestScalar shortest guess
+    wholeGuess wholeSize narrowed narrowMagnitude shortestString content longest
+pairs-hold = refl
 
 -- lengths: a message too long for the ceiling, fewer rows lent than needed; a source too long, a shortest message too long, fewer bytes lent than needed
 pub lengths : (read base 32 3 9 (0x7b ∷ 0x90 ∷ 0x90 ∷ 0x90 ∷ []) ≡ Refuse 1 0 0) × (baseRead 1 (0x79 ∷ 0x90 ∷ []) ≡ Refuse 9 2 0)

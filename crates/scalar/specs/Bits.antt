@@ -14,9 +14,11 @@ use Rattle.scalar.specs.declared.Kind.{Kind}
 use Rattle.scalar.specs.Signed.{minus-fits, fits-32, widen-fits, mul-fits}
 use Rattle.scalar.specs.DoubleLaws.{whole-lt, widened-lt}
 use Rattle.scalar.specs.Scalars.{value, formsOf, units}
-use Rattle.scalar.specs.Grammar.{Number, follows, Char, one-byte, one-unit, two-units, Body, empty, with-char, String, last-chunk, chunk-before}
+use Rattle.scalar.specs.Grammar.{Number, follows, Char, one-byte, one-unit, below-halves, two-units}
+use Rattle.scalar.specs.Grammar.{String, last-chunk, chunk-before}
 use Rattle.scalar.specs.NumberLaws.{EachForm, number-fact}
-use Rattle.scalar.specs.TextUnits.{weight-few, units-append, body-units}
+use Rattle.scalar.specs.TextUnits.{weight-few, units-append, Content, no-chars, more-chars}
+use Rattle.scalar.specs.TextUnits.{body-content, body-units, body-length}
 
 offset-bits : (k u : ℕ) → u < 2 ^ 63 → k < 2 ^ 63 → value (Offset k) u < 2 ^ 64
 unfolding value
@@ -40,8 +42,10 @@ pub number-bits : (s : Sort) {w : List ℕ} {v : ℕ} → Number (formsOf s) w v
 number-bits s n = number-fact (λ k v. v < 2 ^ 64) n (each-bits s)
 
 pub content-length : {k : Kind} {w cs : List ℕ} → String k w cs → length cs ≤ length w
-content-length (last-chunk {h = h} {cs = cs} n b) = omega (arith, length-append h cs)
-content-length (chunk-before {h = h} {cs = cs} {v = v} {ds = ds} n b r) = omega (arith, length-append h (cs ++ v), length-append cs v, length-append cs ds, content-length r)
+content-length (last-chunk {h = h} {w = w} n b) = omega (arith, length-append h w, body-length b)
+content-length (chunk-before {h = h} {w = w} {cs = cs} {v = v} {ds = ds} n b r) =
+    let l = content-length r in
+    omega (arith, length-append h (w ++ v), length-append w v, length-append cs ds, body-length b)
 
 pub units-few : (k : Kind) (cs : List ℕ) → units k cs ≤ 2 * length cs
 units-few k [] = omega arith
@@ -51,12 +55,15 @@ units-few k (b ∷ cs) = omega (arith, weight-few k b, units-few k cs)
 char-few : {k : Kind} {u : ℕ} {w : List ℕ} → Char k u w → u ≤ length w
 char-few (one-byte l) = omega arith
 char-few (one-unit e c) = omega arith
+char-few (below-halves e c) = omega arith
 char-few (two-units e (follows l h c)) = omega arith
 
-body-few : {k : Kind} {n : ℕ} {cs : List ℕ} → Body k n cs → n ≤ length cs
-body-few empty = omega arith
-body-few (with-char {w = w} {v = v} c b) = omega (arith, length-append w v, char-few c, body-few b)
+pub content-few : {k : Kind} {n : ℕ} {cs : List ℕ} → Content k n cs → n ≤ length cs
+content-few no-chars = omega arith
+content-few (more-chars {w = w} {v = v} c b) = omega (arith, length-append w v, char-few c, content-few b)
 
 pub string-few : {k : Kind} {w cs : List ℕ} → String k w cs → units k cs ≤ length cs
-string-few {k} (last-chunk n b) = omega (arith, body-units b, body-few b)
-string-few {k} (chunk-before {cs = cs} {ds = ds} n b r) = omega (arith, units-append k cs ds, length-append cs ds, body-units b, body-few b, string-few r)
+string-few {k} (last-chunk n b) = omega (arith, body-units b, content-few (body-content b))
+string-few {k} (chunk-before {cs = cs} {ds = ds} n b r) =
+    let l = content-few (body-content b) in
+    omega (arith, units-append k cs ds, length-append cs ds, body-units b, string-few r)

@@ -1,6 +1,6 @@
 -- The longest chunks first are the shortest spelling. Chunks count units. A content is here the list of its bytes' units, at most two each.
 use mathlib.Core.Path.{_≡_, refl, sym, _∙_, ap}
-use mathlib.Core.Bool.{Bool, true, false, cond, not}
+use mathlib.Core.Bool.{Bool, true, false, cond}
 use mathlib.Core.List.{List, [], _∷_}
 use Prim.Native.Nat.{ℕ, zero, suc, _+_, _-_, _≤_, _<_}
 use native.Mathlib.Omega.{arith}
@@ -42,7 +42,8 @@ span-fits cap (w ∷ ws) = by-test (λ (n : ℕ). (n ≤ length (w ∷ ws)) × (
     (λ t. let p = span-fits (cap - w) ws in (omega arith, omega (arith, tests)))
 
 -- where j fit, what fits of the rest
-pub span-cut : (cap j : ℕ) (ws : List ℕ) → j ≤ span cap ws → span cap ws ≡ j + span (cap - total (take j ws)) (drop j ws)
+pub span-cut : (cap j : ℕ) (ws : List ℕ) → j ≤ span cap ws
+    → span cap ws ≡ j + span (cap - total (take j ws)) (drop j ws)
 span-cut cap zero ws l = let e : cap - 0 ≡ cap = omega arith in rw e (omega arith)
 span-cut cap (suc j) [] l = absurd (omega arith)
 span-cut cap (suc j) (w ∷ ws) l = by-cases (ltb cap w)

@@ -13,7 +13,11 @@ pub mod NumberAt
 pub mod Sorts
 pub mod NumberTheorems
 pub mod Greedy
+pub mod CharLeads
+pub mod Halves
+pub mod Pairs
 pub mod TextUnits
+pub mod Decoded
 pub mod TextLaws
 pub mod TextShort
 pub mod TextTheorems

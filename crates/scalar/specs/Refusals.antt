@@ -5,7 +5,7 @@ use mathlib.Core.Option.{Option, none, some}
 use Prim.Native.Nat.{ℕ, zero, suc, _+_, _*_, _≤_}
 use native.Mathlib.Omega.{arith}
 use lib.ListN.{length}
-use Rattle.flow.specs.Flow.{within, Read, From, mapped, fail, bind}
+use Rattle.flow.specs.Flow.{within, Read, From, give, mapped, fail, bind}
 use Rattle.flow.specs.Tests.{pick-either}
 use Rattle.flow.specs.Refusals.{Tells, TellsFrom, cond-tells, byte-tells, mapped-tells, bind-tells}
 use Rattle.scalar.specs.declared.Sort.{Sort}
@@ -15,8 +15,11 @@ use Rattle.scalar.specs.declared.Begun.the-variants.{Starts, NoForm}
 use Rattle.scalar.specs.declared.Kind.{Kind}
 use Rattle.scalar.specs.declared.Kind.the-variants.{Utf8, Binary}
 use Rattle.scalar.specs.declared.CharLead.{CharLead}
-use Rattle.scalar.specs.declared.CharLead.the-variants.{Basic, Supplementary, NoChar}
-use Rattle.scalar.specs.Scalars.{Form, formsOf, formAt, inside, value, bytesOf, numberFrom, partHead, lastHeads, charLead, continued, character, characters, octets, body, chunk, chunks, stringFrom, Scalar, Num, Str, begins, orString, orNumber, scalarFrom, intFrom, textFrom}
+use Rattle.scalar.specs.declared.CharLead.the-variants.{Basic, Supplementary, Halved, NoChar}
+use Rattle.scalar.specs.Scalars.{Form, formsOf, formAt, inside, value, bytesOf, numberFrom, partHead, lastHeads}
+use Rattle.scalar.specs.Scalars.{charLead, paired, ranged, continued, chained, lowOf, pairOf, pairThen, bySecond}
+use Rattle.scalar.specs.Scalars.{character, characters, octets, body, chunk, chunks, stringFrom}
+use Rattle.scalar.specs.Scalars.{Scalar, Num, Str, begins, orString, orNumber, scalarFrom, intFrom, textFrom}
 use Rattle.scalar.specs.NumberLaws.{numberBy}
 
 module _ (C I : Type 0) (P : ℕ → Type 0) (end : ℕ) (two : P 2) (three : P 3) (four : P 4) where
@@ -33,25 +36,50 @@ module _ (C I : Type 0) (P : ℕ → Type 0) (end : ℕ) (two : P 2) (three : P 
   number-tells ws p b h = by-tells (formAt ws b) p h
 
   -- ---- texts and byte strings
+  ranged-tells : {A : Type 0} (o lo hi : ℕ) (f : ℕ → Read C I A) → o ≤ end → ((b : ℕ) → Tells P end (f b))
+      → Tells P end (ranged o lo hi f)
+  ranged-tells o lo hi f h k = byte-tells P end two (λ p b. cond (within lo hi b) (f b) (fail 4 o))
+      (λ p b m. cond-tells P end (within lo hi b) (f b) (fail 4 o) (k b) (λ c at s l. (four, h)))
+
   continued-tells : (o n lo hi : ℕ) → o ≤ end → Tells {C = C} {I = I} P end (continued o n lo hi)
   continued-tells o zero lo hi h c at s l = omega arith
   continued-tells o (suc n) lo hi h c at s l =
-      byte-tells P end two (λ p b. cond (within lo hi b) (mapped (λ cs. b ∷ cs) (continued o n 0x80 0xc0)) (fail 4 o))
-      (λ p b k. cond-tells P end (within lo hi b) (mapped (λ cs. b ∷ cs) (continued o n 0x80 0xc0)) (fail 4 o)
-      (mapped-tells P end (λ cs. b ∷ cs) (continued o n 0x80 0xc0) (continued-tells o n 0x80 0xc0 h)) (λ c at s l. (four, h))) c at s l
+      ranged-tells o lo hi (λ b. mapped (λ cs. b ∷ cs) (continued o n 0x80 0xc0)) h
+      (λ b. mapped-tells P end (λ cs. b ∷ cs) (continued o n 0x80 0xc0) (continued-tells o n 0x80 0xc0 h)) c at s l
+
+  pair-tells : (o d : ℕ) → o ≤ end → Tells {C = C} {I = I} P end (pairOf o d)
+  pair-tells o d h =
+      ranged-tells o 0x80 0xc0 (lowOf o d) h (λ x.
+      ranged-tells o 0xed 0xee _ h (λ e.
+      ranged-tells o 0xb0 0xc0 _ h (λ y.
+      ranged-tells o 0x80 0xc0 (λ z. give (paired d x y z)) h (λ z c at s l. omega arith))))
+
+  chained-tells : (front : List ℕ) (f g : Read C I (List ℕ)) → Tells P end f → Tells P end g
+      → Tells P end (chained front f g)
+  chained-tells front f g h k = bind-tells P end f (λ cs. mapped (λ ds. front ++ (cs ++ ds)) g) h
+      (λ cs. mapped-tells P end (λ ds. front ++ (cs ++ ds)) g k)
 
   abbrev TellsSome : Option (Read C I (List ℕ)) → Type 0
   TellsSome none = Unit {0}
   TellsSome (some g) = Tells P end g
 
-  joined-tells : (o n lo hi b : ℕ) (f : Read C I (List ℕ)) → o ≤ end → Tells P end f → Tells P end (bind (continued o n lo hi) (λ cs. mapped (λ ds. b ∷ (cs ++ ds)) f))
-  joined-tells o n lo hi b f m h = bind-tells P end (continued o n lo hi) (λ cs. mapped (λ ds. b ∷ (cs ++ ds)) f) (continued-tells o n lo hi m) (λ cs. mapped-tells P end (λ ds. b ∷ (cs ++ ds)) f h)
+  high-tells : (p d : ℕ) (g : Option (Read C I (List ℕ))) → p ≤ end → TellsSome g → Tells P end (pairThen p d g)
+  high-tells p d none m i = λ c at s l. (four, m)
+  high-tells p d (some g) m i = chained-tells [] (pairOf p d) g (pair-tells p d m) i
 
-  character-tells : (x : CharLead) (f : Read C I (List ℕ)) (g : Option (Read C I (List ℕ))) → Tells P end f → TellsSome g → TellsFrom P end (character x f g)
-  character-tells (Basic k lo hi) f g h i p b m c at s l = joined-tells p k lo hi b f m h c at s l
-  character-tells (Supplementary lo hi) f none h i p b m c at s l = (four, m)
-  character-tells (Supplementary lo hi) f (some g) h i p b m c at s l = joined-tells p 3 lo hi b g m i c at s l
-  character-tells NoChar f g h i p b m c at s l = (four, m)
+  character-tells : (x : CharLead) (f : Read C I (List ℕ)) (g : Option (Read C I (List ℕ))) → Tells P end f
+      → TellsSome g → TellsFrom P end (character x f g)
+  character-tells (Basic k lo hi) f g h i p b m =
+      chained-tells (b ∷ []) (continued p k lo hi) f (continued-tells p k lo hi m) h
+  character-tells (Supplementary lo hi) f none h i p b m = λ c at s l. (four, m)
+  character-tells (Supplementary lo hi) f (some g) h i p b m =
+      chained-tells (b ∷ []) (continued p 3 lo hi) g (continued-tells p 3 lo hi m) i
+  character-tells Halved f g h i p b m = byte-tells P end two (bySecond f g p b) (λ q d n.
+      cond-tells P end (within 0x80 0xa0 d) (chained (b ∷ d ∷ []) (continued p 1 0x80 0xc0) f) _
+      (chained-tells (b ∷ d ∷ []) (continued p 1 0x80 0xc0) f (continued-tells p 1 0x80 0xc0 m) h)
+      (cond-tells P end (within 0xa0 0xb0 d) (pairThen p d g) (fail 4 p)
+      (high-tells p d g m i) (λ c at s l. (four, m))))
+  character-tells NoChar f g h i p b m = λ c at s l. (four, m)
 
   characters-tell : (n : ℕ) → Tells {C = C} {I = I} P end (characters n)
   characters-tell zero c at s l = omega arith
@@ -65,7 +93,7 @@ module _ (C I : Type 0) (P : ℕ → Type 0) (end : ℕ) (two : P 2) (three : P 
   octets-tell zero c at s l = omega arith
   octets-tell (suc n) c at s l = byte-tells P end two (λ p b. mapped (λ cs. b ∷ cs) (octets n)) (λ p b h. mapped-tells P end (λ cs. b ∷ cs) (octets n) (octets-tell n)) c at s l
 
-  body-tells : (k : Kind) (n : ℕ) → Tells {C = C} {I = I} P end (body k n)
+  pub body-tells : (k : Kind) (n : ℕ) → Tells {C = C} {I = I} P end (body k n)
   body-tells Binary n = octets-tell n
   body-tells Utf8 n = characters-tell n
 

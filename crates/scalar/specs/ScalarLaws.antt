@@ -10,7 +10,7 @@ use lib.IntN.{pos}
 use borrow.Author.Tests.{le-leb}
 use lib.ListN.{length}
 use Rattle.flow.specs.Tests.{by-test, pass, every, every-at, implies, implied, within-yes, First}
-use Rattle.flow.specs.Flow.{pick, Bytes, Read, From, Fault, mapped}
+use Rattle.flow.specs.Flow.{pick, Bytes, Read, Fault, mapped}
 use Rattle.flow.specs.Laws.{Parsed, maps, Quiet, quiet, quietly, Makes, map-makes, Leads}
 use Rattle.scalar.specs.declared.Sort.{Sort}
 use Rattle.scalar.specs.declared.Sort.the-variants as sort
@@ -91,8 +91,8 @@ part-begins k (b ∷ h) rest t = go (inside (partHead k) b) t
     go false t = absurd t
 
 string-begins : {k : Kind} {w cs : List ℕ} → String k w cs → First (λ b. T (begins (partHead k ∷ lastHeads k) b)) w
-string-begins {k} (last-chunk {h = h} {cs = cs} y r) = heads-begin k h cs (number-begins y)
-string-begins {k} (chunk-before {h = h} {cs = cs} {v = v} y r x) = part-begins k h (cs ++ v) (number-begins y)
+string-begins {k} (last-chunk {h = h} {w = w} y r) = heads-begin k h w (number-begins y)
+string-begins {k} (chunk-before {h = h} {w = w} {v = v} y r x) = part-begins k h (w ++ v) (number-begins y)
 
 -- a form of a scalar is bytes
 pub int-bytes : {w : List ℕ} {v : ℕ} → Int w v → Bytes w

@@ -3,12 +3,14 @@ use mathlib.Core.{Bool.Bool, Bool.true, Bool.false, Bool.cond, Bool._&&_, List.L
 use Prim.Native.Nat.{ℕ, zero, suc, _+_, _*_, _-_, _/_, _%_, _^_, min}
 use lib.{Dec.ltb, Dec.eqb, ListN.length, ListN.take, ListN.drop, Count.leadingZeros, Pow.areBytes, IntN.ℤ, IntN.pos, IntN.negsuc, IntN._-ℤ_, IntN._*ℤ_}
 use mir.{Syntax.w8, Syntax.w16, Syntax.w32, Syntax.w64, Val.ofZ, Val.toZ}
-use Rattle.flow.specs.Flow.{pick, within, Outcome, Done, Fault, Read, From, One, give, fail, byteAt, mapped, bind}
+use Rattle.flow.specs.Flow.{pick, within, sameList, Outcome, Done, Fault, Read, From, One}
+use Rattle.flow.specs.Flow.{give, fail, byteAt, mapped, bind}
 use Rattle.wire.specs.BigEndian.{be, high, wider}
 use Rattle.scalar.specs.declared.{Sort.Sort, Rule.Rule, Begun.Begun, Begun.the-variants.Starts, Begun.the-variants.NoForm, Kind.Kind, Kind.the-variants.Utf8, Kind.the-variants.Binary}
 use Rattle.scalar.specs.declared.Sort.the-variants.{Null, False, True, Int, Long, Double, Date}
 use Rattle.scalar.specs.declared.Rule.the-variants.{Exactly, Plain, Offset, Signed, Minutes, WholeByte, WholePair, Float}
-use Rattle.scalar.specs.declared.CharLead.{CharLead, the-variants.Basic, the-variants.Supplementary, the-variants.NoChar}
+use Rattle.scalar.specs.declared.CharLead.{CharLead}
+use Rattle.scalar.specs.declared.CharLead.the-variants.{Basic, Supplementary, Halved, NoChar}
 use Rattle.scalar.specs.Guesses.{guess}
 
 -- ---- doubles by their 64 bits: a sign, 11 bits of exponent, 52 of fraction
@@ -94,7 +96,8 @@ unfoldable pub shortest : List Form → ℕ → Option (List ℕ)
 shortest [] v = none
 shortest (w ∷ ws) v = cond (fits w v) (some (spelling w (guess (w .rule) v))) (shortest ws v)
 
--- ---- texts and byte strings: chunks, each with its length before it. A text's length counts UTF-16 units, a byte string's bytes
+-- ---- texts and byte strings: chunks, each with its length before it. A text's length counts UTF-16 units, a byte
+-- string's bytes
 unfoldable pub partHead : Kind → Form  -- the head of a chunk that is not the last: its code and length
 partHead Utf8 = form 0x52 1 2 Plain
 partHead Binary = form 0x41 1 2 Plain
@@ -103,21 +106,34 @@ unfoldable pub lastHeads : Kind → List Form  -- the heads of the last chunk, t
 lastHeads Utf8 = form 0x00 32 0 Plain ∷ form 0x30 4 1 Plain ∷ form 0x53 1 2 Plain ∷ []
 lastHeads Binary = form 0x20 16 0 Plain ∷ form 0x34 4 1 Plain ∷ form 0x42 1 2 Plain ∷ []
 
--- well-formed UTF-8, by the first byte: Unicode's table of byte sequences, row by row
+-- well-formed UTF-8, by the first byte: Unicode's table of byte sequences, row by row. After ed the second byte
+-- decides, since halves begin with ed as well: `bySecond`
 unfoldable pub charLead : ℕ → CharLead
 charLead b =
     pick (within 0x00 0x80 b) (Basic 0 0 0)
     (pick (within 0xc2 0xe0 b) (Basic 1 0x80 0xc0)
     (pick (within 0xe0 0xe1 b) (Basic 2 0xa0 0xc0)
     (pick (within 0xe1 0xed b) (Basic 2 0x80 0xc0)
-    (pick (within 0xed 0xee b) (Basic 2 0x80 0xa0)
+    (pick (within 0xed 0xee b) Halved
     (pick (within 0xee 0xf0 b) (Basic 2 0x80 0xc0)
     (pick (within 0xf0 0xf1 b) (Supplementary 0x90 0xc0)
     (pick (within 0xf1 0xf4 b) (Supplementary 0x80 0xc0)
     (pick (within 0xf4 0xf5 b) (Supplementary 0x80 0x90)
     NoChar))))))))
 
--- what a content's byte adds to its length: in a text a character's first byte one unit, or two for a supplementary one; in a byte string one
+-- 2026-04: the character of the halves ed d x and ed y z, in four bytes. Its code point has 21 bits: the five of
+-- d % 16 + 1 (the 1 is the 0x10000 of Unicode's formula), six of x, four of y, six of z; the bytes hold three, six, six
+-- and six of them. That this is Unicode's formula, and one to one: Pairs.antt
+unfoldable pub paired : ℕ → ℕ → ℕ → ℕ → List ℕ
+paired d x y z =
+    (0xf0 + (d % 16 + 1) / 4)
+    ∷ (0x80 + (d % 16 + 1) % 4 * 16 + x % 64 / 4)
+    ∷ (0x80 + x % 4 * 16 + y % 16)
+    ∷ (0x80 + z % 64)
+    ∷ []
+
+-- what a content's byte adds to its length: in a text a character's first byte one unit, or two if supplementary; in a
+-- byte string one
 abbrev pub weight : Kind → ℕ → ℕ
 weight Binary b = 1
 weight Utf8 b = cond (within 0x80 0xc0 b) 0 (cond (ltb b 0xf0) 1 2)
@@ -131,21 +147,62 @@ units k cs = total (map (weight k) cs)
 
 -- ---- reading: the result is the content, the chunks joined
 module _ {C I : Type 0} where
-  abbrev pub continued : ℕ → ℕ → ℕ → ℕ → Read C I (List ℕ)  -- n bytes more of the character at o, the first from lo to below hi; else refusal 4 at o
-  continued o zero lo hi c at s = give [] c at s
-  continued o (suc n) lo hi c at s = byteAt (λ p b. cond (within lo hi b) (mapped (λ cs. b ∷ cs) (continued o n 0x80 0xc0)) (fail 4 o)) c at s
+  -- a byte of the character at o, from lo to below hi, and then f by it; any other byte is refusal 4 at o
+  abbrev pub ranged : {A : Type 0} → ℕ → ℕ → ℕ → (ℕ → Read C I A) → Read C I A
+  ranged o lo hi f = byteAt (λ p b. cond (within lo hi b) (f b) (fail 4 o))
 
-  -- a character after its first byte b, at p, and then f where it counts one unit, g where it counts two; no g: one unit is left
+  -- n bytes more of the character at o, the first from lo to below hi, the others from 80 to bf
+  abbrev pub continued : ℕ → ℕ → ℕ → ℕ → Read C I (List ℕ)
+  continued o zero lo hi c at s = give [] c at s
+  continued o (suc n) lo hi c at s = ranged o lo hi (λ b. mapped (λ cs. b ∷ cs) (continued o n 0x80 0xc0)) c at s
+
+  -- the bytes `front`, which are read already, then what f reads, then what g reads, as one list
+  abbrev pub chained : List ℕ → Read C I (List ℕ) → Read C I (List ℕ) → Read C I (List ℕ)
+  chained front f g = bind f (λ cs. mapped (λ ds. front ++ (cs ++ ds)) g)
+
+  -- after the high half ed d x at the place o, a low half: ed, b0..bf, 80..bf. The result is the one character. Another
+  -- byte is refusal 4 at o: the high half is lone, or the pair, which is one character, is ill-formed
+  abbrev pub lowOf : ℕ → ℕ → ℕ → Read C I (List ℕ)
+  lowOf o d x =
+      ranged o 0xed 0xee (λ e.
+      ranged o 0xb0 0xc0 (λ y.
+      ranged o 0x80 0xc0 (λ z. give (paired d x y z))))
+
+  -- after the first two bytes, ed and d, of a high half at the place o: its third, 80..bf, and the low half
+  abbrev pub pairOf : ℕ → ℕ → Read C I (List ℕ)
+  pairOf o d = ranged o 0x80 0xc0 (λ x. lowOf o d x)
+
+  -- 'A high half followed directly, in the same chunk, by a low half shall be read as the one character, two units':
+  -- then g. 'A high half with one unit left in its chunk is such a lone half': there is no g, and no byte more is read
+  abbrev pub pairThen : ℕ → ℕ → Option (Read C I (List ℕ)) → Read C I (List ℕ)
+  pairThen o d none = fail 4 o
+  pairThen o d (some g) = chained [] (pairOf o d) g
+
+  -- 'A half is known by its second byte': after the byte b = ed at the place p, by the next byte d
+  --   80..9f  a character of three bytes, one unit; then f
+  --   a0..af  a high half
+  --   b0..bf  a low half that follows no high half, so a lone one: refusal 4 at p, its first byte
+  --   others  continue no character: refusal 4 at p
+  abbrev pub bySecond : Read C I (List ℕ) → Option (Read C I (List ℕ)) → ℕ → ℕ → From C I (List ℕ)
+  bySecond f g p b q d =
+      cond (within 0x80 0xa0 d) (chained (b ∷ d ∷ []) (continued p 1 0x80 0xc0) f)
+      (cond (within 0xa0 0xb0 d) (pairThen p d g)
+      (fail 4 p))
+
+  -- a character after its first byte b, at p, then f where it counts one unit, g where it counts two; no g: one unit is
+  -- left
   abbrev pub character : CharLead → Read C I (List ℕ) → Option (Read C I (List ℕ)) → From C I (List ℕ)
-  character (Basic k lo hi) f g p b c at s = bind (continued p k lo hi) (λ cs. mapped (λ ds. b ∷ (cs ++ ds)) f) c at s
+  character (Basic k lo hi) f g p b c at s = chained (b ∷ []) (continued p k lo hi) f c at s
   character (Supplementary lo hi) f none p b c at s = fail 4 p c at s
-  character (Supplementary lo hi) f (some g) p b c at s = bind (continued p 3 lo hi) (λ cs. mapped (λ ds. b ∷ (cs ++ ds)) g) c at s
+  character (Supplementary lo hi) f (some g) p b c at s = chained (b ∷ []) (continued p 3 lo hi) g c at s
+  character Halved f g p b c at s = byteAt (bySecond f g p b) c at s
   character NoChar f g p b c at s = fail 4 p c at s
 
   abbrev pub characters : ℕ → Read C I (List ℕ)  -- characters of n units
   characters zero c at s = give [] c at s
   characters (suc zero) c at s = byteAt (λ p b. character (charLead b) (characters zero) none p b) c at s
-  characters (suc (suc n)) c at s = byteAt (λ p b. character (charLead b) (characters (suc n)) (some (characters n)) p b) c at s
+  characters (suc (suc n)) c at s =
+      byteAt (λ p b. character (charLead b) (characters (suc n)) (some (characters n)) p b) c at s
 
   abbrev pub octets : ℕ → Read C I (List ℕ)  -- n bytes
   octets zero c at s = give [] c at s
@@ -155,7 +212,8 @@ module _ {C I : Type 0} where
   body Binary n = octets n
   body Utf8 n = characters n
 
-  abbrev pub chunk : Kind → Read C I (List ℕ) → From C I (List ℕ)  -- after its first byte b, at p; `next` reads the chunks after it, if it is not the last
+  -- a chunk after its first byte b, at p; `next` reads the chunks after it, if it is not the last
+  abbrev pub chunk : Kind → Read C I (List ℕ) → From C I (List ℕ)
   chunk k next p b = cond (inside (partHead k) b)
       (bind (numberFrom (partHead k ∷ []) p b) (λ n. bind (body k n) (λ cs. mapped (λ ds. cs ++ ds) next)))
       (bind (numberFrom (lastHeads k) p b) (body k))
@@ -167,7 +225,8 @@ module _ {C I : Type 0} where
   unfoldable pub stringFrom : Kind → From C I (List ℕ)  -- a text or byte string, whose first byte is b, at p
   stringFrom k p b c at s = chunk k (chunks k (length s)) p b c at s
 
--- what stands at the place p of the message m, read as a text or as a byte string: its content. A place past the end is the end
+-- what stands at the place p of the message m, read as a text or as a byte string: its content. A place past the end is
+-- the end
 unfoldable pub stringAt : Kind → List ℕ → ℕ → Outcome One One (List ℕ)
 stringAt k m p = byteAt (stringFrom k) tt (min p (length m)) (drop p m)
 
@@ -175,7 +234,8 @@ stringAt k m p = byteAt (stringFrom k) tt (min p (length m)) (drop p m)
 unfoldable pub longest : ℕ  -- the longest chunk
 longest = 65_535
 
--- how many bytes of these weights fit cap units: whole characters, since the bytes after a character's first weigh nothing
+-- how many bytes of these weights fit cap units: whole characters, since the bytes after a character's first weigh
+-- nothing
 abbrev pub span : ℕ → List ℕ → ℕ
 span cap [] = 0
 span cap (u ∷ us) = cond (ltb cap u) 0 (suc (span (cap - u) us))
@@ -192,8 +252,13 @@ spelled k (suc f) cs =
     (shortestHead (partHead k ∷ []) (units k (take n cs)) ++ (take n cs ++ spelled k f (drop n cs)))
     (shortestHead (lastHeads k) (units k cs) ++ cs)
 
-unfoldable pub content : Kind → List ℕ → Bool  -- cs is a content: bytes, which are characters in a text
-content k cs = areBytes cs && elim (body {C = One} {I = One} k (units k cs) tt 0 cs) [ Done m ds es c ↦ eqb m (length cs) | Fault y o ↦ false ]
+abbrev pub readsAs : List ℕ → Outcome One One (List ℕ) → Bool  -- something is read, and it is cs
+readsAs cs o = elim o [ Done m ds es c ↦ sameList ds cs | Fault x p ↦ false ]
+
+-- cs is a content: bytes that, read as a body of so many units as they count, are read as themselves. So in a text each
+-- character has one spelling: what has a pair of halves in it is read as other bytes, and is no content
+unfoldable pub content : Kind → List ℕ → Bool
+content k cs = areBytes cs && readsAs cs (body k (units k cs) tt 0 cs)
 
 unfoldable pub shortestString : Kind → List ℕ → Option (List ℕ)  -- the shortest form of a content, or none
 shortestString k cs = cond (content k cs) (some (spelled k (suc (length cs)) cs)) none

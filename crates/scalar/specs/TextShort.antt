@@ -1,36 +1,34 @@
 -- Texts and byte strings: no form is shorter than the spelling, and the spelling is a form.
-use mathlib.Core.Path.{_≡_, refl, sym, _∙_, ap, subst}
+use mathlib.Core.Path.{_≡_, refl, sym, _∙_, ap}
 use mathlib.Core.List.{List, [], _∷_, _++_, append-assoc, append-nil}
 use mathlib.Core.Option.{Option, none, some}
 use Prim.Native.Nat.{ℕ, zero, suc, _+_, _-_, _≤_, _<_, min}
 use native.Mathlib.Omega.{arith}
-use mathlib.Core.Bool.{Bool, false}
-use lib.Dec.{T, ltb, eqb, eqb→eq, eqb-refl, ltb→lt, nltb→le, lt→ltb}
+use lib.Dec.{T, ltb, ltb→lt, nltb→le, lt→ltb}
 use lib.Pow.{areBytes}
 use lib.ListN.{length, take, drop, length-append, length-drop, take-append-drop, length-map}
-use lib.Seq.{take-append-seam, drop-append-seam, take-length}
-use Rattle.flow.specs.Tests.{by-test, pass, skip, tests, split, and-left, and-right, and-both}
-use Rattle.flow.specs.Flow.{Bytes, One, Done, Fault, items}
+use lib.Seq.{take-append-seam, drop-append-seam}
+use Rattle.flow.specs.Tests.{by-test, pass, skip, tests, split, and-left, and-right, and-both, same-refl, same-eq}
+use Rattle.flow.specs.Flow.{Bytes, One, Done, Fault}
 use Rattle.flow.specs.Steps.{Answer}
 use Rattle.flow.specs.Laws.{Parsed, quiet}
 use Rattle.wire.specs.BigEndian.{high}
 use Rattle.scalar.specs.declared.Rule.the-variants.{Plain}
 use Rattle.scalar.specs.declared.Kind.{Kind}
 use Rattle.scalar.specs.declared.Kind.the-variants.{Utf8, Binary}
-use Rattle.scalar.specs.Scalars.{value, Form, form, shortest, partHead, lastHeads, weight, units, body, longest, span, shortestHead, spelled, content, shortestString}
-use Rattle.scalar.specs.Grammar.{Held, Number, here, later, Body, empty, with-char, String, last-chunk, chunk-before}
+use Rattle.scalar.specs.Scalars.{value, Form, form, shortest, partHead, lastHeads, weight, units, body}
+use Rattle.scalar.specs.Scalars.{longest, span, shortestHead, spelled, readsAs, content, shortestString}
+use Rattle.scalar.specs.Grammar.{Held, Number, here, later, String, last-chunk, chunk-before}
 use Rattle.scalar.specs.Guesses.{guess}
 use Rattle.scalar.specs.NumberLaws.{number-fact, Sane, Sanes, number-short, shortest-is, IsNumber, held-by, spelling-length}
-use Rattle.scalar.specs.TextUnits.{weights, weights-chars, weights-append, body-units, body-bytes, body-cut}
+use Rattle.scalar.specs.TextUnits.{weights, weights-chars, weights-append}
+use Rattle.scalar.specs.TextUnits.{Content, no-chars, more-chars, content-units, content-counted, content-bytes}
+use Rattle.scalar.specs.TextUnits.{content-body, content-cut, body-content, body-units, body-length}
 use Rattle.scalar.specs.TextLaws.{body-read, body-make, Whole}
 use Rattle.scalar.specs.Greedy.{best, chunk-more, shorter, span-fits}
 
 abbrev pub orEmpty : Option (List ℕ) → List ℕ
 orEmpty o = elim o [ none ↦ [] | some w ↦ w ]
-
--- all of n bytes are read
-abbrev pub allOf : ℕ → Answer (List ℕ) → Bool
-allOf n x = elim x [ Done m ds es c ↦ eqb m n | Fault y o ↦ false ]
 
 -- ---- heads: the last chunk's takes one byte up to `shortTo` units, two up to 1,023, three up to 65,535; another's takes three
 abbrev shortTo : Kind → ℕ
@@ -140,15 +138,16 @@ part-price k f cs ds l h =
     e = rw (weights-append, drop-append-seam) refl
 
 string-priced : {k : Kind} {w cs : List ℕ} → String k w cs → (f : ℕ) → length cs < f → price k f cs + length cs ≤ length w
-string-priced {k} (last-chunk {n = n} {h = h} {cs = cs} y r) f l =
+string-priced {k} (last-chunk {n = n} {h = h} {w = w} {cs = cs} y r) f l =
     let p = last-head k y in
     let e = body-units r in
-    rw (last-price k f cs l (omega arith), e) (omega (arith, length-append h cs))
-string-priced {k} (chunk-before {n = n} {h = h} {cs = cs} {v = v} {ds = ds} y r x) f l =
+    rw (last-price k f cs l (omega arith), e) (omega (arith, length-append h w, body-length r))
+string-priced {k} (chunk-before {n = n} {h = h} {w = w} {cs = cs} {v = v} {ds = ds} y r x) f l =
     let p = part-head k y in
     let e = body-units r in
     let q = string-priced x f (omega (arith, length-append cs ds)) in
-    omega (arith, length-append h (cs ++ v), length-append cs v, length-append cs ds, part-price k f cs ds l (omega arith))
+    let m = part-price k f cs ds l (omega arith) in
+    omega (arith, length-append h (w ++ v), length-append w v, length-append cs ds, body-length r)
 
 -- ---- the spelling: its length, and that it is a form
 pub longest-is : longest ≡ 65535
@@ -180,21 +179,21 @@ module _ (k : Kind) (cs : List ℕ) (h : 65535 < units k cs) where
 abbrev Spelt : Kind → ℕ → List ℕ → List ℕ → Type 0
 Spelt k f cs w = String k w cs × (length w ≤ price k f cs + length cs)
 
-spelled-is : (k : Kind) (f : ℕ) {n : ℕ} {cs : List ℕ} → Body k n cs → length cs < f → Spelt k f cs (spelled k f cs)
+spelled-is : (k : Kind) (f : ℕ) {n : ℕ} {cs : List ℕ} → Content k n cs → length cs < f → Spelt k f cs (spelled k f cs)
 spelled-is k zero r l = absurd (omega arith)
 spelled-is k (suc f) {n} {cs} r l = by-test (Spelt k (suc f) cs) (ltb longest (units k cs))
     (λ t. long (rw longest-is at (ltb→lt longest (units k cs) t)) (λ m ds x i. spelled-is k f x i))
     (λ t. short (rw longest-is at (nltb→le longest (units k cs) t)))
   where
-    long : 65535 < units k cs → ((m : ℕ) (ds : List ℕ) → Body k m ds → length ds < f → Spelt k f ds (spelled k f ds))
+    long : 65535 < units k cs → ((m : ℕ) (ds : List ℕ) → Content k m ds → length ds < f → Spelt k f ds (spelled k f ds))
         → Spelt k (suc f) cs (shortestHead (partHead k ∷ []) (units k (take (span longest (weights k cs)) cs)) ++ (take (span longest (weights k cs)) cs ++ spelled k f (drop (span longest (weights k cs)) cs)))
     long h ih =
         let j = span longest (weights k cs) in
-        let c = body-cut r longest in
+        let c = content-cut r longest in
         let a = head-is (partHead k ∷ []) (units k (take (span longest (weights k cs)) cs)) 3 (part-sane k) (part-some k (units k (take (span longest (weights k cs)) cs)) (front-fits k cs h)) in
         let z = ih (units k (drop (span longest (weights k cs)) cs)) (drop (span longest (weights k cs)) cs) (c .1) (rest-shorter k cs h f l) in
         let e = take-append-drop (span longest (weights k cs)) cs in (
-          rw e at (chunk-before (a .0) (c .0) (z .0)),
+          rw e at (chunk-before (a .0) (content-body (c .0)) (z .0)),
           rw (long-price k cs h f, length-append, length-append)
               (omega (arith, a .1, z .1, sym (length-append (take (span longest (weights k cs)) cs) (drop (span longest (weights k cs)) cs)) ∙ ap length e)),
         )
@@ -202,20 +201,20 @@ spelled-is k (suc f) {n} {cs} r l = by-test (Spelt k (suc f) cs) (ltb longest (u
     short : units k cs ≤ 65535 → Spelt k (suc f) cs (shortestHead (lastHeads k) (units k cs) ++ cs)
     short h =
         let a = head-is (lastHeads k) (units k cs) (last k (units k cs)) (last-sane k) (last-some k (units k cs) h) in
-        (last-chunk (a .0) (subst (λ (m : ℕ). Body k m cs) (sym (body-units r)) r), rw (last-price k (suc f) cs l h, length-append) (omega (arith, a .1)))
+        let p = last-price k (suc f) cs l h in
+        (last-chunk (a .0) (content-body (content-counted r)), rw (p, length-append) (omega (arith, a .1)))
 
 -- ---- contents
-body-append : {k : Kind} {n m : ℕ} {cs ds : List ℕ} → Body k n cs → Body k m ds → Body k (units k (cs ++ ds)) (cs ++ ds)
-body-append {k} {ds = ds} empty r = subst (λ (i : ℕ). Body k i ds) (sym (body-units r)) r
-body-append {k} {ds = ds} (with-char {u = u} {w = w} {v = v} x q) r =
-    let z = with-char x (body-append q r) in
-    let e = append-assoc w v ds in
-    rw e (subst (λ (i : ℕ). Body k i (w ++ (v ++ ds))) (sym (body-units z)) z)
+content-append : {k : Kind} {n m : ℕ} {cs ds : List ℕ} → Content k n cs → Content k m ds
+    → Content k (units k (cs ++ ds)) (cs ++ ds)
+content-append no-chars r = content-counted r
+content-append {ds = ds} (more-chars {w = w} {v = v} x q) r =
+    rw (append-assoc w v ds) (content-counted (more-chars x (content-append q r)))
 
 -- what a string holds is a content
-pub string-body : {k : Kind} {w cs : List ℕ} → String k w cs → Body k (units k cs) cs
-string-body {k} (last-chunk {cs = cs} y r) = subst (λ (i : ℕ). Body k i cs) (sym (body-units r)) r
-string-body (chunk-before y r x) = body-append r (string-body x)
+string-content : {k : Kind} {w cs : List ℕ} → String k w cs → Content k (units k cs) cs
+string-content (last-chunk y r) = content-counted (body-content r)
+string-content (chunk-before y r x) = content-append (body-content r) (string-content x)
 
 are-bytes : (cs : List ℕ) → Bytes cs → T (areBytes cs)
 are-bytes [] h = tt
@@ -225,34 +224,39 @@ bytes-are : (cs : List ℕ) → T (areBytes cs) → Bytes cs
 bytes-are [] h = tt
 bytes-are (b ∷ cs) h = (ltb→lt b 256 (and-left (ltb b 256) (areBytes cs) h), bytes-are cs (and-right (ltb b 256) (areBytes cs) h))
 
-pub body-content : {k : Kind} {n : ℕ} {cs : List ℕ} → Body k n cs → T (content k cs)
+-- `content` accepts exactly characters as they are
+pub content-passes : {k : Kind} {n : ℕ} {cs : List ℕ} → Content k n cs → T (content k cs)
 unfolding content
-body-content {k} {n} {cs} r =
-    let q = body-make One k r (tt {0}) .makes 0 [] in
+content-passes {k} {n} {cs} r =
+    let q = body-make One k (content-body r) (tt {0}) .makes 0 [] in
     let e : body k n tt 0 cs ≡ Done (length cs) cs (q .0) tt = rw append-nil at (q .1) in
-    and-both (areBytes cs) (allOf (length cs) (body k (units k cs) tt 0 cs)) (are-bytes cs (body-bytes r)) (rw (body-units r, e) (eqb-refl (length cs)))
+    and-both (areBytes cs) (readsAs cs (body k (units k cs) tt 0 cs)) (are-bytes cs (content-bytes r))
+    (rw (content-units r, e) (same-refl cs))
 
-pub content-body : (k : Kind) (cs : List ℕ) → T (content k cs) → Body k (units k cs) cs
+pub content-is : (k : Kind) (cs : List ℕ) → T (content k cs) → Content k (units k cs) cs
 unfolding content
-content-body k cs t =
-    let b = bytes-are cs (and-left (areBytes cs) (allOf (length cs) (body k (units k cs) tt 0 cs)) t) in
-    go (body k (units k cs) tt 0 cs) (body-read One k (units k cs) (tt {0}) 0 cs b) (and-right (areBytes cs) (allOf (length cs) (body k (units k cs) tt 0 cs)) t)
+content-is k cs t =
+    let o = body {I = One} k (units k cs) (tt {0}) 0 cs in
+    let b = bytes-are cs (and-left (areBytes cs) (readsAs cs o) t) in
+    go o (body-read One k (units k cs) (tt {0}) 0 cs b) (and-right (areBytes cs) (readsAs cs o) t)
   where
-    -- what is read of all of cs is a body
-    all : (w ds : List ℕ) (is : List One) (c : One) → Whole One k (units k cs) (tt {0}) w ds is c → w ≡ cs → Body k (units k cs) cs
-    all w ds is c (quiet x) e = subst (λ (z : List ℕ). Body k (units k cs) z) (sym (x .0) ∙ e) (x .1)
+    holds : {w ds : List ℕ} {is : List One} {c : One} → Whole One k (units k cs) (tt {0}) w ds is c → ds ≡ cs
+        → Content k (units k cs) cs
+    holds (quiet x) e = rw e at (body-content x)
 
-    go : (o : Answer (List ℕ)) → Parsed {I = One} (Whole One k (units k cs) (tt {0})) cs o → T (allOf (length cs) o) → Body k (units k cs) cs
-    go (Done m ds es c) p t = let e = eqb→eq m (length cs) t in all (take m cs) ds (items es) c (p .1) (ap (λ (j : ℕ). take j cs) e ∙ take-length cs)
+    go : (o : Answer (List ℕ)) → Parsed {I = One} (Whole One k (units k cs) (tt {0})) cs o → T (readsAs cs o)
+        → Content k (units k cs) cs
+    go (Done m ds es c) p t = holds (p .1) (same-eq ds cs t)
     go (Fault x o) p t = absurd t
 
 -- ---- no form of a text or byte string is shorter than its spelling, and the spelling is a form
 pub string-short : {k : Kind} {w cs : List ℕ} → String k w cs → (b : List ℕ) × (shortestString k cs ≡ some b) × (length b ≤ length w)
 unfolding shortestString
 string-short {k} {w} {cs} x =
-    let r = string-body x in
+    let r = string-content x in
     let z = spelled-is k (suc (length cs)) r (omega arith) in
-    (spelled k (suc (length cs)) cs, pass (content k cs) _ _ (body-content r) refl, omega (arith, z .1, string-priced x (suc (length cs)) (omega arith)))
+    let l = string-priced x (suc (length cs)) (omega arith) in
+    (spelled k (suc (length cs)) cs, pass (content k cs) _ _ (content-passes r) refl, omega (arith, z .1))
 
 abbrev pub IsString : Kind → List ℕ → Option (List ℕ) → Type 0
 IsString k cs none = Unit {0}
@@ -260,4 +264,5 @@ IsString k cs (some w) = String k w cs
 
 pub string-is : (k : Kind) (cs : List ℕ) → IsString k cs (shortestString k cs)
 unfolding shortestString
-string-is k cs = by-test (IsString k cs) (content k cs) (λ t. spelled-is k (suc (length cs)) (content-body k cs t) (omega arith) .0) (λ t. tt)
+string-is k cs = by-test (IsString k cs) (content k cs)
+    (λ t. spelled-is k (suc (length cs)) (content-is k cs t) (omega arith) .0) (λ t. tt)

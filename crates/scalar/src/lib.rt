@@ -60,10 +60,12 @@ pub enum Kind {
 }
 
 // A character's first byte: how many bytes follow, and from where to below where the first of those lies. A supplementary
-// character has three, and counts two units.
+// character has three, and counts two units. Halved is ed, after which the second byte tells a character of three bytes
+// from a half.
 pub enum CharLead {
     Basic { more: usize, from: u8, below: u8 },
     Supplementary { from: u8, below: u8 },
+    Halved,
     NoChar,
 }
 

@@ -34,9 +34,9 @@ use Rattle.scalar.specs.Bits.{content-length, string-few}
 use Rattle.scalar.specs.Answers.{Sizes, sized, sizes, measuredAt}
 use Rattle.texts.specs.Answers.{toldString, prefixed, ChunkMet, Joining}
 use Rattle.texts.specs.At.{string-ends}
-use Rattle.text_writer.specs.Cursor.{opens-chunk}
+use Rattle.text_writer.specs.Cursor.{opening, opens-chunk}
 use Rattle.scalar.specs.Answers.{itemForm, sizedForm}
-use Rattle.text_writer.specs.Writing.{contentOf, IsDone, Opens, laid, Item, FoundSays, FoundMet, Lays}
+use Rattle.text_writer.specs.Writing.{IsDone, Opens, laid, Item, FoundSays, FoundMet, Lays}
 use Rattle.texts.proofs.Strings.{chunk-says, joining-start, joining-last, joining-more}
 
 -- ---- one byte more of a run
@@ -229,12 +229,12 @@ module _ (k : Kind) (m : List ℕ) (p : ℕ) where
     pub find-refused : (y o : ℕ) → x ≡ chunk.Refused y o → FoundMet k m p Nothing
     find-refused y o e = missing (chunk-says t e)
 
-    module _ (h n u : ℕ) (a : Bool) (e : x ≡ chunk.Chunk h n u a) (l : p < length m) where
+    module _ (h n b u : ℕ) (a : Bool) (e : x ≡ chunk.Chunk h n b u a) (l : p < length m) where
       abbrev first : Cursor
-      first = record { here = p + h; left = n; last = a }
+      first = opening p h n b u a
 
       pub find-opens : Opens k m p first
-      find-opens = opens-chunk k m p h n u a (chunk-says t e)
+      find-opens = opens-chunk k m p h n b u a (chunk-says t e)
 
       module _ (f : Fits w64 (length m)) where
         pub find-head : Fits w64 (p + h)
@@ -249,11 +249,11 @@ module _ (k : Kind) (m : List ℕ) (p : ℕ) where
       none-before : (i : ℕ) → 0 + i ≡ i
       none-before i = omega arith
 
-      pub find-last : a ≡ true → FoundMet k m p (There first u n)
-      find-last d = item-there _ u n (rw (none-before u, none-before n) at (joining-last (joining-start k m p l) t h n u a e d)) first find-opens
+      pub find-last : a ≡ true → FoundMet k m p (There first u b)
+      find-last d = item-there _ u b (rw (none-before u, none-before b) at (joining-last (joining-start k m p l) t h n b u a e d)) first find-opens
 
-      pub find-on : a ≡ false → Joining k m p (p + (h + n)) u n
-      find-on d = rw (none-before u, none-before n) at (joining-more (joining-start k m p l) t h n u a e d)
+      pub find-on : a ≡ false → Joining k m p (p + (h + n)) u b
+      find-on d = rw (none-before u, none-before b) at (joining-more (joining-start k m p l) t h n b u a e d)
 
   -- more chunks follow, from q on: what is read there, behind what was read before it
   module _ (c : Cursor) (w : Opens k m p c) (q u b : ℕ) (j : Joining k m p q u b) (r : StringRead) (s : toldString r ≡ measuredAt k m q) where

@@ -25,12 +25,15 @@ be-under (suc k) a u l =
 
 -- one form: it holds u, or the next do
 module _ (a codes k u : ℕ) (ws : List Form) where
-  held-here : high k u < codes → a + codes ≤ 256 → shortestHead (form a codes k Plain ∷ ws) u ≡ be (suc k) (wider k a + u)
+  held-here : high k u < codes → a + codes ≤ 256
+      → shortestHead (form a codes k Plain ∷ ws) u ≡ be (suc k) (wider k a + u)
   unfolding shortest guess value
   held-here l h = ap orEmpty found
     where
       found : shortest (form a codes k Plain ∷ ws) u ≡ some (be (suc k) (wider k a + u))
-      found = rw (lt-ltb (high k u) codes l, eq-eqb u u refl) (ap {B = Option (List ℕ)} some (sym (be-under k a u (omega arith))))
+      found =
+          rw (lt-ltb (high k u) codes l, eq-eqb u u refl)
+          (ap {B = Option (List ℕ)} some (sym (be-under k a u (omega arith))))
 
   held-later : codes ≤ high k u → shortestHead (form a codes k Plain ∷ ws) u ≡ shortestHead ws u
   unfolding shortest guess value
@@ -44,12 +47,18 @@ module _ {k : Kind} {r : Heads} (h : HeadsOf k r) (u : ℕ) where
   last-one l = rw (h .last) (held-here (r .one) (r .few) 0 u _ l (h .bytes .0))
 
   pub last-two : r .few ≤ u → u < 1024 → shortestHead (lastHeads k) u ≡ be 2 (r .two * 256 + u)
-  last-two g l = rw (h .last) (held-later (r .one) (r .few) 0 u _ g ∙ held-here (r .two) 4 1 u _ (omega arith) (h .bytes .1) ∙ ap (be 2) (omega arith))
+  last-two g l =
+      let later = held-later (r .one) (r .few) 0 u _ g in
+      rw (h .last) (later ∙ held-here (r .two) 4 1 u _ (omega arith) (h .bytes .1) ∙ ap (be 2) (omega arith))
 
   pub last-three : r .few ≤ u → 1024 ≤ u → u < 65536 → shortestHead (lastHeads k) u ≡ be 3 (r .three * 65536 + u)
   last-three g f l =
       rw (h .last)
-      (held-later (r .one) (r .few) 0 u _ g ∙ held-later (r .two) 4 1 u _ (omega arith) ∙ held-here (r .three) 1 2 u _ (omega arith) (omega (arith, h .bytes .2)) ∙ ap (be 3) (omega arith))
+      (held-later (r .one) (r .few) 0 u _ g
+      ∙ held-later (r .two) 4 1 u _ (omega arith)
+      ∙ held-here (r .three) 1 2 u _ (omega arith) (omega (arith, h .bytes .2))
+      ∙ ap (be 3) (omega arith))
 
   pub part-three : u < 65536 → shortestHead (partHead k ∷ []) u ≡ be 3 (r .part * 65536 + u)
-  part-three l = rw (h .part) (held-here (r .part) 1 2 u _ (omega arith) (omega (arith, h .bytes .3)) ∙ ap (be 3) (omega arith))
+  part-three l =
+      rw (h .part) (held-here (r .part) 1 2 u _ (omega arith) (omega (arith, h .bytes .3)) ∙ ap (be 3) (omega arith))

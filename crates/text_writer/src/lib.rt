@@ -1,4 +1,4 @@
-// The shortest form of a text or byte string, from a place in a source: its length, and the form stored in a lent slice.
+// The shortest form of a text or byte string at a place of a source: its length, and the form stored in a lent slice.
 use scalar::Kind;
 use scalar::Written;
 use texts::ChunkRead;
@@ -6,23 +6,28 @@ use texts::StringRead;
 ghost use mathlib.Core.Path.{_≡_};
 ghost use mathlib.Core.List.{[], _∷_};
 ghost use Prim.Native.Nat.{_+_, _^_, _≤_, _<_, min};
-ghost use lib.ListN.{length, take, drop};
+ghost use lib.ListN.{length, getD, take, drop};
 ghost use Rattle.flow.specs.Flow.{stored};
+ghost use Rattle.scalar.specs.declared.Kind.the-variants as Kind;
 ghost use Rattle.scalar.specs.Scalars.{weight as weightOf, partHead, lastHeads, shortestHead};
-ghost use Rattle.scalar.specs.Answers.{report, reportOf, outputOf, lengthOf};
+ghost use Rattle.scalar.specs.Decoded.{pairIn};
+ghost use Rattle.scalar.specs.Answers.{report, reportOf, outputOf, lengthOf, itemForm, sizedForm};
 ghost use Rattle.texts.specs.Answers.{Joining};
-ghost use Rattle.scalar.specs.Answers.{itemForm, sizedForm};
-ghost use Rattle.text_writer.specs.Writing.{Opens, Going, rest as restOf, singlesAt, Spans, Copies, HeadsOf, laid as laidOf, Item, FoundMet, Lays};
+ghost use Rattle.text_writer.specs.Writing.{window, bytesLeft, Opens, Going, singlesAt, pairAt, NextMet};
+ghost use Rattle.text_writer.specs.Writing.{Copyable, CopyMet, HeadsOf, laid as laidOf, Item, FoundMet, Lays};
 
-// Where the content of a text or byte string goes on: the place of its next byte, the bytes left in that chunk, and whether the
-// chunk is the last.
+// Where the content of a text or byte string goes on: the place of its next byte, the bytes left in that chunk, those
+// bytes' units, whether the chunk is the last, and whether its bytes stand in the content as they are.
 pub struct Cursor {
     pub here: usize,
     pub left: usize,
+    pub units: usize,
     pub last: bool,
+    pub plain: bool,
 }
 
-// The codes of heads: of a last chunk's, of one byte, up to `few` units, of two and of three bytes; and of another chunk's.
+// The codes of heads: of a last chunk's, of one byte, up to `few` units, of two and of three bytes; and of another
+// chunk's.
 pub struct Heads {
     pub one: u64,
     pub few: usize,
@@ -31,8 +36,16 @@ pub struct Heads {
     pub part: u64,
 }
 
-// How far a chunk of the shortest form goes: its bytes and its units.
-pub struct Span {
+// Bytes of a chunk that are passed at once: how many, those that the content has for them, and their units.
+pub struct Piece {
+    pub size: usize,
+    pub bytes: usize,
+    pub units: usize,
+}
+
+// What is copied of a content: its bytes and its units, and the cursor after it.
+pub struct Copied {
+    pub next: Cursor,
     pub bytes: usize,
     pub units: usize,
 }
@@ -80,22 +93,28 @@ fn open(kind: Kind, source: &[u8], at: usize) -> Cursor
         } => Cursor {
             here: at,
             left: 0,
+            units: 0,
             last: true,
+            plain: true,
         },
         ChunkRead::Chunk {
             head: h,
             size,
-            units: _,
+            bytes,
+            units,
             last,
         } => Cursor {
             here: at + h,
             left: size,
+            units,
             last,
+            plain: size == bytes,
         },
     }
 }
 
-// How many bytes of the source from `at` on, up to `most`, weigh one unit each: those of ASCII, or any of a byte string.
+// How many bytes of the source from `at` on, up to `most`, weigh one unit each: those of ASCII, or any of a byte
+// string.
 fn singles(kind: Kind, source: &[u8], at: usize, most: usize) -> usize
     ensures { λ r. ⌜ r ≡ singlesAt kind (now (source .entry)) at most ⌝ }
 {
@@ -105,47 +124,32 @@ fn singles(kind: Kind, source: &[u8], at: usize, most: usize) -> usize
     }
 }
 
-// How many bytes from the cursor on fit `cap` units, and how many units they are.
-fn span_of(kind: Kind, source: &[u8], from: Cursor, cap: usize) -> Span
-    requires { ⌜ Going kind (now source) from ⌝ }
-    ensures { λ r. ⌜ Spans kind (restOf kind (now (source .entry)) from) cap r ⌝ }
+// Whether a pair of halves begins the bytes of a text that are left, as far as its first two bytes say.
+fn pair_here(source: &[u8], here: usize, left: usize) -> bool
+    requires { ⌜ here + left ≤ length (now source) ⌝ }
+    ensures { λ r. ⌜ r ≡ pairIn Kind.Utf8 (window (now (source .entry)) here left) ⌝ }
 {
-    let mut c = from;
-    let mut bytes: usize = 0;
-    let mut units: usize = 0;
-    loop {
-        let here = c.here;
-        let left = c.left;
-        let last = c.last;
-        if left == 0 {
-            if last {
-                return Span { bytes, units };
-            }
-            c = open(kind, source, here);
-        } else {
-            let n = singles(kind, source, here, least(left, cap - units));
-            if 0 < n {
-                bytes += n;
-                units += n;
-                c = Cursor {
-                    here: here + n,
-                    left: left - n,
-                    last,
-                };
-            } else {
-                let w = weight(kind, source[here]);
-                if cap - units < w {
-                    return Span { bytes, units };
-                }
-                bytes += 1;
-                units += w;
-                c = Cursor {
-                    here: here + 1,
-                    left: left - 1,
-                    last,
-                };
-            }
-        }
+    if left < 6 {
+        return false;
+    }
+    if source[here] != 0xed {
+        return false;
+    }
+    let d = source[here + 1];
+    if d < 0xa0 {
+        return false;
+    }
+    d < 0xb0
+}
+
+// The same in a chunk of this kind.
+fn pair_at(kind: Kind, source: &[u8], here: usize, left: usize) -> bool
+    requires { ⌜ here + left ≤ length (now source) ⌝ }
+    ensures { λ r. ⌜ r ≡ pairIn kind (window (now (source .entry)) here left) ⌝ }
+{
+    match kind {
+        Kind::Utf8 => pair_here(source, here, left),
+        Kind::Binary => false,
     }
 }
 
@@ -194,11 +198,14 @@ fn put_block(block: [u8; 4096], out: &mut [u8], to: usize)
     }
 }
 
-// The whole blocks of `count` bytes of the source from `from` on, in `out` from `to` on. How many bytes they are. A block goes
-// through an array of its own, which overlaps nothing, so that the compiler makes one move of it.
+// The whole blocks of `count` bytes of the source from `from` on, in `out` from `to` on. How many bytes they are. A
+// block goes through an array of its own, which overlaps nothing, so that the compiler makes one move of it.
 fn copy_blocks(source: &[u8], from: usize, count: usize, out: &mut [u8], to: usize) -> usize
     requires { ⌜ (from + count ≤ length (now source)) × (to + count ≤ length (now out)) ⌝ }
-    ensures { λ r. ⌜ (r ≤ count) × (now (out .exit) ≡ stored (now (out .entry)) to (take r (drop from (now (source .entry))))) ⌝ }
+    ensures { λ r. ⌜
+        (r ≤ count)
+        × (now (out .exit) ≡ stored (now (out .entry)) to (take r (drop from (now (source .entry)))))
+        ⌝ }
 {
     let mut i: usize = 0;
     while 4096 <= count - i {
@@ -225,33 +232,140 @@ fn copy_run(source: &[u8], from: usize, count: usize, out: &mut [u8], to: usize)
     copy_bytes(source, from + n, count - n, out, to + n);
 }
 
-// `count` bytes of the content from the cursor on, in `out` from `to` on, where they fit. The cursor after them.
-fn copy(kind: Kind, source: &[u8], from: Cursor, count: usize, out: &mut [u8], to: usize) -> Cursor
-    requires { ⌜ Going kind (now source) from × (count ≤ length (restOf kind (now source) from)) × (to + count < 2 ^ 64) ⌝ }
-    ensures { λ r. ⌜ Copies kind (now (source .entry)) from count (now (out .entry)) to (now (out .exit)) r ⌝ }
+// The character of the pair of halves at `here`, in `out` from `to` on, where its four bytes fit.
+fn put_pair(source: &[u8], here: usize, out: &mut [u8], to: usize)
+    requires { ⌜ here + 6 ≤ length (now source) ⌝ }
+    ensures { λ r. ⌜ now (out .exit) ≡ stored (now (out .entry)) to (pairAt (now (source .entry)) here) ⌝ }
 {
-    let mut c = from;
-    let mut n = count;
-    let mut place = to;
-    while 0 < n {
-        let here = c.here;
-        let left = c.left;
-        let last = c.last;
-        if left == 0 {
-            c = open(kind, source, here);
-        } else {
-            let run = least(left, n);
-            copy_run(source, here, run, out, place);
-            place += run;
-            n -= run;
-            c = Cursor {
-                here: here + run,
-                left: left - run,
-                last,
+    let d = wire::wide(source[here + 1]);
+    let x = wire::wide(source[here + 2]);
+    let y = wire::wide(source[here + 4]);
+    let z = wire::wide(source[here + 5]);
+    let u = d % 16 + 1;
+    let first = 0xf0 + u / 4;
+    let second = 0x80 + u % 4 * 16 + x % 64 / 4;
+    let third = 0x80 + x % 4 * 16 + y % 16;
+    let fourth = 0x80 + z % 64;
+    wire::store_number(
+        out,
+        to,
+        4,
+        ((first * 256 + second) * 256 + third) * 256 + fourth,
+    );
+}
+
+// The pair of halves at the cursor, or else the byte there, in `out` from `to` on, where it fits; neither, where it has
+// more than `cap` units.
+fn put_piece(kind: Kind, source: &[u8], c: Cursor, cap: usize, out: &mut [u8], to: usize) -> Piece
+    requires { ⌜ Going kind (now source) c × (0 < c .left) ⌝ }
+    ensures { λ r. ⌜
+        NextMet kind (bytesLeft (now (source .entry)) c) cap (now (out .entry)) to r (now (out .exit))
+        ⌝ }
+{
+    let here = c.here;
+    let left = c.left;
+    if pair_at(kind, source, here, left) {
+        if cap < 2 {
+            return Piece {
+                size: 0,
+                bytes: 0,
+                units: 0,
+            };
+        }
+        put_pair(source, here, out, to);
+        return Piece {
+            size: 6,
+            bytes: 4,
+            units: 2,
+        };
+    }
+    let w = weight(kind, source[here]);
+    if cap < w {
+        return Piece {
+            size: 0,
+            bytes: 0,
+            units: 0,
+        };
+    }
+    copy_bytes(source, here, 1, out, to);
+    Piece {
+        size: 1,
+        bytes: 1,
+        units: w,
+    }
+}
+
+// What comes next from the cursor on, in `out` from `to` on, where it fits: all that is left of the chunk, where that
+// stands as it is and has at most `cap` units; else bytes that weigh one unit each; else a piece.
+fn put_next(kind: Kind, source: &[u8], c: Cursor, cap: usize, out: &mut [u8], to: usize) -> Piece
+    requires { ⌜ Going kind (now source) c × (0 < c .left) ⌝ }
+    ensures { λ r. ⌜
+        NextMet kind (bytesLeft (now (source .entry)) c) cap (now (out .entry)) to r (now (out .exit))
+        ⌝ }
+{
+    let here = c.here;
+    let left = c.left;
+    let units = c.units;
+    let plain = c.plain;
+    if plain {
+        if units <= cap {
+            copy_run(source, here, left, out, to);
+            return Piece {
+                size: left,
+                bytes: left,
+                units,
             };
         }
     }
-    c
+    let n = singles(kind, source, here, least(left, cap));
+    if 0 < n {
+        copy_run(source, here, n, out, to);
+        return Piece {
+            size: n,
+            bytes: n,
+            units: n,
+        };
+    }
+    put_piece(kind, source, c, cap, out, to)
+}
+
+// As many characters of the content from the cursor on as fit `cap` units, in `out` from `to` on, where they fit.
+fn copy(kind: Kind, source: &[u8], from: Cursor, cap: usize, out: &mut [u8], to: usize) -> Copied
+    requires { ⌜ Copyable kind (now source) from cap to ⌝ }
+    ensures { λ r. ⌜
+        CopyMet kind (now (source .entry)) from cap (now (out .entry)) to r (now (out .exit))
+        ⌝ }
+{
+    let mut next = from;
+    let mut bytes: usize = 0;
+    let mut units: usize = 0;
+    loop {
+        let here = next.here;
+        let left = next.left;
+        let last = next.last;
+        let plain = next.plain;
+        if left == 0 {
+            if last {
+                return Copied { next, bytes, units };
+            }
+            next = open(kind, source, here);
+        } else {
+            let p = put_next(kind, source, next, cap - units, out, to + bytes);
+            let s = p.size;
+            if s == 0 {
+                return Copied { next, bytes, units };
+            }
+            bytes += p.bytes;
+            units += p.units;
+            next = Cursor {
+                here: here + s,
+                left: left - s,
+                units: next.units - p.units,
+                last,
+                plain,
+            };
+        }
+    }
 }
 
 // The heads of this kind of chunks.
@@ -279,7 +393,10 @@ fn heads_of(kind: Kind) -> Heads
 // The head of a last chunk of so many units, in `out` at `to`, where it fits. How many bytes it takes.
 fn put_last_head(kind: Kind, units: usize, out: &mut [u8], to: usize) -> usize
     requires { ⌜ units < 65536 ⌝ }
-    ensures { λ r. ⌜ (r ≡ length (shortestHead (lastHeads kind) units)) × (now (out .exit) ≡ stored (now (out .entry)) to (shortestHead (lastHeads kind) units)) ⌝ }
+    ensures { λ r. ⌜
+        (r ≡ length (shortestHead (lastHeads kind) units))
+        × (now (out .exit) ≡ stored (now (out .entry)) to (shortestHead (lastHeads kind) units))
+        ⌝ }
 {
     let h = heads_of(kind);
     let u = units as u64;
@@ -298,7 +415,10 @@ fn put_last_head(kind: Kind, units: usize, out: &mut [u8], to: usize) -> usize
 // The head of a chunk that is not the last: three bytes.
 fn put_part_head(kind: Kind, units: usize, out: &mut [u8], to: usize)
     requires { ⌜ units < 65536 ⌝ }
-    ensures { λ r. ⌜ (3 ≡ length (shortestHead (partHead kind ∷ []) units)) × (now (out .exit) ≡ stored (now (out .entry)) to (shortestHead (partHead kind ∷ []) units)) ⌝ }
+    ensures { λ r. ⌜
+        (3 ≡ length (shortestHead (partHead kind ∷ []) units))
+        × (now (out .exit) ≡ stored (now (out .entry)) to (shortestHead (partHead kind ∷ []) units))
+        ⌝ }
 {
     let h = heads_of(kind);
     wire::store_number(out, to, 3, h.part * 0x1_0000 + (units as u64));
@@ -319,7 +439,8 @@ fn last_head_size(kind: Kind, units: usize) -> usize
     3
 }
 
-// The shortest form of the string at `at`, of so many units and bytes, in `out` from `to` on, where it fits. How many bytes it takes.
+// The shortest form of the string at `at`, of so many units and bytes, in `out` from `to` on, where it fits. How many
+// bytes it takes. How much a part takes is found by copying it to nowhere, since its head comes first.
 fn lay(
     kind: Kind,
     source: &[u8],
@@ -338,23 +459,26 @@ fn lay(
     let mut content = bytes;
     let mut place = to;
     while 65535 < rest {
-        let s = span_of(kind, source, c, 65535);
+        let mut none: [u8; 0] = [];
+        let s = copy(kind, source, c, 65535, &mut none, 0);
         let n = s.bytes;
         let u = s.units;
         put_part_head(kind, u, out, place);
         let start = place + 3;
-        c = copy(kind, source, c, n, out, start);
+        let part = copy(kind, source, c, 65535, out, start);
+        c = part.next;
         place = start + n;
         content -= n;
         rest -= u;
     }
     let h = put_last_head(kind, rest, out, place);
     let start = place + h;
-    copy(kind, source, c, content, out, start);
+    copy(kind, source, c, rest, out, start);
     start + content - to
 }
 
-// The string at `at`, whose content begins at the cursor: the chunks up to `from` are read, of u units and b bytes, and more follow.
+// The string at `at`, whose content begins at the cursor: the chunks up to `from` are read, of u units and b bytes, and
+// more follow.
 fn find_more(
     kind: Kind,
     source: &[u8],
@@ -399,22 +523,25 @@ fn find(kind: Kind, source: &[u8], at: usize) -> Found
         ChunkRead::Chunk {
             head: h,
             size,
+            bytes,
             units,
             last,
         } => {
             let first = Cursor {
                 here: at + h,
                 left: size,
+                units,
                 last,
+                plain: size == bytes,
             };
             if last {
                 return Found::There {
                     first,
                     units,
-                    bytes: size,
+                    bytes,
                 };
             }
-            find_more(kind, source, at, first, at + (h + size), units, size)
+            find_more(kind, source, at, first, at + (h + size), units, bytes)
         }
     }
 }
@@ -437,7 +564,17 @@ fn store(
         return lay(kind, source, at, first, units, bytes, out, to);
     }
     let h = put_last_head(kind, units, out, to);
-    copy(kind, source, first, bytes, out, to + h);
+    let start = to + h;
+    let here = first.here;
+    let last = first.last;
+    let plain = first.plain;
+    if last {
+        if plain {
+            copy_run(source, here, bytes, out, start);
+            return h + bytes;
+        }
+    }
+    copy(kind, source, first, units, out, start);
     h + bytes
 }
 
@@ -472,7 +609,10 @@ fn write_found(
     to: usize,
 ) -> Written
     requires { ⌜ Item kind (now source) at first units bytes ⌝ }
-    ensures { λ r. ⌜ (report r ≡ reportOf (itemForm kind (now (source .entry)) at) (length (now (out .entry))) to) × (now (out .exit) ≡ outputOf (itemForm kind (now (source .entry)) at) (now (out .entry)) to) ⌝ }
+    ensures { λ r. ⌜
+        (report r ≡ reportOf (itemForm kind (now (source .entry)) at) (length (now (out .entry))) to)
+        × (now (out .exit) ≡ outputOf (itemForm kind (now (source .entry)) at) (now (out .entry)) to)
+        ⌝ }
 {
     let needed = form_size(kind, source, at, first, units, bytes);
     let len = out.len();
@@ -502,7 +642,10 @@ pub fn string_length(kind: Kind, source: &[u8], at: usize) -> usize
 
 // The shortest form of the string at the place `at` of the source, in `out` from `to` on: stored whole or not at all.
 pub fn write_string(kind: Kind, source: &[u8], at: usize, out: &mut [u8], to: usize) -> Written
-    ensures { λ r. ⌜ (report r ≡ reportOf (itemForm kind (now (source .entry)) at) (length (now (out .entry))) to) × (now (out .exit) ≡ outputOf (itemForm kind (now (source .entry)) at) (now (out .entry)) to) ⌝ }
+    ensures { λ r. ⌜
+        (report r ≡ reportOf (itemForm kind (now (source .entry)) at) (length (now (out .entry))) to)
+        × (now (out .exit) ≡ outputOf (itemForm kind (now (source .entry)) at) (now (out .entry)) to)
+        ⌝ }
 {
     match find(kind, source, at) {
         Found::Nothing => Written::NotSuch,
@@ -524,7 +667,10 @@ pub fn write_sized(
     out: &mut [u8],
     to: usize,
 ) -> Written
-    ensures { λ r. ⌜ (report r ≡ reportOf (sizedForm kind (now (source .entry)) at units bytes) (length (now (out .entry))) to) × (now (out .exit) ≡ outputOf (sizedForm kind (now (source .entry)) at units bytes) (now (out .entry)) to) ⌝ }
+    ensures { λ r. ⌜
+        (report r ≡ reportOf (sizedForm kind (now (source .entry)) at units bytes) (length (now (out .entry))) to)
+        × (now (out .exit) ≡ outputOf (sizedForm kind (now (source .entry)) at units bytes) (now (out .entry)) to)
+        ⌝ }
 {
     match find(kind, source, at) {
         Found::Nothing => Written::NotSuch,

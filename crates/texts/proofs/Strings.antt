@@ -5,13 +5,13 @@ use mathlib.Core.List.{List, [], _∷_, _++_, map, append-assoc}
 use Prim.Native.Nat.{ℕ, zero, suc, _+_, _-_, _*_, _≤_, _<_}
 use native.Mathlib.Omega.{arith}
 use lib.Dec.{T}
-use lib.ListN.{length, take, drop, getD, length-append, length-drop}
-use lib.Seq.{length-take-le}
+use lib.ListN.{length, take, drop, getD, length-append, List·getD-eq-default}
 use mir.Syntax.{w8, w64}
 use mir.Val.{Fits}
 use Rattle.flow.specs.Flow.{pick, Done, Fault}
 use Rattle.flow.specs.Steps.{Answer}
-use Rattle.flow.specs.Tests.{bytes-all}
+use borrow.Author.Tests.{le-leb, lt-leb}
+use Rattle.flow.specs.Tests.{split, pick-true, pick-false, bytes-all}
 use Rattle.wire.specs.BigEndian.{joined}
 use Rattle.wire.specs.Laws.{joined-one}
 use Rattle.scalar.specs.declared.Begun.{Begun}
@@ -19,7 +19,7 @@ use Rattle.scalar.specs.declared.Begun.the-variants as begun
 use Rattle.scalar.specs.declared.Kind.{Kind}
 use Rattle.scalar.specs.declared.Kind.the-variants.{Utf8, Binary}
 use Rattle.scalar.specs.declared.CharLead.{CharLead}
-use Rattle.scalar.specs.declared.CharLead.the-variants.{Basic, Supplementary, NoChar}
+use Rattle.scalar.specs.declared.CharLead.the-variants.{Basic, Supplementary, Halved, NoChar}
 use Rattle.texts.specs.declared.Extent.{Extent}
 use Rattle.texts.specs.declared.Extent.the-variants as extent
 use Rattle.texts.specs.declared.CharRead.{CharRead}
@@ -32,39 +32,48 @@ use Rattle.texts.specs.declared.ChunkRead.{ChunkRead}
 use Rattle.texts.specs.declared.ChunkRead.the-variants as chunk
 use Rattle.scalar.specs.Scalars.{Form, formAt, inside, partHead, lastHeads, charLead, units, continued, characters, body, stringAt}
 use Rattle.scalar.specs.TextUnits.{units-append}
+use Rattle.scalar.specs.Pairs.{paired-length}
+use Rattle.scalar.specs.Decoded.{decoded}
 use Rattle.scalar.specs.Answers.{sized, measuredAt}
-use Rattle.texts.specs.Answers.{extentAt, toldExtent, shifted, CharSays, CharMet, lastForm, headForm, prefixed, chunked, HeadSays, HeadMet, ChunkSays, ChunkMet, Joining}
-use Rattle.texts.specs.At.{Opens, basic, supplementary, opens-units, continued-size, characters-ends, characters-other, characters-half, characters-fault, characters-next, octets-done, octets-fault, body-there, body-fault, head-small, string-ends, string-none, string-cut, string-there, measured-as}
+use Rattle.texts.specs.Answers.{extentAt, toldExtent, shifted, CharSays, CharMet, lastForm, headForm, prefixed, chunked, headBy, headAt, HeadSays, HeadMet, withContent, chunkBy, chunkAt, ChunkSays, ChunkMet, Joining}
+use Rattle.texts.specs.At.{Opens, basic, below-half, supplementary, opens-units, Halves, HighHalf, continued-size, characters-ends, characters-other, characters-half, characters-low, characters-alone, characters-fault, characters-next, pair-there, pair-bad, pair-bad-2, pair-bad-3, pair-bad-4, pair-good, pair-one-more, pair-two-more, pair-three-more, pair-fault, pair-next, octets-done, octets-fault, body-there, body-fault, head-small, string-ends, string-none, string-cut, string-there, measured-as}
 use Rattle.texts.proofs.Rows.{Row, row, chosen, nth, apart, Outside, chosen-at, chosen-none}
 
 -- ---- a loop over what is read: what is left reads as the whole does, but for the bytes so far
-pub record Along (whole rest : Answer ℕ) (m : List ℕ) (at here : ℕ) : Type 0 where
-  pub says : shifted (here - at) rest ≡ whole
-  pub onward : at ≤ here
+pub record Along (whole rest : Answer ℕ) (m : List ℕ) (at here bytes : ℕ) : Type 0 where
+  pub says : shifted (here - at) bytes rest ≡ whole
+  pub onward : at + bytes ≤ here
   pub inside : here ≤ length m
 
-shifted-none : (r : Answer ℕ) → shifted 0 r ≡ r
+shifted-none : (r : Answer ℕ) → shifted 0 0 r ≡ r
 shifted-none (Done n a es c) = let e : 0 + n ≡ n = omega arith in let d : 0 + a ≡ a = omega arith in rw (e, d) refl
 shifted-none (Fault x o) = refl
 
-shifted-twice : (i j : ℕ) (r : Answer ℕ) → shifted i (shifted j r) ≡ shifted (i + j) r
-shifted-twice i j (Done n a es c) = let e : i + (j + n) ≡ i + j + n = omega arith in let d : i + (j + a) ≡ i + j + a = omega arith in rw (e, d) refl
-shifted-twice i j (Fault x o) = refl
+shifted-twice : (i b j d : ℕ) (r : Answer ℕ) → shifted i b (shifted j d r) ≡ shifted (i + j) (b + d) r
+shifted-twice i b j d (Done n a es c) = let e : i + (j + n) ≡ i + j + n = omega arith in let f : b + (d + a) ≡ b + d + a = omega arith in rw (e, f) refl
+shifted-twice i b j d (Fault x o) = refl
 
-pub along-start : (whole : Answer ℕ) (m : List ℕ) (at : ℕ) → at ≤ length m → Along whole whole m at at
+pub along-start : (whole : Answer ℕ) (m : List ℕ) (at : ℕ) → at ≤ length m → Along whole whole m at at 0
 along-start whole m at l = let e : at - at ≡ 0 = omega arith in record { says = rw e (shifted-none whole); onward = omega arith; inside = l }
 
-module _ {whole rest : Answer ℕ} {m : List ℕ} {at here : ℕ} (R : Along whole rest m at here) where
-  pub along-end : rest ≡ Done 0 0 [] tt → Done (here - at) (here - at) [] tt ≡ whole
-  along-end e = let d : here - at + 0 ≡ here - at = omega arith in rw (e, d) at (R .says)
+-- where the content is the bytes
+pub plain-start : (whole : Answer ℕ) (m : List ℕ) (at : ℕ) → at ≤ length m → Along whole whole m at at (at - at)
+plain-start whole m at l = let e : at - at ≡ 0 = omega arith in rw e (along-start whole m at l)
+
+module _ {whole rest : Answer ℕ} {m : List ℕ} {at here bytes : ℕ} (R : Along whole rest m at here bytes) where
+  pub along-end : rest ≡ Done 0 0 [] tt → Done (here - at) bytes [] tt ≡ whole
+  along-end e = let d : here - at + 0 ≡ here - at = omega arith in let f : bytes + 0 ≡ bytes = omega arith in rw (e, d, f) at (R .says)
 
   pub along-fault : (x o : ℕ) → rest ≡ Fault x o → Fault x o ≡ whole
   along-fault x o e = rw e at (R .says)
 
-  pub along-more : (j : ℕ) (left : Answer ℕ) → rest ≡ shifted j left → here + j ≤ length m → Along whole left m at (here + j)
-  along-more j left e l =
+  pub along-more : (j b : ℕ) (left : Answer ℕ) → rest ≡ shifted j b left → b ≤ j → here + j ≤ length m → Along whole left m at (here + j) (bytes + b)
+  along-more j b left e k l =
       let d : here + j - at ≡ here - at + j = omega (arith, R .onward) in
-      record { says = rw d (sym (shifted-twice (here - at) j left) ∙ ap (shifted (here - at)) (sym e) ∙ R .says); onward = omega (arith, R .onward); inside = l }
+      record { says = rw d (sym (shifted-twice (here - at) bytes j b left) ∙ ap (shifted (here - at) bytes) (sym e) ∙ R .says); onward = omega (arith, R .onward); inside = l }
+
+pub plain-more : {whole rest : Answer ℕ} {m : List ℕ} {at here : ℕ} → Along whole rest m at here (here - at) → (left : Answer ℕ) → rest ≡ shifted 1 1 left → here + 1 ≤ length m → Along whole left m at (here + 1) (here + 1 - at)
+plain-more {at = at} {here = here} R left e l = let d : here - at + 1 ≡ here + 1 - at = omega (arith, R .onward) in rw d at (along-more R 1 1 left e (omega arith) l)
 
 -- ---- a character's first byte: the table of scalar's specs/Scalars.antt
 abbrev leadRows : List (Row CharLead)
@@ -73,7 +82,7 @@ leadRows =
     ∷ row 0xc2 0xe0 (λ b. Basic 1 0x80 0xc0)
     ∷ row 0xe0 0xe1 (λ b. Basic 2 0xa0 0xc0)
     ∷ row 0xe1 0xed (λ b. Basic 2 0x80 0xc0)
-    ∷ row 0xed 0xee (λ b. Basic 2 0x80 0xa0)
+    ∷ row 0xed 0xee (λ b. Halved)
     ∷ row 0xee 0xf0 (λ b. Basic 2 0x80 0xc0)
     ∷ row 0xf0 0xf1 (λ b. Supplementary 0x90 0xc0)
     ∷ row 0xf1 0xf4 (λ b. Supplementary 0x80 0xc0)
@@ -91,19 +100,33 @@ leads-none b h = chosen-none NoChar leadRows b h
 
 -- ---- a character
 -- the bytes after the first lie in the message
-module _ (o k lo hi : ℕ) (m : List ℕ) (p : ℕ) (l : p < length m) (x : Extent) (t : toldExtent x ≡ extentAt (continued o k lo hi) m (p + 1)) (j : ℕ) (e : x ≡ extent.Takes j) where
+module _ (o k lo hi : ℕ) (m : List ℕ) (p : ℕ) (l : p < length m) (x : Extent) (t : toldExtent x ≡ extentAt (continued o k lo hi) m (p + 1)) (j b : ℕ) (e : x ≡ extent.Takes j b) where
+  char-sized : (p + 1 + j ≤ length m) × (j ≡ k) × (Done j j [] tt ≡ extentAt (continued o k lo hi) m (p + 1))
+  char-sized = continued-size o k lo hi m (p + 1) j b (omega arith) (ap toldExtent (sym e) ∙ t)
+
   char-room : p + (j + 1) ≤ length m
-  char-room = let w = continued-size o k lo hi m (p + 1) j (omega arith) (ap toldExtent (sym e) ∙ t) in omega (arith, w .0)
+  char-room = omega (arith, char-sized .0)
 
   pub char-fits : Fits w64 (length m) → Fits w64 (j + 1)
   char-fits f = let r = char-room in omega arith
 
-module _ {b : ℕ} (x : CharLead) (is : x ≡ charLead b) where
-  pub opens-one : (k lo hi : ℕ) → x ≡ Basic k lo hi → Opens b k lo hi 1
+module _ {m : List ℕ} {p : ℕ} (x : CharLead) (is : x ≡ charLead (getD m p 0)) where
+  pub opens-one : (k lo hi : ℕ) → x ≡ Basic k lo hi → Opens m p k lo hi 1
   opens-one k lo hi e = basic (sym is ∙ e)
 
-  pub opens-two : (lo hi : ℕ) → x ≡ Supplementary lo hi → Opens b 3 lo hi 2
+  pub opens-two : (lo hi : ℕ) → x ≡ Supplementary lo hi → Opens m p 3 lo hi 2
   opens-two lo hi e = supplementary (sym is ∙ e)
+
+  pub opens-half : x ≡ Halved → Halves m p
+  opens-half e = record { led = sym is ∙ e }
+
+-- the second byte after ed is below a0, or the message ends before it
+module _ (m : List ℕ) (p : ℕ) (e : Halves m p) where
+  pub below-low : getD m (p + 1) 0 < 0xa0 → Opens m p 2 0x80 0xa0 1
+  below-low h = below-half (e .led) h
+
+  pub below-end : length m ≤ p + 1 → Opens m p 2 0x80 0xa0 1
+  below-end h = below-half (e .led) (rw (List·getD-eq-default m 0 h) (omega arith))
 
 module _ (n : ℕ) (m : List ℕ) (p : ℕ) (z : 0 < n) where
   pub char-ends : length m ≤ p → p ≤ length m → CharMet n m p (char.Refused 2 (length m))
@@ -117,17 +140,70 @@ module _ (n : ℕ) (m : List ℕ) (p : ℕ) (z : 0 < n) where
       pub char-half : (lo hi : ℕ) → x ≡ Supplementary lo hi → n ≡ 1 → CharMet n m p (char.Refused 4 p)
       char-half lo hi e u = record { says = characters-half n m p z l lo hi (sym is ∙ e) u }
 
+    -- a half that is alone
+    module _ (e : Halves m p) (k : p + 1 < length m) where
+      pub lone-low : 0xb0 ≤ getD m (p + 1) 0 → CharMet n m p (char.Refused 4 p)
+      lone-low h = record { says = characters-low n m p z l e k h }
+
+      pub lone-high : 0xa0 ≤ getD m (p + 1) 0 → n < 2 → CharMet n m p (char.Refused 4 p)
+      lone-high h u = split (getD m (p + 1) 0) 0xb0 (λ i. record { says = characters-alone n m p z l e k h i (omega arith) }) (λ i. lone-low i)
+
     -- x: what is read of the bytes after the first
-    module _ (k lo hi u : ℕ) (o : Opens (getD m p 0) k lo hi u) (h : u ≤ n) (x : Extent) (t : toldExtent x ≡ extentAt (continued p k lo hi) m (p + 1)) where
+    module _ (k lo hi u : ℕ) (o : Opens m p k lo hi u) (h : u ≤ n) (x : Extent) (t : toldExtent x ≡ extentAt (continued p k lo hi) m (p + 1)) where
       pub char-fault : (y q : ℕ) → x ≡ extent.Refused y q → CharMet n m p (char.Refused y q)
       char-fault y q e = record { says = characters-fault n m p z l k lo hi u o h y q (ap toldExtent (sym e) ∙ t) }
 
-      pub char-next : (j : ℕ) → x ≡ extent.Takes j → CharMet n m p (char.Char (j + 1) u)
-      char-next j e =
-          let d = ap toldExtent (sym e) ∙ t in
-          let w = continued-size p k lo hi m (p + 1) j (omega arith) d in
+      pub char-next : (j b : ℕ) → x ≡ extent.Takes j b → CharMet n m p (char.Char (j + 1) (j + 1) u)
+      char-next j b e =
+          let w = char-sized p k lo hi m p l x t j b e in
           let v = opens-units o in
-          record { says = (characters-next n m p z l k lo hi u o h j d, omega arith, char-room p k lo hi m p l x t j e, omega (arith, v .0), h, omega (arith, v .1, w .1)) }
+          record { says = (characters-next n m p z l k lo hi u o h j (w .2), omega arith, char-room p k lo hi m p l x t j b e, omega (arith, v .0), h, omega arith) }
+
+told : {x y : Extent} {r : Answer ℕ} → x ≡ y → toldExtent x ≡ r → toldExtent y ≡ r
+told e t = ap toldExtent (sym e) ∙ t
+
+-- ---- a pair of halves: what is read of each of its last four bytes. They lie in the message
+module _ (m : List ℕ) (p : ℕ) (k : p + 1 < length m) (x₁ : Extent) (t₁ : toldExtent x₁ ≡ extentAt (continued p 1 0x80 0xc0) m (p + 2)) (j₁ b₁ : ℕ) (d₁ : x₁ ≡ extent.Takes j₁ b₁) where
+  pub pair-room-1 : p + 3 ≤ length m
+  pair-room-1 = pair-one-more m p 0 (omega arith) (j₁, b₁, told d₁ t₁)
+
+  module _ (x₂ : Extent) (t₂ : toldExtent x₂ ≡ extentAt (continued p 1 0xed 0xee) m (p + 3)) (j₂ b₂ : ℕ) (d₂ : x₂ ≡ extent.Takes j₂ b₂) where
+    pub pair-room-2 : p + 4 ≤ length m
+    pair-room-2 = pair-two-more m p 0 (omega arith) (j₁, b₁, told d₁ t₁) (j₂, b₂, told d₂ t₂)
+
+    pub pair-room-3 : (x₃ : Extent) → toldExtent x₃ ≡ extentAt (continued p 1 0xb0 0xc0) m (p + 4) → (j₃ b₃ : ℕ) → x₃ ≡ extent.Takes j₃ b₃ → p + 5 ≤ length m
+    pair-room-3 x₃ t₃ j₃ b₃ d₃ = pair-three-more m p 0 (omega arith) (j₁, b₁, told d₁ t₁) (j₂, b₂, told d₂ t₂) (j₃, b₃, told d₃ t₃)
+
+module _ (m : List ℕ) (p : ℕ) (k : p + 1 < length m) (e : HighHalf m p) (n : ℕ) (u : 2 ≤ n) where
+  abbrev Told : Extent → ℕ → ℕ → ℕ → Type 0
+  Told x q lo hi = toldExtent x ≡ extentAt (continued p 1 lo hi) m q
+
+  refused : (y o : ℕ) → pair-there m p (getD m (p + 1) 0) ≡ Fault y o → CharMet n m p (char.Refused y o)
+  refused y o d = record { says = pair-fault n m p (omega arith) (omega arith) (e .ed) k (e .from) (e .below) u y o d }
+
+  module _ (x₁ : Extent) (t₁ : Told x₁ (p + 2) 0x80 0xc0) where
+    pub pair-cut-1 : (y o : ℕ) → x₁ ≡ extent.Refused y o → CharMet n m p (char.Refused y o)
+    pair-cut-1 y o d = refused y o (pair-bad m p (getD m (p + 1) 0) (omega arith) y o (told d t₁))
+
+    module _ (j₁ b₁ : ℕ) (d₁ : x₁ ≡ extent.Takes j₁ b₁) where
+      module _ (x₂ : Extent) (t₂ : Told x₂ (p + 3) 0xed 0xee) where
+        pub pair-cut-2 : (y o : ℕ) → x₂ ≡ extent.Refused y o → CharMet n m p (char.Refused y o)
+        pair-cut-2 y o d = refused y o (pair-bad-2 m p (getD m (p + 1) 0) (omega arith) (j₁, b₁, told d₁ t₁) y o (told d t₂))
+
+        module _ (j₂ b₂ : ℕ) (d₂ : x₂ ≡ extent.Takes j₂ b₂) where
+          module _ (x₃ : Extent) (t₃ : Told x₃ (p + 4) 0xb0 0xc0) where
+            pub pair-cut-3 : (y o : ℕ) → x₃ ≡ extent.Refused y o → CharMet n m p (char.Refused y o)
+            pair-cut-3 y o d = refused y o (pair-bad-3 m p (getD m (p + 1) 0) (omega arith) (j₁, b₁, told d₁ t₁) (j₂, b₂, told d₂ t₂) y o (told d t₃))
+
+            module _ (j₃ b₃ : ℕ) (d₃ : x₃ ≡ extent.Takes j₃ b₃) where
+              module _ (x₄ : Extent) (t₄ : Told x₄ (p + 5) 0x80 0xc0) where
+                pub pair-cut-4 : (y o : ℕ) → x₄ ≡ extent.Refused y o → CharMet n m p (char.Refused y o)
+                pair-cut-4 y o d = refused y o (pair-bad-4 m p (getD m (p + 1) 0) (omega arith) (j₁, b₁, told d₁ t₁) (j₂, b₂, told d₂ t₂) (j₃, b₃, told d₃ t₃) y o (told d t₄))
+
+                pub pair-whole : (j b : ℕ) → x₄ ≡ extent.Takes j b → CharMet n m p (char.Char 6 4 2)
+                pair-whole j b d =
+                    let w = pair-good m p (getD m (p + 1) 0) (omega arith) (j₁, b₁, told d₁ t₁) (j₂, b₂, told d₂ t₂) (j₃, b₃, told d₃ t₃) (j, b, told d t₄) in
+                    record { says = (pair-next n m p (omega arith) (omega arith) (e .ed) k (e .from) (e .below) u _ (w .1) (paired-length _ _ _ _), omega arith, w .0, omega arith, u, omega arith) }
 
 -- what is said of a character, by what it is
 pub char-says : {n : ℕ} {m : List ℕ} {p : ℕ} {x y : CharRead} → CharMet n m p x → x ≡ y → CharSays n m p y
@@ -200,15 +276,23 @@ module _ (m : List ℕ) (bytes : (i : ℕ) → Fits w8 (getD m i 0)) (i u : ℕ)
 -- ---- a chunk's head
 module _ (k : Kind) (m : List ℕ) (p : ℕ) where
   pub head-ends : length m ≤ p → HeadMet k m p (head.Refused 2 (length m))
-  head-ends l = record { says = string-ends k m p l }
+  unfolding headAt
+  head-ends l = record { is = sym (pick-true _ _ (le-leb (length m) p l)); says = string-ends k m p l }
 
   module _ (l : p < length m) (x : HeadForm) (is : x ≡ headForm k (getD m p 0)) where
+    head-by : (y : HeadForm) → x ≡ y → headBy m p y ≡ headAt k m p
+    unfolding headAt
+    head-by y e = ap (headBy m p) (sym e ∙ is) ∙ sym (pick-false _ _ (lt-leb (length m) p l))
+
     pub head-other : x ≡ NoHead → HeadMet k m p (head.Refused 3 p)
-    head-other e = record { says = string-none k m p l (sym is ∙ e) }
+    head-other e = record { is = head-by NoHead e; says = string-none k m p l (sym is ∙ e) }
 
     module _ (j u : ℕ) (a : Bool) (e : x ≡ Starts j u a) where
       pub head-cut : length m - p ≤ j → HeadMet k m p (head.Refused 2 (length m))
-      head-cut h = record { says = string-cut k m p l j u a (sym is ∙ e) h }
+      head-cut h = record {
+        is = sym (pick-true _ _ (le-leb (length m - p) j h)) ∙ head-by (Starts j u a) e;
+        says = string-cut k m p l j u a (sym is ∙ e) h;
+      }
 
       pub head-few : j ≤ 2
       head-few = head-small k (getD m p 0) j u a (sym is ∙ e) .0
@@ -218,30 +302,49 @@ module _ (k : Kind) (m : List ℕ) (p : ℕ) where
 
       -- n: the number that the head holds
       pub head-there : j < length m - p → (n : ℕ) → n ≡ joined u (take j (drop (p + 1) m)) → HeadMet k m p (head.Head (j + 1) n a)
-      head-there h n at = record { says = (string-there k m p l j u a (sym is ∙ e) h n at, omega arith, omega arith) }
+      head-there h n at = record {
+        is =
+            ap (λ (v : ℕ). head.Head (j + 1) v a) at
+            ∙ sym (pick-false _ _ (lt-leb (length m - p) j h))
+            ∙ head-by (Starts j u a) e;
+        says = (string-there k m p l j u a (sym is ∙ e) h n at, omega arith, omega arith);
+      }
 
 pub head-says : {k : Kind} {m : List ℕ} {p : ℕ} {x y : HeadRead} → HeadMet k m p x → x ≡ y → HeadSays k m p y
 head-says {k} {m} {p} t e = subst (HeadSays k m p) e (t .says)
 
 -- ---- a chunk
 module _ (k : Kind) (m : List ℕ) (p : ℕ) (x : HeadRead) (t : HeadMet k m p x) where
+  chunk-by : (y : HeadRead) → x ≡ y → chunkBy k m p y ≡ chunkAt k m p
+  unfolding chunkAt
+  chunk-by y e = ap (chunkBy k m p) (sym e ∙ t .is)
+
   pub chunk-headless : (y o : ℕ) → x ≡ head.Refused y o → ChunkMet k m p (chunk.Refused y o)
-  chunk-headless y o e = record { says = head-says t e }
+  chunk-headless y o e = record { is = chunk-by (head.Refused y o) e; says = head-says t e }
 
   -- r: what is read of the content
   module _ (h u : ℕ) (a : Bool) (e : x ≡ head.Head h u a) (r : Extent) (s : toldExtent r ≡ extentAt (body k u) m (p + h)) where
+    chunk-with : (y : Extent) → r ≡ y → withContent h u a (toldExtent y) ≡ chunkAt k m p
+    chunk-with y d = ap (withContent h u a) (ap toldExtent (sym d) ∙ s) ∙ chunk-by (head.Head h u a) e
+
     pub chunk-cut : (y o : ℕ) → r ≡ extent.Refused y o → ChunkMet k m p (chunk.Refused y o)
-    chunk-cut y o d = record { says = head-says t e .0 ∙ ap (chunked k m p h a) (body-fault k u m (p + h) y o (ap toldExtent (sym d) ∙ s)) ∙ go a }
+    chunk-cut y o d = record {
+      is = chunk-with (extent.Refused y o) d;
+      says = head-says t e .0 ∙ ap (chunked k m p h a) (body-fault k u m (p + h) y o (ap toldExtent (sym d) ∙ s)) ∙ go a;
+    }
       where
         go : (a : Bool) → chunked k m p h a (Fault y o) ≡ Fault y o
         go true = refl
         go false = refl
 
-    pub chunk-there : ((i : ℕ) → Fits w8 (getD m i 0)) → (n : ℕ) → r ≡ extent.Takes n → ChunkMet k m p (chunk.Chunk h n u a)
-    chunk-there bytes n d =
+    pub chunk-there : ((i : ℕ) → Fits w8 (getD m i 0)) → (n b : ℕ) → r ≡ extent.Takes n b → ChunkMet k m p (chunk.Chunk h n b u a)
+    chunk-there bytes n b d =
         let w = head-says t e in
-        let z = body-there k u m (p + h) (bytes-all m (λ i. bytes i .fits)) n (w .2) (ap toldExtent (sym d) ∙ s) in
-        record { says = (w .0 ∙ ap (chunked k m p h a) (z .0), w .1, omega (arith, z .1), z .2, z .3) }
+        let z = body-there k u m (p + h) (bytes-all m (λ i. bytes i .fits)) n b (w .2) (ap toldExtent (sym d) ∙ s) in
+        record {
+          is = chunk-with (extent.Takes n b) d;
+          says = (w .0 ∙ ap (chunked k m p h a) (z .0), w .1, omega (arith, z .1), z .2, z .3, z .4, z .5);
+        }
 
 pub chunk-says : {k : Kind} {m : List ℕ} {p : ℕ} {x y : ChunkRead} → ChunkMet k m p x → x ≡ y → ChunkSays k m p y
 chunk-says {k} {m} {p} t e = subst (ChunkSays k m p) e (t .says)
@@ -263,33 +366,31 @@ module _ {k : Kind} {m : List ℕ} {at here total bytes : ℕ} (R : Joining k m 
   pub joining-fault : (y o : ℕ) → x ≡ chunk.Refused y o → Fault y o ≡ measuredAt k m at
   joining-fault y o e = sym (measured-as k m at (rw (chunk-says t e) at (sym (R .says))))
 
-  module _ (h n u : ℕ) (a : Bool) (e : x ≡ chunk.Chunk h n u a) where
+  module _ (h n b u : ℕ) (a : Bool) (e : x ≡ chunk.Chunk h n b u a) where
     abbrev joint : List ℕ
-    joint = R .front ++ take n (drop (here + h) m)
+    joint = R .front ++ decoded k (take n (drop (here + h) m))
 
     joint-units : units k joint ≡ total + u
-    joint-units = omega (arith, units-append k (R .front) (take n (drop (here + h) m)), R .units-are, chunk-says t e .4)
+    joint-units = omega (arith, units-append k (R .front) (decoded k (take n (drop (here + h) m))), R .units-are, chunk-says t e .4)
 
-    joint-length : length joint ≡ bytes + n
-    joint-length =
-        let s = chunk-says t e in
-        omega (arith, length-append (R .front) (take n (drop (here + h) m)), R .bytes-are, length-take-le n (drop (here + h) m) (omega (arith, length-drop (here + h) m, s .2)))
+    joint-length : length joint ≡ bytes + b
+    joint-length = omega (arith, length-append (R .front) (decoded k (take n (drop (here + h) m))), R .bytes-are, chunk-says t e .5)
 
     size : here + (h + n) - at ≡ here - at + (h + n)
     size = omega (arith, R .onward)
 
-    pub joining-last : a ≡ true → Done (here + (h + n) - at) (sized (total + u) (bytes + n)) [] tt ≡ measuredAt k m at
+    pub joining-last : a ≡ true → Done (here + (h + n) - at) (sized (total + u) (bytes + b)) [] tt ≡ measuredAt k m at
     joining-last d = rw (size, ← joint-units, ← joint-length) (sym (measured-as k m at (rw (chunk-says t e .0, d) at (sym (R .says)))))
 
-    pub joining-more : a ≡ false → Joining k m at (here + (h + n)) (total + u) (bytes + n)
+    pub joining-more : a ≡ false → Joining k m at (here + (h + n)) (total + u) (bytes + b)
     joining-more d =
         let s = chunk-says t e in
         record {
           front = joint;
-          says = rw size (sym (prefixed-twice (here - at) (h + n) (R .front) (take n (drop (here + h) m)) (stringAt k m (here + (h + n)))) ∙ rw (s .0, d) at (R .says));
+          says = rw size (sym (prefixed-twice (here - at) (h + n) (R .front) (decoded k (take n (drop (here + h) m))) (stringAt k m (here + (h + n)))) ∙ rw (s .0, d) at (R .says));
           units-are = joint-units;
           bytes-are = joint-length;
           few = omega (arith, R .few, s .3);
-          onward = omega (arith, R .onward);
+          onward = omega (arith, R .onward, s .6);
           inside = s .2;
         }

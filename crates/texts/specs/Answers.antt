@@ -3,9 +3,11 @@ use mathlib.Core.Path.{_≡_}
 use mathlib.Core.Bool.{Bool, true, false}
 use mathlib.Core.List.{List, [], _++_}
 use Prim.Native.Nat.{ℕ, _+_, _-_, _≤_, _<_}
-use lib.ListN.{length, take, drop}
+use lib.Dec.{leb}
+use lib.ListN.{length, take, drop, getD}
 use Rattle.flow.specs.Flow.{Read, One, Done, Fault, pick}
 use Rattle.flow.specs.Steps.{Answer, renamed}
+use Rattle.wire.specs.BigEndian.{joined}
 use Rattle.scalar.specs.declared.Begun.{Begun}
 use Rattle.scalar.specs.declared.Begun.the-variants as begun
 use Rattle.scalar.specs.declared.Kind.{Kind}
@@ -23,6 +25,7 @@ use Rattle.texts.specs.declared.StringRead.{StringRead}
 use Rattle.texts.specs.declared.StringRead.the-variants.{Content, Refused}
 use Rattle.scalar.specs.Scalars.{formAt, inside, partHead, lastHeads, units, characters, body, stringAt}
 use Rattle.scalar.specs.Answers.{Sizes, sized}
+use Rattle.scalar.specs.Decoded.{decoded}
 
 -- a text or byte string read: its units, its content's bytes and the bytes it takes; or a refusal's number and place
 abbrev pub toldString : StringRead → Answer Sizes
@@ -30,22 +33,24 @@ toldString (Content u b n) = Done n (sized u b) [] tt
 toldString (Refused x o) = Fault x o
 
 -- ---- inside the code
--- how many bytes f reads at the place p of the message m: its content is those bytes
+-- how many bytes f reads at the place p of the message m, and how many its content has
 abbrev pub extentAt : Read One One (List ℕ) → List ℕ → ℕ → Answer ℕ
 extentAt f m p = renamed length (f tt p (drop p m))
 
 abbrev pub toldExtent : Extent → Answer ℕ
-toldExtent (extent.Takes n) = Done n n [] tt
+toldExtent (extent.Takes n b) = Done n b [] tt
 toldExtent (extent.Refused x o) = Fault x o
 
--- n bytes before it
-abbrev pub shifted : ℕ → Answer ℕ → Answer ℕ
-shifted n (Done m a es c) = Done (n + m) (n + a) es c
-shifted n (Fault x o) = Fault x o
+-- n bytes before it, of which the content has b
+abbrev pub shifted : ℕ → ℕ → Answer ℕ → Answer ℕ
+shifted n b (Done m a es c) = Done (n + m) (b + a) es c
+shifted n b (Fault x o) = Fault x o
 
 -- the first character of n units at p, and what is left
 abbrev pub CharSays : ℕ → List ℕ → ℕ → CharRead → Type 0
-CharSays n m p (char.Char j u) = (extentAt (characters n) m p ≡ shifted j (extentAt (characters (n - u)) m (p + j))) × (0 < j) × (p + j ≤ length m) × (0 < u) × (u ≤ n) × (u ≤ j)
+CharSays n m p (char.Char j b u) =
+    (extentAt (characters n) m p ≡ shifted j b (extentAt (characters (n - u)) m (p + j)))
+    × (0 < j) × (p + j ≤ length m) × (0 < u) × (u ≤ n) × (b ≤ j)
 CharSays n m p (char.Refused x o) = extentAt (characters n) m p ≡ Fault x o
 
 pub record CharMet (n : ℕ) (m : List ℕ) (p : ℕ) (r : CharRead) : Type 0 where
@@ -70,20 +75,50 @@ chunked k m p h true (Done n cs es c) = Done (h + n) cs [] tt
 chunked k m p h false (Done n cs es c) = prefixed (h + n) cs (stringAt k m (p + (h + n)))
 chunked k m p h l (Fault x o) = Fault x o
 
+-- the head at p: none, cut off, or how many bytes it takes, the units that it says, and whether the chunk is the last
+abbrev pub headBy : List ℕ → ℕ → HeadForm → HeadRead
+headBy m p (Starts j u l) =
+    pick (leb (length m - p) j) (head.Refused 2 (length m)) (head.Head (j + 1) (joined u (take j (drop (p + 1) m))) l)
+headBy m p NoHead = head.Refused 3 p
+
+unfoldable pub headAt : Kind → List ℕ → ℕ → HeadRead
+headAt k m p = pick (leb (length m) p) (head.Refused 2 (length m)) (headBy m p (headForm k (getD m p 0)))
+
+-- the same by the string that stands there
 abbrev pub HeadSays : Kind → List ℕ → ℕ → HeadRead → Type 0
-HeadSays k m p (head.Head h u l) = (stringAt k m p ≡ chunked k m p h l (body k u tt (p + h) (drop (p + h) m))) × (0 < h) × (p + h ≤ length m)
+HeadSays k m p (head.Head h u l) =
+    (stringAt k m p ≡ chunked k m p h l (body k u tt (p + h) (drop (p + h) m)))
+    × (0 < h) × (p + h ≤ length m)
 HeadSays k m p (head.Refused x o) = stringAt k m p ≡ Fault x o
 
 pub record HeadMet (k : Kind) (m : List ℕ) (p : ℕ) (r : HeadRead) : Type 0 where
+  pub is : r ≡ headAt k m p
   pub says : HeadSays k m p r
 
--- its content is the n bytes after the head
+-- the chunk at p: its head, and then its content, of n bytes in the message and b of its own
+abbrev pub withContent : ℕ → ℕ → Bool → Answer ℕ → ChunkRead
+withContent h u l (Done n b es c) = chunk.Chunk h n b u l
+withContent h u l (Fault x o) = chunk.Refused x o
+
+abbrev pub chunkBy : Kind → List ℕ → ℕ → HeadRead → ChunkRead
+chunkBy k m p (head.Head h u l) = withContent h u l (extentAt (body k u) m (p + h))
+chunkBy k m p (head.Refused x o) = chunk.Refused x o
+
+unfoldable pub chunkAt : Kind → List ℕ → ℕ → ChunkRead
+chunkAt k m p = chunkBy k m p (headAt k m p)
+
+-- the same by the string that stands there: the content, of b bytes, is what the n bytes after the head are decoded to
 abbrev pub ChunkSays : Kind → List ℕ → ℕ → ChunkRead → Type 0
-ChunkSays k m p (chunk.Chunk h n u l) =
-    (stringAt k m p ≡ chunked k m p h l (Done n (take n (drop (p + h) m)) [] tt)) × (0 < h) × (p + (h + n) ≤ length m) × (u ≤ n) × (units k (take n (drop (p + h) m)) ≡ u)
+ChunkSays k m p (chunk.Chunk h n b u l) =
+    (stringAt k m p ≡ chunked k m p h l (Done n (decoded k (take n (drop (p + h) m))) [] tt))
+    × (0 < h) × (p + (h + n) ≤ length m) × (u ≤ b)
+    × (units k (decoded k (take n (drop (p + h) m))) ≡ u)
+    × (length (decoded k (take n (drop (p + h) m))) ≡ b)
+    × (b ≤ n)
 ChunkSays k m p (chunk.Refused x o) = stringAt k m p ≡ Fault x o
 
 pub record ChunkMet (k : Kind) (m : List ℕ) (p : ℕ) (r : ChunkRead) : Type 0 where
+  pub is : r ≡ chunkAt k m p
   pub says : ChunkSays k m p r
 
 -- the chunks before `here` are read: what is left reads as the whole does, but for the content and the bytes so far

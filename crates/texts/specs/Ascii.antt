@@ -1,10 +1,10 @@
 -- Bytes below 80, each a character of one unit: how many stand at a place, and the test of several at once.
-use mathlib.Core.Path.{_≡_, sym, _∙_, ap}
+use mathlib.Core.Path.{_≡_, refl, sym, _∙_, ap}
 use mathlib.Core.Bool.{Bool, true, false, cond}
 use mathlib.Core.Logic.{_↔_}
 use mathlib.Core.List.{List, [], _∷_}
 use Prim.Native.Nat.{ℕ, zero, suc, _+_, _-_, _*_, _/_, _%_, _^_, _≤_, _<_}
-use native.Mathlib.Nat.{mod-eq-of-lt, add-zero, zero-mod, add-mod-right, div-add-mod', div-eq-of-lt-le, add-mul, one-mul}
+use native.Mathlib.Nat.{add-zero, add-mul, one-mul, zero-mod, mod-eq-of-lt, add-mod-right, div-add-mod', div-eq-of-lt-le}
 use native.Mathlib.Omega.{arith}
 use lib.Bits.{bitAnd, and-block, and-high}
 use lib.Dec.{ltb, eqb, leb}
@@ -18,6 +18,13 @@ use Rattle.flow.specs.Tests.{by-test, split, tests}
 -- the n bytes of m from p on are ASCII
 pub record Ascii (m : List ℕ) (p n : ℕ) : Type 0 where
   pub below : (i : ℕ) → i < n → getD m (p + i) 0 < 0x80
+
+-- the byte at p counts the ASCII bytes of a short text after it, r bytes with itself
+pub record ShortText (m : List ℕ) (p r : ℕ) : Type 0 where
+  pub counted : r ≡ getD m p 0 + 1
+  pub short : r ≤ 0x20
+  pub inside : p + r ≤ length m
+  pub ascii : Ascii m (p + 1) (r - 1)
 
 -- how many bytes s begins with that are ASCII
 abbrev pub asciiRun : List ℕ → ℕ
@@ -47,7 +54,9 @@ module _ (m : List ℕ) (p : ℕ) where
 
   -- j of them from i on
   pub ascii-part : (n i j q : ℕ) → q ≡ p + i → i + j ≤ n → Ascii m p n → Ascii m q j
-  ascii-part n i j q s h x = record { below = λ k l. let e : p + (i + k) ≡ q + k = omega arith in rw e at (x .below (i + k) (omega arith)) }
+  ascii-part n i j q s h x = record {
+    below = λ k l. let e : p + (i + k) ≡ q + k = omega arith in rw e at (x .below (i + k) (omega arith));
+  }
 
   -- the first i and the last j of them, where these are all
   pub ascii-ends : (n i j q : ℕ) → q + j ≡ p + n → j ≤ n → n ≤ i + j → Ascii m p i → Ascii m q j → Ascii m p n
@@ -64,7 +73,9 @@ top-bit b l =
 
 module _ (m : List ℕ) (bytes : (i : ℕ) → Fits w8 (getD m i 0)) where
   -- a byte, and the others
-  bits : (k p : ℕ) → bitAnd (lowFirst m p (suc k)) (topBits (suc k)) ≡ bitAnd (lowFirst m (p + 1) k) (topBits k) * 256 + getD m p 0 / 128 * 128
+  bits : (k p : ℕ)
+      → bitAnd (lowFirst m p (suc k)) (topBits (suc k))
+      ≡ bitAnd (lowFirst m (p + 1) k) (topBits k) * 256 + getD m p 0 / 128 * 128
   bits k p =
       and-block 8 (lowFirst m (p + 1) k) (topBits k) (getD m p 0) 0x80 (bytes p .fits) (omega arith)
       ∙ ap (λ (x : ℕ). bitAnd (lowFirst m (p + 1) k) (topBits k) * 256 + x) (top-bit (getD m p 0) (bytes p .fits))
@@ -74,13 +85,11 @@ module _ (m : List ℕ) (bytes : (i : ℕ) → Fits w8 (getD m i 0)) where
   test-ascii (suc k) p e =
       let s = sym (bits k p) ∙ e in
       let b = bytes p .fits in
-      ascii-ends m p (suc k) 1 k (p + 1) (omega arith) (omega arith) (omega arith) (ascii-one m p (omega arith)) (test-ascii k (p + 1) (omega arith))
+      ascii-ends m p (suc k) 1 k (p + 1) (omega arith) (omega arith) (omega arith)
+      (ascii-one m p (omega arith)) (test-ascii k (p + 1) (omega arith))
 
   pub ascii-test : (k p : ℕ) → Ascii m p k → bitAnd (lowFirst m p k) (topBits k) ≡ 0
-  ascii-test zero p x = and-zero
-    where
-      and-zero : bitAnd 0 0 ≡ 0
-      and-zero = omega arith
+  ascii-test zero p x = refl
   ascii-test (suc k) p x =
       let h : getD m p 0 < 0x80 = rw (add-zero p) at (x .below 0 (omega arith)) in
       let r = ascii-test k (p + 1) (ascii-part m p (suc k) 1 k (p + 1) (omega arith) (omega arith) x) in
@@ -89,19 +98,24 @@ module _ (m : List ℕ) (bytes : (i : ℕ) → Fits w8 (getD m i 0)) where
 -- ---- the run: n of its bytes are ASCII exactly where it is no shorter
 run-below : (s : List ℕ) (i : ℕ) → i < asciiRun s → getD s i 0 < 0x80
 run-below [] i l = absurd (omega arith)
-run-below (b ∷ s) zero l = by-test (λ (r : ℕ). zero < r → b < 0x80) (ltb b 0x80) (λ t h. omega (arith, tests)) (λ t h. absurd (omega arith)) l
+run-below (b ∷ s) zero l =
+    by-test (λ (r : ℕ). zero < r → b < 0x80) (ltb b 0x80) (λ t h. omega (arith, tests)) (λ t h. absurd (omega arith)) l
 run-below (b ∷ s) (suc i) l =
-    by-test (λ (r : ℕ). suc i < r → getD s i 0 < 0x80) (ltb b 0x80) (λ t h. run-below s i (omega arith)) (λ t h. absurd (omega arith)) l
+    by-test (λ (r : ℕ). suc i < r → getD s i 0 < 0x80) (ltb b 0x80)
+    (λ t h. run-below s i (omega arith)) (λ t h. absurd (omega arith)) l
 
 below-run : (s : List ℕ) (n : ℕ) → n ≤ length s → ((i : ℕ) → i < n → getD s i 0 < 0x80) → n ≤ asciiRun s
 below-run s zero l f = omega arith
 below-run [] (suc n) l f = absurd (omega arith)
 below-run (b ∷ s) (suc n) l f =
-    by-test (λ (r : ℕ). suc n ≤ r) (ltb b 0x80) (λ t. omega (arith, below-run s n (omega arith) (λ i h. f (suc i) (omega arith)))) (λ t. absurd (omega (arith, tests, f 0 (omega arith))))
+    by-test (λ (r : ℕ). suc n ≤ r) (ltb b 0x80)
+    (λ t. omega (arith, below-run s n (omega arith) (λ i h. f (suc i) (omega arith))))
+    (λ t. absurd (omega (arith, tests, f 0 (omega arith))))
 
 run-length : (s : List ℕ) → asciiRun s ≤ length s
 run-length [] = omega arith
-run-length (b ∷ s) = by-test (λ (r : ℕ). r ≤ suc (length s)) (ltb b 0x80) (λ t. omega (arith, run-length s)) (λ t. omega arith)
+run-length (b ∷ s) =
+    by-test (λ (r : ℕ). r ≤ suc (length s)) (ltb b 0x80) (λ t. omega (arith, run-length s)) (λ t. omega arith)
 
 module _ (m : List ℕ) (p most : ℕ) where
   pub run-few : asciiAt m p most ≤ most
@@ -116,14 +130,16 @@ module _ (m : List ℕ) (p most : ℕ) where
   unfolding asciiAt
   run-ascii n h = record {
     below = λ i l.
-        rw (getD-take most (drop p m) i 0 (omega (arith, run-few)), getD-drop p m i 0) at (run-below (take most (drop p m)) i (omega arith));
+        rw (getD-take most (drop p m) i 0 (omega (arith, run-few)), getD-drop p m i 0)
+        at (run-below (take most (drop p m)) i (omega arith));
   }
 
   pub ascii-run : p + most ≤ length m → (n : ℕ) → n ≤ most → Ascii m p n → n ≤ asciiAt m p most
   unfolding asciiAt
   ascii-run l n h x =
       let e = length-take-le most (drop p m) (omega (arith, length-drop p m)) in
-      below-run (take most (drop p m)) n (omega arith) (λ i j. rw (getD-take most (drop p m) i 0 (omega arith), getD-drop p m i 0) (x .below i j))
+      below-run (take most (drop p m)) n (omega arith)
+      (λ i j. rw (getD-take most (drop p m) i 0 (omega arith), getD-drop p m i 0) (x .below i j))
 
   -- past the end, where another byte stands, and up to the end
   pub run-past : length m ≤ p → 0 ≡ asciiAt m p most
@@ -131,7 +147,9 @@ module _ (m : List ℕ) (p most : ℕ) where
   run-past l = rw (drop-of-length-le m l, take-nil most)
 
   pub run-other : 0x80 ≤ getD m p 0 → 0 ≡ asciiAt m p most
-  run-other h = split 0 (asciiAt m p most) (λ z. absurd (omega (arith, rw (add-zero p) at (run-ascii 1 (omega arith) .below 0 (omega arith))))) (λ z. omega arith)
+  run-other h = split 0 (asciiAt m p most)
+      (λ z. absurd (omega (arith, rw (add-zero p) at (run-ascii 1 (omega arith) .below 0 (omega arith)))))
+      (λ z. omega arith)
 
   pub run-end : (n : ℕ) → n ≡ length m - p → n ≤ most → asciiAt m p n ≡ asciiAt m p most
   unfolding asciiAt
@@ -182,16 +200,25 @@ module _ (m : List ℕ) (bytes : (i : ℕ) → Fits w8 (getD m i 0)) (p : ℕ) w
 module _ (m : List ℕ) (p n : ℕ) where
   -- a test of some of the bytes fails
   pub tells-no : (j q : ℕ) {t : Bool} → Tells t m q j → t ≡ false → p ≤ q → q + j ≤ p + n → Tells false m p n
-  tells-no j q {t} f e h l = (λ y. let z : _≡_ {A = ℕ} 0 1 = cc in absurd (omega arith), λ x. sym e ∙ f .1 (ascii-part m p n (q - p) j q (omega arith) (omega arith) x))
+  tells-no j q {t} f e h l = (
+    λ y. let z : _≡_ {A = ℕ} 0 1 = cc in absurd (omega arith),
+    λ x. sym e ∙ f .1 (ascii-part m p n (q - p) j q (omega arith) (omega arith) x),
+  )
 
   -- the last j are tested, and those before them are ASCII
-  pub tells-last : (i j q : ℕ) {r : Bool} → Ascii m p i → Tells r m q j → q + j ≡ p + n → j ≤ n → i ≤ n → n ≤ i + j → Tells r m p n
-  tells-last i j q {r} f g s l k h =
-      (λ y. ascii-ends m p n i j q s l h f (g .0 y), λ x. g .1 (ascii-part m p n (q - p) j q (omega arith) (omega arith) x))
+  pub tells-last : (i j q : ℕ) {r : Bool} → Ascii m p i → Tells r m q j
+      → q + j ≡ p + n → j ≤ n → i ≤ n → n ≤ i + j → Tells r m p n
+  tells-last i j q {r} f g s l k h = (
+    λ y. ascii-ends m p n i j q s l h f (g .0 y),
+    λ x. g .1 (ascii-part m p n (q - p) j q (omega arith) (omega arith) x),
+  )
 
   -- the run has them
   pub tells-run : {r : ℕ} → p + n ≤ length m → r ≡ asciiAt m p n → Tells (leb n r) m p n
-  tells-run {r} l e = (λ y. run-ascii m p n n (omega (arith, leb-true n r y)), λ x. le-leb n r (omega (arith, ascii-run m p n l n (omega arith) x)))
+  tells-run {r} l e = (
+    λ y. run-ascii m p n n (omega (arith, leb-true n r y)),
+    λ x. le-leb n r (omega (arith, ascii-run m p n l n (omega arith) x)),
+  )
 
 -- one byte more, as a test of one
 pub tells-byte : (m : List ℕ) (p : ℕ) → Tells (ltb (getD m p 0) 0x80) m p 1
@@ -215,7 +242,8 @@ module _ {w : ℕ} {m : List ℕ} {p most n : ℕ} (R : Counting w m p most n) w
       let r = asciiAt m p most in
       let e : n / w * w ≡ n = omega (arith, div-add-mod' n w, R .whole) in
       let f : (n / w + 1) * w ≡ n / w * w + w = add-mul (n / w) 1 w ∙ ap (λ (x : ℕ). n / w * w + x) (one-mul w) in
-      sym e ∙ ap (λ (x : ℕ). x * w) (sym (div-eq-of-lt-le {k = n / w} w {m = r} (omega (arith, R .within)) (omega arith)))
+      let q : r / w ≡ n / w = div-eq-of-lt-le {k = n / w} w {m = r} (omega (arith, R .within)) (omega arith) in
+      sym e ∙ ap (λ (x : ℕ). x * w) (sym q)
 
   -- too few are left
   pub counting-end : 0 < w → most < n + w → n ≡ asciiAt m p most / w * w
@@ -228,7 +256,8 @@ module _ {w : ℕ} {m : List ℕ} {p most n : ℕ} (R : Counting w m p most n) w
       room = R .room;
       whole = add-mod-right n w ∙ R .whole;
       within = ascii-run m p most (R .room) (n + w) h
-          (ascii-ends m p (n + w) n w (p + n) (omega arith) (omega arith) (omega arith) (run-ascii m p most n (R .within)) (f .0 e));
+          (ascii-ends m p (n + w) n w (p + n) (omega arith) (omega arith) (omega arith)
+          (run-ascii m p most n (R .within)) (f .0 e));
     }
 
     pub counting-stop : 0 < w → t ≡ false → n ≡ asciiAt m p most / w * w

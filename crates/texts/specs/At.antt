@@ -8,27 +8,31 @@ use native.Mathlib.Nat.{min-eq-left, min-eq-right, add-zero}
 use native.Mathlib.Numerals.{add-one}
 use native.Mathlib.Omega.{arith}
 use lib.ListN.{length, take, drop, getD, length-append, length-take, length-drop, drop-of-length-le}
-use lib.Seq.{drop-cons, drop-drop}
-use Rattle.flow.specs.Tests.{by-test, split, pick-either, within-yes, within-is, bytes-drop}
-use Rattle.flow.specs.Flow.{pick, within, Bytes, Entry, Read, From, One, Done, Fault, then, fail, byteAt, mapped, bind}
+use lib.Seq.{drop-cons, drop-drop, getD-drop}
+use Rattle.flow.specs.Tests.{by-test, by-cases, split, pick-either, within-yes, within-below, within-above, within-is, bytes-drop}
+use Rattle.flow.specs.Flow.{pick, within, Bytes, Entry, Read, From, One, Done, Fault, then, give, fail, byteAt, mapped, bind}
 use Rattle.flow.specs.Steps.{Answer, before, stepped, renamed}
 use Rattle.flow.specs.Laws.{Parsed, quiet}
+use Rattle.flow.specs.Refusals.{Told}
+use Rattle.flow.specs.Lifts.{lifted}
 use Rattle.wire.specs.BigEndian.{joined}
 use Rattle.scalar.specs.declared.Rule.the-variants.{Plain}
 use Rattle.scalar.specs.declared.Begun.{Begun}
 use Rattle.scalar.specs.declared.Begun.the-variants as begun
 use Rattle.scalar.specs.declared.Kind.{Kind}
 use Rattle.scalar.specs.declared.Kind.the-variants.{Utf8, Binary}
-use Rattle.scalar.specs.declared.CharLead.{CharLead}
-use Rattle.scalar.specs.declared.CharLead.the-variants.{Basic, Supplementary, NoChar}
+use Rattle.scalar.specs.declared.CharLead.the-variants.{Basic, Supplementary, Halved, NoChar}
 use Rattle.texts.specs.declared.HeadForm.{HeadForm}
 use Rattle.texts.specs.declared.HeadForm.the-variants.{Starts, NoHead}
-use Rattle.scalar.specs.Scalars.{value, Form, formAt, inside, bytesOf, numberFrom, partHead, lastHeads, charLead, units, continued, character, characters, octets, body, chunk, chunks, stringFrom, stringAt}
+use Rattle.scalar.specs.Scalars.{value, Form, formAt, inside, bytesOf, numberFrom, partHead, lastHeads, charLead, paired, units, ranged, continued, pairOf, pairThen, character, characters, octets, body, chunk, chunks, stringFrom, stringAt, bySecond}
 use Rattle.scalar.specs.NumberLaws.{numberBy, form-here}
 use Rattle.scalar.specs.NumberAt.{bytes-there, bytes-cut}
-use Rattle.scalar.specs.Grammar.{Continued, no-more, follows, Char, one-unit, two-units, Body, empty, with-char}
-use Rattle.scalar.specs.TextUnits.{body-units}
-use Rattle.scalar.specs.TextLaws.{body-read, Whole}
+use Rattle.scalar.specs.Grammar.{Continued, no-more, follows, Body}
+use Rattle.scalar.specs.TextUnits.{body-content, body-units, body-length}
+use Rattle.scalar.specs.Decoded.{decoded, body-decoded}
+use Rattle.scalar.specs.Bits.{content-few}
+use Rattle.scalar.specs.Refusals.{body-tells}
+use Rattle.scalar.specs.TextLaws.{body-read, Whole, body-lifts}
 use Rattle.scalar.specs.Answers.{sizes, measuredAt}
 use Rattle.texts.specs.Answers.{extentAt, shifted, lastForm, headForm, prefixed, chunked}
 
@@ -46,23 +50,7 @@ byte-takes : (P : List ℕ → Type 0) (b : ℕ) (s : List ℕ) (o : Answer (Lis
 byte-takes P b s (Done j cs es c) h = (omega (arith, h .0), ap suc (h .1), h .2, h .3)
 byte-takes P b s (Fault x o) h = tt
 
--- a byte, what f reads after it, and what g reads after that
-module _ (Q R P : List ℕ → Type 0) (f g : Read One One (List ℕ)) (b : ℕ) where
-  then-takes : ((at : ℕ) (s : List ℕ) → Takes Q s (f tt at s)) → ((at : ℕ) (s : List ℕ) → Takes R s (g tt at s)) → ((cs ds : List ℕ) → Q cs → R ds → P (b ∷ (cs ++ ds))) → (at : ℕ) (s : List ℕ)
-      → Takes P (b ∷ s) (stepped (bind f (λ cs. mapped (λ ds. b ∷ (cs ++ ds)) g) tt at s))
-  then-takes hf hg h at s = first (f tt at s) (hf at s)
-    where
-      second : (j : ℕ) (cs : List ℕ) (es : List (Entry One)) → (j ≤ length s) × (j ≡ length cs) × (es ≡ []) × Q cs → (o : Answer (List ℕ)) → Takes R (drop j s) o
-          → Takes P (b ∷ s) (stepped (before j es (renamed (λ ds. b ∷ (cs ++ ds)) o)))
-      second j cs es x (Done i ds fs c) y =
-          (omega (arith, x .0, y .0, length-drop j s), omega (arith, x .1, y .1, length-append cs ds), rw (x .2) (y .2), h cs ds (x .3) (y .3))
-      second j cs es x (Fault z o) y = tt
-
-      first : (o : Answer (List ℕ)) → Takes Q s o → Takes P (b ∷ s) (stepped (then o (λ n cs es c. before n es (mapped (λ ds. b ∷ (cs ++ ds)) g c (at + n) (drop n s)))))
-      first (Done j cs es c) x = second j cs es x (g tt (at + j) (drop j s)) (hg (at + j) (drop j s))
-      first (Fault z o) x = tt
-
--- ---- of the bytes after a character's first, of characters, of bytes
+-- ---- of the bytes after a character's first
 continued-takes : (o n lo hi at : ℕ) (s : List ℕ) → Takes (Continued n lo hi) s (continued o n lo hi tt at s)
 continued-takes o zero lo hi at s = (omega arith, refl, refl, no-more)
 continued-takes o (suc n) lo hi at [] = tt
@@ -72,28 +60,6 @@ continued-takes o (suc n) lo hi at (b ∷ s) =
     byte-takes (Continued (suc n) lo hi) b s (continued o n 0x80 0xc0 tt (at + 1) s)
     (takes-weaker (Continued n 0x80 0xc0) (λ cs. Continued (suc n) lo hi (b ∷ cs)) s (λ cs x. follows (r .0) (r .1) x) (continued o n 0x80 0xc0 tt (at + 1) s) (continued-takes o n 0x80 0xc0 (at + 1) s)))
     (λ t. tt)
-
--- after a character of two units, if one may stand there, g reads one unit less than n
-abbrev Less : ℕ → Option (Read One One (List ℕ)) → Type 0
-Less n none = Unit {0}
-Less n (some g) = (j : ℕ) × (suc j ≡ n) × ((at : ℕ) (s : List ℕ) → Takes (Body Utf8 j) s (g tt at s))
-
-character-takes : (n : ℕ) (f : Read One One (List ℕ)) (g : Option (Read One One (List ℕ))) → ((at : ℕ) (s : List ℕ) → Takes (Body Utf8 n) s (f tt at s)) → Less n g → (p b : ℕ) (l : CharLead) → charLead b ≡ l
-    → (at : ℕ) (s : List ℕ) → Takes (Body Utf8 (suc n)) (b ∷ s) (stepped (character l f g p b tt at s))
-character-takes n f g hf hg p b (Basic k lo hi) e = then-takes (Continued k lo hi) (Body Utf8 n) (Body Utf8 (suc n)) (continued p k lo hi) f b (continued-takes p k lo hi) hf
-    (λ cs ds x y. subst (λ (i : ℕ). Body Utf8 i (b ∷ (cs ++ ds))) (omega arith) (with-char (one-unit e x) y))
-character-takes n f none hf hg p b (Supplementary lo hi) e = λ at s. tt
-character-takes n f (some g) hf hg p b (Supplementary lo hi) e = then-takes (Continued 3 lo hi) (Body Utf8 (hg .0)) (Body Utf8 (suc n)) (continued p 3 lo hi) g b (continued-takes p 3 lo hi) (hg .2)
-    (λ cs ds x y. subst (λ (i : ℕ). Body Utf8 i (b ∷ (cs ++ ds))) (omega (arith, hg .1)) (with-char (two-units e x) y))
-character-takes n f g hf hg p b NoChar e = λ at s. tt
-
-characters-takes : (n at : ℕ) (s : List ℕ) → Takes (Body Utf8 n) s (characters n tt at s)
-characters-takes zero at s = (omega arith, refl, refl, empty)
-characters-takes (suc zero) at [] = tt
-characters-takes (suc zero) at (b ∷ s) = character-takes 0 (characters zero) none (characters-takes zero) tt at b (charLead b) refl (at + 1) s
-characters-takes (suc (suc n)) at [] = tt
-characters-takes (suc (suc n)) at (b ∷ s) =
-    character-takes (suc n) (characters (suc n)) (some (characters n)) (characters-takes (suc n)) (n, refl, characters-takes n) at b (charLead b) refl (at + 1) s
 
 -- bytes: all there, or the message ends
 octets-there : (n at : ℕ) (s : List ℕ) → n ≤ length s → _≡_ {A = Answer (List ℕ)} (octets n tt at s) (Done n (take n s) [] tt)
@@ -109,32 +75,21 @@ octets-cut (suc n) at (b ∷ s) l = rw (octets-cut n (at + 1) s (omega arith)) (
 take-all : (n : ℕ) (s : List ℕ) → n ≤ length s → length (take n s) ≡ n
 take-all n s l = simp length-take (omega arith)
 
-octets-takes : (n at : ℕ) (s : List ℕ) → Takes (λ cs. length cs ≡ n) s (octets n tt at s)
-octets-takes n at s = split (length s) n (λ l. rw (octets-cut n at s l) tt) (λ l. let e = take-all n s l in rw (octets-there n at s l) (l, sym e, refl, e))
-
 continued-length : {n lo hi : ℕ} {cs : List ℕ} → Continued n lo hi cs → length cs ≡ n
 continued-length no-more = refl
 continued-length (follows l h x) = ap suc (continued-length x)
 
-char-long : {u : ℕ} {w : List ℕ} → Char Utf8 u w → u ≤ length w
-char-long (one-unit e x) = omega arith
-char-long (two-units e x) = omega (arith, continued-length x)
+-- what is read of a body lies in the message, and there are no items
+abbrev Stays : List ℕ → Answer (List ℕ) → Type 0
+Stays s (Done j cs es c) = (j ≤ length s) × (es ≡ [])
+Stays s (Fault x o) = Unit {0}
 
-body-long : {n : ℕ} {cs : List ℕ} → Body Utf8 n cs → n ≤ length cs
-body-long empty = omega arith
-body-long (with-char {w = w} {v = v} x y) = omega (arith, char-long x, body-long y, length-append w v)
-
-octet-units : (cs : List ℕ) → units Binary cs ≡ length cs
-octet-units [] = refl
-octet-units (b ∷ cs) = omega (arith, octet-units cs)
-
--- what a chunk's content is: its units are those that its head counts, and are no more than its bytes
-abbrev Counts : Kind → ℕ → List ℕ → Type 0
-Counts k n cs = (units k cs ≡ n) × (n ≤ length cs)
-
-body-takes : (k : Kind) (n at : ℕ) (s : List ℕ) → Takes (Counts k n) s (body k n tt at s)
-body-takes Utf8 n at s = takes-weaker (Body Utf8 n) (Counts Utf8 n) s (λ cs x. (body-units x, body-long x)) (characters n tt at s) (characters-takes n at s)
-body-takes Binary n at s = takes-weaker (λ cs. length cs ≡ n) (Counts Binary n) s (λ cs x. (octet-units cs ∙ x, omega arith)) (octets n tt at s) (octets-takes n at s)
+body-stays : (k : Kind) (n at : ℕ) (s : List ℕ) → Stays s (body k n tt at s)
+body-stays k n at s = go (body k n tt at s) (body-tells One One (λ x. Unit {0}) (at + length s) tt tt tt k n tt at s (omega arith)) (body-lifts (tt {0}) k n .lifts at s)
+  where
+    go : (o : Answer (List ℕ)) → Told (λ x. Unit {0}) (at + length s) s o → o ≡ lifted tt o → Stays s o
+    go (Done j cs es c) t e = (t, cc)
+    go (Fault x o) t e = tt
 
 -- ---- the byte at a place, and the end
 module _ {A : Type 0} (g : From One One A) (m : List ℕ) (p : ℕ) where
@@ -157,15 +112,6 @@ some-left P (suc n) l h = let e : suc n - 1 ≡ n = omega arith in rw e (h n)
 apart : {A B : Type 0} {n x o : ℕ} {a : A} {es : List (Entry One)} {c : One} → _≡_ {A = Answer A} (Done n a es c) (Fault x o) → B
 apart e = let z : _≡_ {A = ℕ} 0 1 = cc in absurd (omega arith)
 
--- they lie in the message, and P holds of them
-extent-takes : (P : List ℕ → Type 0) (f : Read One One (List ℕ)) (m : List ℕ) (p j : ℕ) → ((at : ℕ) (s : List ℕ) → Takes P s (f tt at s)) → p ≤ length m → Done j j [] tt ≡ extentAt f m p
-    → (p + j ≤ length m) × (cs : List ℕ) × (length cs ≡ j) × P cs
-extent-takes P f m p j h l = go (f tt p (drop p m)) (h p (drop p m))
-  where
-    go : (r : Answer (List ℕ)) → Takes P (drop p m) r → Done j j [] tt ≡ renamed length r → (p + j ≤ length m) × (cs : List ℕ) × (length cs ≡ j) × P cs
-    go (Done i cs es c) t e = let q : i ≡ j = cc in (omega (arith, t .0, length-drop p m), cs, omega (arith, t .1), t .3)
-    go (Fault x o) t e = apart e
-
 -- after a byte b, what f reads and then what g reads: as f is refused; or j bytes are read, and g from there
 module _ (f g : Read One One (List ℕ)) (b : ℕ) (m : List ℕ) (p : ℕ) where
   abbrev both : Answer (List ℕ)
@@ -182,17 +128,17 @@ module _ (f g : Read One One (List ℕ)) (b : ℕ) (m : List ℕ) (p : ℕ) wher
       go (Fault y q) e = sym e
 
   both-extent : (P : List ℕ → Type 0) → ((at : ℕ) (s : List ℕ) → Takes P s (f tt at s)) → (j : ℕ) → Done j j [] tt ≡ extentAt f m (p + 1)
-      → renamed length both ≡ shifted (j + 1) (extentAt g m (p + (j + 1)))
+      → renamed length both ≡ shifted (j + 1) (j + 1) (extentAt g m (p + (j + 1)))
   both-extent P h j = go (f tt (p + 1) (drop (p + 1) m)) (h (p + 1) (drop (p + 1) m))
     where
-      end : (cs : List ℕ) → j ≡ length cs → (r : Answer (List ℕ)) → renamed length (stepped (before j [] (renamed (λ ds. b ∷ (cs ++ ds)) r))) ≡ shifted (j + 1) (renamed length r)
+      end : (cs : List ℕ) → j ≡ length cs → (r : Answer (List ℕ)) → renamed length (stepped (before j [] (renamed (λ ds. b ∷ (cs ++ ds)) r))) ≡ shifted (j + 1) (j + 1) (renamed length r)
       end cs e (Done i ds fs c) =
           let q : suc (j + i) ≡ j + 1 + i = omega arith in
           let r : suc (length (cs ++ ds)) ≡ j + 1 + length ds = omega (arith, length-append cs ds) in
           rw (q, r) refl
       end cs e (Fault x o) = refl
 
-      go : (r : Answer (List ℕ)) → Takes P (drop (p + 1) m) r → Done j j [] tt ≡ renamed length r → renamed length (behind r) ≡ shifted (j + 1) (extentAt g m (p + (j + 1)))
+      go : (r : Answer (List ℕ)) → Takes P (drop (p + 1) m) r → Done j j [] tt ≡ renamed length r → renamed length (behind r) ≡ shifted (j + 1) (j + 1) (extentAt g m (p + (j + 1)))
       go (Done i cs es c) t e =
           let q : i ≡ j = cc in
           let r : p + 1 + j ≡ p + (j + 1) = omega arith in
@@ -217,16 +163,120 @@ module _ (o n lo hi : ℕ) (m : List ℕ) (p : ℕ) where
     pub continued-out : within lo hi (getD m p 0) ≡ false → extentAt (continued o n lo hi) m p ≡ Fault 4 o
     continued-out e = first ∙ rw e refl
 
-    pub continued-next : lo ≤ getD m p 0 → getD m p 0 < hi → extentAt (continued o n lo hi) m p ≡ shifted 1 (extentAt (continued o (n - 1) 0x80 0xc0) m (p + 1))
+    pub continued-next : lo ≤ getD m p 0 → getD m p 0 < hi → extentAt (continued o n lo hi) m p ≡ shifted 1 1 (extentAt (continued o (n - 1) 0x80 0xc0) m (p + 1))
     continued-next h k = first ∙ rw (within-yes lo hi (getD m p 0) h k) (go (continued o (n - 1) 0x80 0xc0 tt (p + 1) (drop (p + 1) m)))
       where
-        go : (r : Answer (List ℕ)) → renamed length (stepped (renamed (λ cs. getD m p 0 ∷ cs) r)) ≡ shifted 1 (renamed length r)
+        go : (r : Answer (List ℕ)) → renamed length (stepped (renamed (λ cs. getD m p 0 ∷ cs) r)) ≡ shifted 1 1 (renamed length r)
         go (Done i cs es c) = let e : suc i ≡ 1 + i = omega arith in let d : suc (length cs) ≡ 1 + length cs = omega arith in rw (e, d) refl
         go (Fault x q) = refl
 
 -- n bytes there are just n
-pub continued-size : (o n lo hi : ℕ) (m : List ℕ) (p j : ℕ) → p ≤ length m → Done j j [] tt ≡ extentAt (continued o n lo hi) m p → (p + j ≤ length m) × (j ≡ n)
-continued-size o n lo hi m p j l e = let t = extent-takes (Continued n lo hi) (continued o n lo hi) m p j (continued-takes o n lo hi) l e in (t .0, sym (t .2) ∙ continued-length (t .3))
+pub continued-size : (o n lo hi : ℕ) (m : List ℕ) (p j b : ℕ) → p ≤ length m → Done j b [] tt ≡ extentAt (continued o n lo hi) m p
+    → (p + j ≤ length m) × (j ≡ n) × (Done j j [] tt ≡ extentAt (continued o n lo hi) m p)
+continued-size o n lo hi m p j b l = go (continued o n lo hi tt p (drop p m)) (continued-takes o n lo hi p (drop p m))
+  where
+    go : (r : Answer (List ℕ)) → Takes (Continued n lo hi) (drop p m) r → Done j b [] tt ≡ renamed length r → (p + j ≤ length m) × (j ≡ n) × (Done j j [] tt ≡ renamed length r)
+    go (Done i cs es c) t e =
+        let q : i ≡ j = cc in
+        let f : length cs ≡ j = omega (arith, t .1) in
+        (omega (arith, t .0, length-drop p m), sym f ∙ continued-length (t .3), rw (q, f, t .2) refl)
+    go (Fault x o) t e = apart e
+
+-- ---- a byte in a range, at a place, by what is read of it alone; and then f
+module _ {A : Type 0} (f : ℕ → Read One One A) (o lo hi : ℕ) (m : List ℕ) (q : ℕ) (l : q ≤ length m) where
+  abbrev after-byte : ℕ → Answer A
+  after-byte b = stepped (f b tt (q + 1) (drop (q + 1) m))
+
+  in-range : q < length m → within lo hi (getD m q 0) ≡ true → (extentAt (continued o 1 lo hi) m q ≡ Done 1 1 [] tt) × (ranged o lo hi f tt q (drop q m) ≡ after-byte (getD m q 0))
+  in-range k e = let r = within-is lo hi (getD m q 0) (rw e tt) in (continued-next o 1 lo hi m q (omega arith) k (r .0) (r .1), byte-at (λ p b. cond (within lo hi b) (f b) (fail 4 o)) m q k ∙ rw e refl)
+
+  out-of-range : q < length m → within lo hi (getD m q 0) ≡ false → (extentAt (continued o 1 lo hi) m q ≡ Fault 4 o) × (ranged o lo hi f tt q (drop q m) ≡ Fault 4 o)
+  out-of-range k e = (continued-out o 1 lo hi m q (omega arith) k e, byte-at (λ p b. cond (within lo hi b) (f b) (fail 4 o)) m q k ∙ rw e refl)
+
+  at-end : length m ≤ q → (extentAt (continued o 1 lo hi) m q ≡ Fault 2 (length m)) × (ranged o lo hi f tt q (drop q m) ≡ Fault 2 (length m))
+  at-end k = (continued-ends o 1 lo hi m q (omega arith) k l, no-byte (λ p b. cond (within lo hi b) (f b) (fail 4 o)) m q k l)
+
+  refused-as : {u : Answer ℕ} {r : Answer A} (y x : ℕ) → Fault y x ≡ u → (z w : ℕ) → u ≡ Fault z w → r ≡ Fault z w → r ≡ Fault y x
+  refused-as y x e z w d h = let i : _≡_ {A = Answer ℕ} (Fault y x) (Fault z w) = e ∙ d in let j : y ≡ z = cc in let k : x ≡ w = cc in rw (j, k) h
+
+  pub ranged-fault : (y x : ℕ) → Fault y x ≡ extentAt (continued o 1 lo hi) m q → ranged o lo hi f tt q (drop q m) ≡ Fault y x
+  ranged-fault y x e = split q (length m)
+      (λ k. by-cases (within lo hi (getD m q 0))
+      (λ t. apart (sym (e ∙ in-range k t .0)))
+      (λ t. let r = out-of-range k t in refused-as y x e 4 o (r .0) (r .1)))
+      (λ k. let r = at-end k in refused-as y x e 2 (length m) (r .0) (r .1))
+
+  pub ranged-next : (j b : ℕ) → Done j b [] tt ≡ extentAt (continued o 1 lo hi) m q → (q < length m) × (lo ≤ getD m q 0) × (getD m q 0 < hi) × (ranged o lo hi f tt q (drop q m) ≡ after-byte (getD m q 0))
+  ranged-next j b e = split q (length m)
+      (λ k. by-cases (within lo hi (getD m q 0))
+      (λ t. let r = within-is lo hi (getD m q 0) (rw t tt) in (k, r .0, r .1, in-range k t .1))
+      (λ t. apart (e ∙ out-of-range k t .0)))
+      (λ k. apart (e ∙ at-end k .0))
+
+-- ---- a pair of halves at p, whose second byte is d: the four bytes after that, each as it is read alone
+module _ (m : List ℕ) (p d : ℕ) where
+  abbrev Good : ℕ → ℕ → ℕ → Type 0
+  Good q lo hi = (j : ℕ) × (b : ℕ) × (Done j b [] tt ≡ extentAt (continued p 1 lo hi) m q)
+
+  abbrev Bad : ℕ → ℕ → ℕ → ℕ → ℕ → Type 0
+  Bad q lo hi y o = Fault y o ≡ extentAt (continued p 1 lo hi) m q
+
+  abbrev fourth : ℕ → ℕ → ℕ → Read One One (List ℕ)
+  fourth x y z = give (paired d x y z)
+
+  abbrev third : ℕ → ℕ → Read One One (List ℕ)
+  third x y = ranged p 0x80 0xc0 (fourth x y)
+
+  abbrev second : ℕ → Read One One (List ℕ)
+  second x = ranged p 0xb0 0xc0 (third x)
+
+  abbrev first-of : ℕ → Read One One (List ℕ)
+  first-of x = ranged p 0xed 0xee (λ e. second x)
+
+  abbrev pub pair-there : Answer (List ℕ)
+  pair-there = pairOf p d tt (p + 2) (drop (p + 2) m)
+
+  next-place : {A : Type 0} (f : ℕ → Read One One A) (lo hi q r : ℕ) → q ≤ length m → q + 1 ≡ r → Good q lo hi → (r ≤ length m) × (ranged p lo hi f tt q (drop q m) ≡ stepped (f (getD m q 0) tt r (drop r m)))
+  next-place f lo hi q r l e g = let w = ranged-next f p lo hi m q l (g .0) (g .1) (g .2) in (omega (arith, w .0), rw e at (w .3))
+
+  module _ (l : p + 2 ≤ length m) where
+    pub pair-bad : (y o : ℕ) → Bad (p + 2) 0x80 0xc0 y o → pair-there ≡ Fault y o
+    pair-bad y o e = ranged-fault first-of p 0x80 0xc0 m (p + 2) l y o e
+
+    module _ (g : Good (p + 2) 0x80 0xc0) where
+      step-one : (p + 3 ≤ length m) × (pair-there ≡ stepped (first-of (getD m (p + 2) 0) tt (p + 3) (drop (p + 3) m)))
+      step-one = next-place first-of 0x80 0xc0 (p + 2) (p + 3) l (omega arith) g
+
+      pub pair-one-more : p + 3 ≤ length m
+      pair-one-more = step-one .0
+
+      pub pair-bad-2 : (y o : ℕ) → Bad (p + 3) 0xed 0xee y o → pair-there ≡ Fault y o
+      pair-bad-2 y o e = step-one .1 ∙ ap stepped (ranged-fault (λ e. second (getD m (p + 2) 0)) p 0xed 0xee m (p + 3) (step-one .0) y o e)
+
+      module _ (h : Good (p + 3) 0xed 0xee) where
+        step-two : (p + 4 ≤ length m) × (first-of (getD m (p + 2) 0) tt (p + 3) (drop (p + 3) m) ≡ stepped (second (getD m (p + 2) 0) tt (p + 4) (drop (p + 4) m)))
+        step-two = next-place (λ e. second (getD m (p + 2) 0)) 0xed 0xee (p + 3) (p + 4) (step-one .0) (omega arith) h
+
+        pub pair-two-more : p + 4 ≤ length m
+        pair-two-more = step-two .0
+
+        pub pair-bad-3 : (y o : ℕ) → Bad (p + 4) 0xb0 0xc0 y o → pair-there ≡ Fault y o
+        pair-bad-3 y o e = step-one .1 ∙ ap stepped (step-two .1 ∙ ap stepped (ranged-fault (third (getD m (p + 2) 0)) p 0xb0 0xc0 m (p + 4) (step-two .0) y o e))
+
+        module _ (i : Good (p + 4) 0xb0 0xc0) where
+          step-three : (p + 5 ≤ length m) × (second (getD m (p + 2) 0) tt (p + 4) (drop (p + 4) m) ≡ stepped (third (getD m (p + 2) 0) (getD m (p + 4) 0) tt (p + 5) (drop (p + 5) m)))
+          step-three = next-place (third (getD m (p + 2) 0)) 0xb0 0xc0 (p + 4) (p + 5) (step-two .0) (omega arith) i
+
+          pub pair-three-more : p + 5 ≤ length m
+          pair-three-more = step-three .0
+
+          pub pair-bad-4 : (y o : ℕ) → Bad (p + 5) 0x80 0xc0 y o → pair-there ≡ Fault y o
+          pair-bad-4 y o e = step-one .1 ∙ ap stepped (step-two .1 ∙ ap stepped (step-three .1 ∙ ap stepped (ranged-fault (fourth (getD m (p + 2) 0) (getD m (p + 4) 0)) p 0x80 0xc0 m (p + 5) (step-three .0) y o e)))
+
+          pub pair-good : Good (p + 5) 0x80 0xc0 → (p + 6 ≤ length m) × (pair-there ≡ Done 4 (paired d (getD m (p + 2) 0) (getD m (p + 4) 0) (getD m (p + 5) 0)) [] tt)
+          pair-good j =
+              let w = next-place (fourth (getD m (p + 2) 0) (getD m (p + 4) 0)) 0x80 0xc0 (p + 5) (p + 6) (step-three .0) (omega arith) j in
+              (w .0, step-one .1 ∙ ap stepped (step-two .1 ∙ ap stepped (step-three .1 ∙ ap stepped (w .1))))
 
 -- ---- characters, at a place
 -- what may stand after a character of two units, where n more than one are left with it
@@ -238,14 +288,43 @@ characters-first : (n at : ℕ) (s : List ℕ) → characters (suc n) tt at s �
 characters-first zero at s = refl
 characters-first (suc n) at s = refl
 
--- the byte b opens a character of u units, with k bytes after it
-pub data Opens (b : ℕ) : ℕ → ℕ → ℕ → ℕ → Type 0 where
-  basic : {k lo hi : ℕ} → charLead b ≡ Basic k lo hi → Opens b k lo hi 1
-  supplementary : {lo hi : ℕ} → charLead b ≡ Supplementary lo hi → Opens b 3 lo hi 2
+-- ed stands at p; and there a high half begins
+pub record Halves (m : List ℕ) (p : ℕ) : Type 0 where
+  pub led : charLead (getD m p 0) ≡ Halved
 
-pub opens-units : {b k lo hi u : ℕ} → Opens b k lo hi u → (0 < u) × (u ≤ suc k)
+pub record HighHalf (m : List ℕ) (p : ℕ) : Type 0 where
+  pub ed : Halves m p
+  pub from : 0xa0 ≤ getD m (p + 1) 0
+  pub below : getD m (p + 1) 0 < 0xb0
+
+-- the byte at p opens a character of u units, with k bytes after it
+pub data Opens (m : List ℕ) (p : ℕ) : ℕ → ℕ → ℕ → ℕ → Type 0 where
+  basic : {k lo hi : ℕ} → charLead (getD m p 0) ≡ Basic k lo hi → Opens m p k lo hi 1
+  below-half : charLead (getD m p 0) ≡ Halved → getD m (p + 1) 0 < 0xa0 → Opens m p 2 0x80 0xa0 1
+  supplementary : {lo hi : ℕ} → charLead (getD m p 0) ≡ Supplementary lo hi → Opens m p 3 lo hi 2
+
+pub opens-units : {m : List ℕ} {p k lo hi u : ℕ} → Opens m p k lo hi u → (0 < u) × (u ≤ suc k)
 opens-units (basic e) = (omega arith, omega arith)
+opens-units (below-half e h) = (omega arith, omega arith)
 opens-units (supplementary e) = (omega arith, omega arith)
+
+-- below a0 it goes on as in any other character
+below-is : (f : Read One One (List ℕ)) (g : Option (Read One One (List ℕ))) (p b at : ℕ) (s : List ℕ) → getD s 0 0 < 0xa0
+    → character Halved f g p b tt at s ≡ bind (continued p 2 0x80 0xa0) (λ cs. mapped (λ ds. b ∷ (cs ++ ds)) f) tt at s
+below-is f g p b at [] h = refl
+below-is f g p b at (d ∷ s) h = by-cases (within 0x80 0xa0 d)
+    (λ e. rw e (go (continued p 1 0x80 0xc0 tt (at + 1) s)))
+    (λ e. rw (e, within-below 0xa0 0xb0 d h) refl)
+  where
+    end : (n : ℕ) (cs : List ℕ) (es : List (Entry One)) (o : Answer (List ℕ)) → stepped (before n es (renamed (λ ds. b ∷ (d ∷ (cs ++ ds))) o)) ≡ before (suc n) es (renamed (λ ds. b ∷ (d ∷ (cs ++ ds))) o)
+    end n cs es (Done i ds fs c) = let e : suc (n + i) ≡ suc n + i = omega arith in rw e refl
+    end n cs es (Fault x o) = refl
+
+    go : (o : Answer (List ℕ))
+        → stepped (then o (λ n cs es c. before n es (mapped (λ ds. b ∷ (d ∷ (cs ++ ds))) f c (at + 1 + n) (drop n s))))
+        ≡ then (stepped (renamed (λ cs. d ∷ cs) o)) (λ n cs es c. before n es (mapped (λ ds. b ∷ (cs ++ ds)) f c (at + n) (drop n (d ∷ s))))
+    go (Done n cs es c) = let e : at + suc n ≡ at + 1 + n = omega arith in rw e (end n cs es (f c (at + 1 + n) (drop n s)))
+    go (Fault x o) = refl
 
 module _ (n : ℕ) (m : List ℕ) (p : ℕ) where
   pub characters-none : n ≤ 0 → extentAt (characters n) m p ≡ Done 0 0 [] tt
@@ -268,22 +347,60 @@ module _ (n : ℕ) (m : List ℕ) (p : ℕ) where
       pub characters-half : (lo hi : ℕ) → charLead (getD m p 0) ≡ Supplementary lo hi → n ≡ 1 → extentAt (characters n) m p ≡ Fault 4 p
       characters-half lo hi e u = ap (renamed length) opened ∙ rw (e, u) refl
 
-      module _ (k lo hi u : ℕ) (x : Opens (getD m p 0) k lo hi u) (h : u ≤ n) where
+      -- a half: its second byte is d
+      module _ (e : Halves m p) (k : p + 1 < length m) where
+        halved-at : characters n tt p (drop p m) ≡ stepped (stepped (bySecond (characters (n - 1)) (behindTwo (n - 1)) p (getD m p 0) (p + 1) (getD m (p + 1) 0) tt (p + 2) (drop (p + 2) m)))
+        halved-at =
+            let two : p + 1 + 1 ≡ p + 2 = omega arith in
+            opened ∙ rw (e .led) (ap stepped (rw two at (byte-at (bySecond (characters (n - 1)) (behindTwo (n - 1)) p (getD m p 0)) m (p + 1) k)))
+
+        pub characters-low : 0xb0 ≤ getD m (p + 1) 0 → extentAt (characters n) m p ≡ Fault 4 p
+        characters-low h = ap (renamed length) halved-at ∙ rw (within-above 0x80 0xa0 (getD m (p + 1) 0) (omega arith), within-above 0xa0 0xb0 (getD m (p + 1) 0) h) refl
+
+        pub characters-alone : 0xa0 ≤ getD m (p + 1) 0 → getD m (p + 1) 0 < 0xb0 → n ≡ 1 → extentAt (characters n) m p ≡ Fault 4 p
+        characters-alone h i u = ap (renamed length) halved-at ∙ rw (within-above 0x80 0xa0 (getD m (p + 1) 0) h, within-yes 0xa0 0xb0 (getD m (p + 1) 0) h i, u) refl
+
+        module _ (h : 0xa0 ≤ getD m (p + 1) 0) (i : getD m (p + 1) 0 < 0xb0) (u : 2 ≤ n) where
+          as-pair : _≡_ {A = Answer (List ℕ)} (characters n tt p (drop p m)) (stepped (stepped (bind (pairOf p (getD m (p + 1) 0)) (λ cs. mapped (λ ds. cs ++ ds) (characters (n - 2))) tt (p + 2) (drop (p + 2) m))))
+          as-pair =
+              let d : n - 1 - 1 ≡ n - 2 = omega arith in
+              halved-at ∙ rw (within-above 0x80 0xa0 (getD m (p + 1) 0) h, within-yes 0xa0 0xb0 (getD m (p + 1) 0) h i, two (n - 1) (omega arith), d) refl
+            where
+              two : (i : ℕ) → 0 < i → behindTwo i ≡ some (characters (i - 1))
+              two i w = some-left (λ i j. behindTwo i ≡ some (characters j)) i w (λ i. refl)
+
+          pub pair-fault : (y o : ℕ) → pair-there m p (getD m (p + 1) 0) ≡ Fault y o → extentAt (characters n) m p ≡ Fault y o
+          pair-fault y o e = ap (renamed length) as-pair ∙ rw e refl
+
+          pub pair-next : (cs : List ℕ) → pair-there m p (getD m (p + 1) 0) ≡ Done 4 cs [] tt → length cs ≡ 4 → extentAt (characters n) m p ≡ shifted 6 4 (extentAt (characters (n - 2)) m (p + 6))
+          pair-next cs e f =
+              let six : p + 2 + 4 ≡ p + 6 = omega arith in
+              ap (renamed length) as-pair ∙ rw (e, drop-drop 4 (p + 2) m, six) (go (characters (n - 2) tt (p + 6) (drop (p + 6) m)))
+            where
+              go : (r : Answer (List ℕ)) → renamed length (stepped (stepped (before 4 [] (renamed (λ ds. cs ++ ds) r)))) ≡ shifted 6 4 (renamed length r)
+              go (Done j ds es c) =
+                  let a : suc (suc (4 + j)) ≡ 6 + j = omega arith in
+                  let b : length (cs ++ ds) ≡ 4 + length ds = omega (arith, length-append cs ds) in
+                  rw (a, b) refl
+              go (Fault y o) = refl
+
+      module _ (k lo hi u : ℕ) (x : Opens m p k lo hi u) (h : u ≤ n) where
         as-both : characters n tt p (drop p m) ≡ both (continued p k lo hi) (characters (n - u)) (getD m p 0) m p
         as-both = opened ∙ go x h
           where
             two : (i : ℕ) → 0 < i → behindTwo i ≡ some (characters (i - 1))
             two i w = some-left (λ i j. behindTwo i ≡ some (characters j)) i w (λ i. refl)
 
-            go : {k lo hi u : ℕ} → Opens (getD m p 0) k lo hi u → u ≤ n
+            go : {k lo hi u : ℕ} → Opens m p k lo hi u → u ≤ n
                 → stepped (one-char (n - 1) p (getD m p 0) tt (p + 1) (drop (p + 1) m)) ≡ both (continued p k lo hi) (characters (n - u)) (getD m p 0) m p
             go (basic e) w = rw e refl
+            go (below-half e v) w = rw e (ap stepped (below-is (characters (n - 1)) (behindTwo (n - 1)) p (getD m p 0) (p + 1) (drop (p + 1) m) (rw (getD-drop, add-zero) v)))
             go (supplementary e) w = let d : n - 1 - 1 ≡ n - 2 = omega arith in rw (e, two (n - 1) (omega arith), d) refl
 
         pub characters-fault : (y o : ℕ) → Fault y o ≡ extentAt (continued p k lo hi) m (p + 1) → extentAt (characters n) m p ≡ Fault y o
         characters-fault y o e = ap (renamed length) as-both ∙ both-fault (continued p k lo hi) (characters (n - u)) (getD m p 0) m p y o e
 
-        pub characters-next : (j : ℕ) → Done j j [] tt ≡ extentAt (continued p k lo hi) m (p + 1) → extentAt (characters n) m p ≡ shifted (j + 1) (extentAt (characters (n - u)) m (p + (j + 1)))
+        pub characters-next : (j : ℕ) → Done j j [] tt ≡ extentAt (continued p k lo hi) m (p + 1) → extentAt (characters n) m p ≡ shifted (j + 1) (j + 1) (extentAt (characters (n - u)) m (p + (j + 1)))
         characters-next j e = ap (renamed length) as-both ∙ both-extent (continued p k lo hi) (characters (n - u)) (getD m p 0) m p (Continued k lo hi) (continued-takes p k lo hi) j e
 
 -- ---- bytes, at a place
@@ -296,21 +413,24 @@ module _ (n : ℕ) (m : List ℕ) (p : ℕ) (l : p ≤ length m) where
   pub octets-fault : length m - p < n → extentAt (octets n) m p ≡ Fault 2 (length m)
   octets-fault h = rw (octets-cut n p (drop p m) (omega (arith, length-drop p m))) (ap (λ (o : ℕ). Fault 2 o) (omega (arith, length-drop p m)))
 
--- a content of which the extent is known: the bytes there, no fewer than its units; or the refusal
+-- a content of which the extent is known: what the bytes there are decoded to; or the refusal
 module _ (k : Kind) (n : ℕ) (m : List ℕ) (p : ℕ) where
-  pub body-there : Bytes m → (j : ℕ) → p ≤ length m → Done j j [] tt ≡ extentAt (body k n) m p
-      → (_≡_ {A = Answer (List ℕ)} (body k n tt p (drop p m)) (Done j (take j (drop p m)) [] tt)) × (p + j ≤ length m) × (n ≤ j) × (units k (take j (drop p m)) ≡ n)
-  body-there b j l = go (body k n tt p (drop p m)) (body-takes k n p (drop p m)) (body-read One k n (tt {0}) p (drop p m) (bytes-drop p m b))
+  pub body-there : Bytes m → (j b : ℕ) → p ≤ length m → Done j b [] tt ≡ extentAt (body k n) m p
+      → (_≡_ {A = Answer (List ℕ)} (body k n tt p (drop p m)) (Done j (decoded k (take j (drop p m))) [] tt)) × (p + j ≤ length m) × (n ≤ b) × (units k (decoded k (take j (drop p m))) ≡ n)
+      × (length (decoded k (take j (drop p m))) ≡ b) × (b ≤ j)
+  body-there y j b l = go (body k n tt p (drop p m)) (body-stays k n p (drop p m)) (body-read One k n (tt {0}) p (drop p m) (bytes-drop p m y))
     where
-      consumed : {w cs : List ℕ} {is : List One} {c : One} → Whole One k n (tt {0}) w cs is c → cs ≡ w
-      consumed (quiet x) = sym (x .0)
+      is-body : {w cs : List ℕ} {is : List One} {c : One} → Whole One k n (tt {0}) w cs is c → Body k n w cs
+      is-body (quiet x) = x
 
-      go : (r : Answer (List ℕ)) → Takes (Counts k n) (drop p m) r → Parsed {I = One} (Whole One k n (tt {0})) (drop p m) r → Done j j [] tt ≡ renamed length r
-          → (r ≡ Done j (take j (drop p m)) [] tt) × (p + j ≤ length m) × (n ≤ j) × (units k (take j (drop p m)) ≡ n)
+      go : (r : Answer (List ℕ)) → Stays (drop p m) r → Parsed {I = One} (Whole One k n (tt {0})) (drop p m) r → Done j b [] tt ≡ renamed length r
+          → (r ≡ Done j (decoded k (take j (drop p m))) [] tt) × (p + j ≤ length m) × (n ≤ b) × (units k (decoded k (take j (drop p m))) ≡ n) × (length (decoded k (take j (drop p m))) ≡ b) × (b ≤ j)
       go (Done i cs es c) t q e =
           let d : i ≡ j = cc in
-          let f : cs ≡ take j (drop p m) = consumed (q .1) ∙ ap (λ (z : ℕ). take z (drop p m)) d in
-          (rw (d, f, t .2) refl, omega (arith, t .0, length-drop p m), omega (arith, t .1, t .3 .1), rw f at (t .3 .0))
+          let x = is-body (q .1) in
+          let g : length cs ≡ b = cc in
+          let f : cs ≡ decoded k (take j (drop p m)) = sym (body-decoded x) ∙ ap (λ (z : ℕ). decoded k (take z (drop p m))) d in
+          (rw (d, f, t .1) refl, omega (arith, t .0, length-drop p m), omega (arith, content-few (body-content x)), rw f at (body-units x), rw f at g, omega (arith, body-length x, take-all i (drop p m) (t .0)))
       go (Fault x o) t q e = apart e
 
   pub body-fault : (x o : ℕ) → Fault x o ≡ extentAt (body k n) m p → _≡_ {A = Answer (List ℕ)} (body k n tt p (drop p m)) (Fault x o)
@@ -442,26 +562,26 @@ chunk-form k next p b at s = go (inside (partHead k) b) refl
 -- ---- a text or byte string, at a place
 -- a head of j + 1 bytes at p, and from q on a content of n units: the last chunk, or one before others
 module _ (k : Kind) (m : List ℕ) (p j n q : ℕ) (at : q ≡ p + (j + 1)) (within : q ≤ length m) where
-  last-ends : (r : Answer (List ℕ)) → Takes (Counts k n) (drop q m) r → stepped (before j [] r) ≡ chunked k m p (j + 1) true r
-  last-ends (Done i cs es c) t = let d : suc (j + i) ≡ j + 1 + i = omega arith in rw (d, t .2) refl
+  last-ends : (r : Answer (List ℕ)) → Stays (drop q m) r → stepped (before j [] r) ≡ chunked k m p (j + 1) true r
+  last-ends (Done i cs es c) t = let d : suc (j + i) ≡ j + 1 + i = omega arith in rw (d, t .1) refl
   last-ends (Fault x o) t = refl
 
   goes-on : (i : ℕ) (cs : List ℕ) (r : Answer (List ℕ)) → stepped (before j [] (before i [] (renamed (λ ds. cs ++ ds) r))) ≡ prefixed (j + 1 + i) cs r
   goes-on i cs (Done x ds fs c) = let d : suc (j + (i + x)) ≡ j + 1 + i + x = omega arith in rw d refl
   goes-on i cs (Fault x o) = refl
 
-  part-ends : (r : Answer (List ℕ)) → Takes (Counts k n) (drop q m) r
+  part-ends : (r : Answer (List ℕ)) → Stays (drop q m) r
       → stepped (before j [] (then r (λ i cs es c. before i es (mapped (λ ds. cs ++ ds) (chunks k (length m)) c (q + i) (drop i (drop q m)))))) ≡ chunked k m p (j + 1) false r
   part-ends (Done i cs es c) t =
       let z = p + (j + 1 + i) in
       let d : q + i ≡ p + (j + 1 + i) = omega arith in
-      rw (t .2, drop-drop i q m, d)
+      rw (t .1, drop-drop i q m, d)
       (goes-on i cs (chunks k (length m) tt z (drop z m)) ∙ ap (prefixed (j + 1 + i) cs) (sym (string-chunks k m z (length m) (omega (arith, t .0, length-drop q m)) (omega arith))))
   part-ends (Fault x o) t = refl
 
   chunk-ends : (a : Bool) → stepped (before j [] (contents k (chunks k (length m)) a n tt q (drop q m))) ≡ chunked k m p (j + 1) a (body k n tt q (drop q m))
-  chunk-ends true = last-ends (body k n tt q (drop q m)) (body-takes k n q (drop q m))
-  chunk-ends false = part-ends (body k n tt q (drop q m)) (body-takes k n q (drop q m))
+  chunk-ends true = last-ends (body k n tt q (drop q m)) (body-stays k n q (drop q m))
+  chunk-ends false = part-ends (body k n tt q (drop q m)) (body-stays k n q (drop q m))
 
 module _ (k : Kind) (m : List ℕ) (p : ℕ) where
   pub string-ends : length m ≤ p → stringAt k m p ≡ Fault 2 (length m)

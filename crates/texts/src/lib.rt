@@ -9,24 +9,32 @@ ghost use lib.ListN.{length, getD, take, drop};
 ghost use Rattle.wire.specs.BigEndian.{joined};
 ghost use Rattle.scalar.specs.declared.Kind.the-variants as Kind;
 ghost use Rattle.scalar.specs.Scalars.{charLead, continued as continuedBy, characters as charactersOf, body as bodyOf};
-ghost use Rattle.texts.specs.Answers.{extentAt, toldExtent, CharMet, headForm, HeadMet, ChunkMet, toldString, Joining};
+ghost use Rattle.texts.specs.Answers.{toldString, extentAt, toldExtent, CharMet, headForm, HeadMet, ChunkMet};
+ghost use Rattle.texts.specs.Answers.{Joining};
 ghost use Rattle.scalar.specs.Answers.{measuredAt};
-ghost use Rattle.texts.specs.Ascii.{Ascii, asciiAt};
-ghost use Rattle.texts.specs.At.{Opens};
+ghost use Rattle.texts.specs.Ascii.{Ascii, asciiAt, ShortText};
+ghost use Rattle.texts.specs.At.{Opens, Halves, HighHalf};
 
-// How many bytes something takes; or a refusal's number and place.
+// How many bytes something takes, and how many its content has; or a refusal's number and place.
 pub enum Extent {
-    Takes { size: usize },
+    Takes { size: usize, bytes: usize },
     Refused { number: u8, place: usize },
 }
 
-// A character: its bytes and its units; or a refusal's number and place.
+// A character: the bytes that it takes, those that it has in UTF-8, and its units; or a refusal's number and place.
 pub enum CharRead {
-    Char { size: usize, units: usize },
-    Refused { number: u8, place: usize },
+    Char {
+        size: usize,
+        bytes: usize,
+        units: usize,
+    },
+    Refused {
+        number: u8,
+        place: usize,
+    },
 }
 
-// What the byte begins as a chunk's head: how many bytes follow, what it holds itself, and whether the chunk is the last.
+// What the byte begins as a chunk's head: how many bytes follow, what it holds itself, whether the chunk is the last.
 pub enum HeadForm {
     Starts { more: usize, held: u64, last: bool },
     NoHead,
@@ -45,11 +53,13 @@ pub enum HeadRead {
     },
 }
 
-// A chunk: the bytes of its head and of its content, its units, and whether it is the last; or a refusal.
+// A chunk: the bytes of its head and those after it, the bytes of its content, its units, and whether it is the last; or
+// a refusal.
 pub enum ChunkRead {
     Chunk {
         head: usize,
         size: usize,
+        bytes: usize,
         units: usize,
         last: bool,
     },
@@ -59,7 +69,8 @@ pub enum ChunkRead {
     },
 }
 
-// What reading a text or byte string finds: its units, its content's bytes, and the bytes that it takes in all; or a refusal.
+// What reading a text or byte string finds: its units, its content's bytes, and the bytes that it takes in all; or a
+// refusal.
 pub enum StringRead {
     Content {
         units: usize,
@@ -83,11 +94,7 @@ fn three_lead(b: u8) -> CharLead
             from: 0xa0,
             below: 0xc0,
         },
-        0xed => CharLead::Basic {
-            more: 2,
-            from: 0x80,
-            below: 0xa0,
-        },
+        0xed => CharLead::Halved,
         _ => CharLead::Basic {
             more: 2,
             from: 0x80,
@@ -164,21 +171,87 @@ fn continued(message: &[u8], place: usize, at: usize, more: usize, from: u8, bel
         lo = 0x80;
         hi = 0xc0;
     }
-    Extent::Takes { size: here - at }
+    let size = here - at;
+    Extent::Takes { size, bytes: size }
 }
 
 // The character at `at`, of so many units, with `more` bytes after its first.
 fn opened(message: &[u8], at: usize, more: usize, from: u8, below: u8, units: usize) -> CharRead
-    requires { ⌜ (at < length (now message)) × Opens (getD (now message) at 0) more from below units ⌝ }
+    requires { ⌜ (at < length (now message)) × Opens (now message) at more from below units ⌝ }
     ensures { λ r. ⌜ ((left : ℕ) → units ≤ left → CharMet left (now (message .entry)) at r) ⌝ }
 {
     match continued(message, at, at + 1, more, from, below) {
         Extent::Refused { number, place } => CharRead::Refused { number, place },
-        Extent::Takes { size } => CharRead::Char {
-            size: size + 1,
-            units,
-        },
+        Extent::Takes { size, bytes: _ } => {
+            let n = size + 1;
+            CharRead::Char {
+                size: n,
+                bytes: n,
+                units,
+            }
+        }
     }
+}
+
+// The pair of halves at `at`, after its first two bytes: one character, of four bytes in UTF-8 and two units.
+fn pair(message: &[u8], at: usize) -> CharRead
+    requires { ⌜ (at + 1 < length (now message)) × HighHalf (now message) at ⌝ }
+    ensures { λ r. ⌜ ((left : ℕ) → 2 ≤ left → CharMet left (now (message .entry)) at r) ⌝ }
+{
+    match continued(message, at, at + 2, 1, 0x80, 0xc0) {
+        Extent::Refused { number, place } => CharRead::Refused { number, place },
+        Extent::Takes { size: _, bytes: _ } => {
+            match continued(message, at, at + 3, 1, 0xed, 0xee) {
+                Extent::Refused { number, place } => CharRead::Refused { number, place },
+                Extent::Takes { size: _, bytes: _ } => {
+                    match continued(message, at, at + 4, 1, 0xb0, 0xc0) {
+                        Extent::Refused { number, place } => CharRead::Refused { number, place },
+                        Extent::Takes { size: _, bytes: _ } => {
+                            match continued(message, at, at + 5, 1, 0x80, 0xc0) {
+                                Extent::Refused { number, place } => CharRead::Refused {
+                                    number,
+                                    place,
+                                },
+                                Extent::Takes { size: _, bytes: _ } => CharRead::Char {
+                                    size: 6,
+                                    bytes: 4,
+                                    units: 2,
+                                },
+                            }
+                        }
+                    }
+                }
+            }
+        }
+    }
+}
+
+// The character at `at`, whose first byte is ed, where so many units are left: of three bytes, or a pair of halves.
+fn halved(message: &[u8], at: usize, left: usize) -> CharRead
+    requires { ⌜ (at < length (now message)) × (0 < left) × Halves (now message) at ⌝ }
+    ensures { λ r. ⌜ CharMet left (now (message .entry)) at r ⌝ }
+{
+    let next = at + 1;
+    if message.len() <= next {
+        return opened(message, at, 2, 0x80, 0xa0, 1);
+    }
+    let d = message[next];
+    if d < 0xa0 {
+        return opened(message, at, 2, 0x80, 0xa0, 1);
+    }
+    if 0xb0 <= d {
+        return CharRead::Refused {
+            number: 4,
+            place: at,
+        };
+    }
+    if left < 2 {
+        return CharRead::Refused {
+            number: 4,
+            place: at,
+        };
+    }
+    pair(message, at)
 }
 
 // The character at `at`, where so many units are left.
@@ -208,6 +281,7 @@ fn character(message: &[u8], at: usize, left: usize) -> CharRead
             }
             opened(message, at, 3, from, below, 2)
         }
+        CharLead::Halved => halved(message, at, left),
     }
 }
 
@@ -354,24 +428,34 @@ fn characters(message: &[u8], at: usize, units: usize) -> Extent
     let start = ascii_start(message, at, units);
     let mut here = at + start;
     let mut left = units - start;
+    let mut bytes = start;
     while 0 < left {
         let n = ascii(message, here, left);
         if 0 < n {
             here += n;
+            bytes += n;
             left -= n;
         } else {
             match character(message, here, left) {
                 CharRead::Refused { number, place } => {
                     return Extent::Refused { number, place };
                 }
-                CharRead::Char { size, units: u } => {
+                CharRead::Char {
+                    size,
+                    bytes: b,
+                    units: u,
+                } => {
                     here += size;
+                    bytes += b;
                     left -= u;
                 }
             }
         }
     }
-    Extent::Takes { size: here - at }
+    Extent::Takes {
+        size: here - at,
+        bytes,
+    }
 }
 
 // The content of a chunk of so many units from `at` on. The bytes of a byte string are not looked at.
@@ -389,7 +473,10 @@ fn body(kind: Kind, message: &[u8], at: usize, units: usize) -> Extent
                     place: len,
                 }
             } else {
-                Extent::Takes { size: units }
+                Extent::Takes {
+                    size: units,
+                    bytes: units,
+                }
             }
         }
     }
@@ -534,9 +621,9 @@ fn short_ascii(message: &[u8], at: usize, n: usize) -> bool
     n <= ascii_bytes(message, at, n)
 }
 
-// The bytes of the short text at `at` where all its characters are ASCII: of the byte that counts them, and theirs. Else 0.
+// The bytes of the short text at `at` where all its characters are ASCII: of the byte that counts them, and theirs; or 0.
 fn short_text(message: &[u8], at: usize) -> usize
-    ensures { λ r. ⌜ (0 < r → (r ≡ getD (now (message .entry)) at 0 + 1) × (r ≤ 0x20) × (at + r ≤ length (now (message .entry))) × Ascii (now (message .entry)) (at + 1) (r - 1)) ⌝ }
+    ensures { λ r. ⌜ (0 < r → ShortText (now (message .entry)) at r) ⌝ }
 {
     let len = message.len();
     if len <= at {
@@ -568,9 +655,10 @@ pub fn chunk(kind: Kind, message: &[u8], at: usize) -> ChunkRead
         } => {
             match body(kind, message, at + h, units) {
                 Extent::Refused { number, place } => ChunkRead::Refused { number, place },
-                Extent::Takes { size } => ChunkRead::Chunk {
+                Extent::Takes { size, bytes } => ChunkRead::Chunk {
                     head: h,
                     size,
+                    bytes,
                     units,
                     last,
                 },
@@ -589,6 +677,7 @@ pub fn first_chunk(kind: Kind, message: &[u8], at: usize) -> ChunkRead
             return ChunkRead::Chunk {
                 head: 1,
                 size: s - 1,
+                bytes: s - 1,
                 units: s - 1,
                 last: true,
             };
@@ -613,12 +702,13 @@ fn read_on(kind: Kind, message: &[u8], at: usize, from: usize, u: usize, b: usiz
             ChunkRead::Chunk {
                 head: h,
                 size,
+                bytes: n,
                 units,
                 last,
             } => {
                 here += h + size;
                 total += units;
-                bytes += size;
+                bytes += n;
                 if last {
                     return StringRead::Content {
                         units: total,

@@ -22,6 +22,19 @@ pub be-bytes : (k u : ℕ) → Bytes (be k u)
 be-bytes zero u = tt
 be-bytes (suc k) u = bytes-append (be k (u / 256)) ((u % 256) ∷ []) (be-bytes k (u / 256)) (omega arith, tt)
 
+-- the four bytes of a number that is made of four
+pub be-four : (a b c d : ℕ) → a < 256 → b < 256 → c < 256 → d < 256
+    → be 4 (((a * 256 + b) * 256 + c) * 256 + d) ≡ a ∷ b ∷ c ∷ d ∷ []
+be-four a b c d h i j k =
+    let e₁ : (((a * 256 + b) * 256 + c) * 256 + d) / 256 ≡ (a * 256 + b) * 256 + c = omega arith in
+    let e₂ : ((a * 256 + b) * 256 + c) / 256 ≡ a * 256 + b = omega arith in
+    let e₃ : (a * 256 + b) / 256 ≡ a = omega arith in
+    let f₁ : (((a * 256 + b) * 256 + c) * 256 + d) % 256 ≡ d = omega arith in
+    let f₂ : ((a * 256 + b) * 256 + c) % 256 ≡ c = omega arith in
+    let f₃ : (a * 256 + b) % 256 ≡ b = omega arith in
+    let f₄ : a % 256 ≡ a = omega arith in
+    rw (f₁, e₁, f₂, e₂, f₃, e₃, f₄) refl
+
 -- ---- a number by its bytes
 pub joined-append : (s t : List ℕ) (a : ℕ) → joined a (s ++ t) ≡ joined (joined a s) t
 joined-append [] t a = refl

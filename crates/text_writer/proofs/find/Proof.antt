@@ -7,6 +7,9 @@ use Rattle.text_writer.proofs.find.Tie as tie
 returns : tie.Need-returns
 returns c = search (find-ends, needs)
 
+first-chunk-requires : tie.Need-first-chunk-requires
+first-chunk-requires c κs = search needs
+
 enum-told : tie.Need-enum-told
 enum-told c = search needs
 
@@ -39,7 +42,7 @@ find-spec =
     tie.close
     (tie.spec
     returns
-    (λ c κs. search needs)
+    first-chunk-requires
     enum-told
     enum-known-h
     add-find-more

@@ -1,8 +1,8 @@
 -- The loop's invariant: what is stored so far, with the form of the rest after it, is the whole form. The measure is how many bytes of content are left.
 use mathlib.Core.Path.{_∙_}
-use native.Mathlib.Omega.{arith}
 use borrow.Author.Needs.{needs}
-use Rattle.text_writer.specs.Laying.{Laying, laying-start, part-few, part-within, part-inside, part-shrinks, part-less, part-below, part-start, part-end, laying-part, last-behind, last-below, last-start, last-end, laying-last}
+use Rattle.text_writer.specs.Cursor.{all-copied}
+use Rattle.text_writer.specs.Laying.{Laying, laying-start, part-few, part-within, part-shrinks, part-less, part-first, part-room, part-start, part-end, laying-part, last-behind, last-room, last-start, last-end, laying-last}
 use Rattle.text_writer.proofs.lay.Statement.{statement}
 use Rattle.text_writer.proofs.lay.Tie as tie
 
@@ -15,14 +15,24 @@ abbrev μ-loop : tie.MeasureT-loop
 loop-holds : tie.Need-loop-holds Inv-loop μ-loop
 loop-holds c = search (laying-start, needs)
 
+copy-requires : tie.Need-copy-requires Inv-loop μ-loop
+copy-requires c κs =
+    let start = c .before .before .before .before .before in
+    part-first (c .before .before .loop .inv) (c .before .loop-test .taken) (start .pre .1)
+
 put-part-head-requires : tie.Need-put-part-head-requires Inv-loop μ-loop
 put-part-head-requires c κs = search (part-few, needs)
 
 add-start : tie.Need-add-start Inv-loop μ-loop
 add-start c = search (part-start, needs)
 
-copy-requires : tie.Need-copy-requires Inv-loop μ-loop
-copy-requires c κs = search (part-inside, part-below, needs)
+copy-requires-2 : tie.Need-copy-requires-2 Inv-loop μ-loop
+copy-requires-2 c κs =
+    let start = c .before .before .before .before .before .before .before .before .before .before .before .before in
+    let R = c .before .before .before .before .before .before .before .before .before .loop .inv in
+    let long = c .before .before .before .before .before .before .before .before .loop-test .taken in
+    let part = c .before .before .before .before .before .before .copy .ensures .spans in
+    part-room R long _ part (c .before .before .before .put-part-head .ensures .0) (start .pre .1)
 
 add-place : tie.Need-add-place Inv-loop μ-loop
 add-place c = search (part-end, needs)
@@ -38,15 +48,17 @@ loop-less c = search (part-shrinks, needs)
 
 loop-again : tie.Need-loop-again Inv-loop μ-loop
 loop-again c =
-    let p = c .before .before .before .before .before .before in
-    laying-part (p .before .before .before .before .loop .inv) (p .before .before .before .loop-test .taken) _ (p .before .before .span-of .ensures) (p .put-part-head .ensures .0) _ (p .put-part-head .ensures .1) _ _
-    (c .before .before .copy .ensures)
+    let R = c .before .before .before .before .before .before .before .before .before .before .before .before .before .loop .inv in
+    let long = c .before .before .before .before .before .before .before .before .before .before .before .before .loop-test .taken in
+    let part = c .before .before .before .before .before .before .before .before .before .before .copy .ensures .spans in
+    let head = c .before .before .before .before .before .before .before .put-part-head .ensures in
+    laying-part R long _ part (head .0) _ (head .1) _ _ (c .before .before .before .copy2 .ensures)
 
 add-start-2 : tie.Need-add-start-2 Inv-loop μ-loop
 add-start-2 c = search (last-start, needs)
 
-copy-requires-2 : tie.Need-copy-requires-2 Inv-loop μ-loop
-copy-requires-2 c κs = (c .before .before .before .before .before .before .loop .inv .going, omega (arith, c .before .before .before .before .before .before .loop .inv .bytes-are), search (last-below, needs))
+copy-requires-3 : tie.Need-copy-requires-3 Inv-loop μ-loop
+copy-requires-3 c κs = search (last-room, needs)
 
 add-result : tie.Need-add-result Inv-loop μ-loop
 add-result c = search (last-end, needs)
@@ -55,12 +67,17 @@ sub-result : tie.Need-sub-result Inv-loop μ-loop
 sub-result c = search (last-behind, needs)
 
 same-length : tie.Need-same-length Inv-loop μ-loop
-same-length c = c .before .before .copy2 .ensures .same ∙ c .before .before .before .before .before .before .put-last-head .kept .1 .1 .0 ∙ c .before .before .before .before .before .before .before .before .before .loop .inv .same
+same-length c =
+    let R = c .before .before .before .before .before .before .before .before .before .loop .inv in
+    c .before .before .copy3 .ensures .copies .same ∙ c .before .before .before .before .before .before .put-last-head .kept .1 .1 .0 ∙ R .same
 
 returns : tie.Need-returns Inv-loop μ-loop
 returns c =
-    let p = c .before .before .before .before .before .before in
-    laying-last (p .before .before .before .loop .inv) (p .before .before .loop-test .left) _ (p .put-last-head .ensures .0) _ (p .put-last-head .ensures .1) _ _ (c .before .before .copy2 .ensures)
+    let R = c .before .before .before .before .before .before .before .before .before .loop .inv in
+    let short = c .before .before .before .before .before .before .before .before .loop-test .left in
+    let head = c .before .before .before .before .before .before .put-last-head .ensures in
+    let all = all-copied (c .before .before .copy3 .ensures) (R .units-are) _ (R .bytes-are) in
+    laying-last R short _ (head .0) _ (head .1) _ _ all
 
 pub lay-spec : {M : Type 1} → statement M
 lay-spec =
@@ -69,10 +86,11 @@ lay-spec =
     Inv-loop
     μ-loop
     loop-holds
-    (λ c κs. search needs)
+    (λ c. search needs)
+    copy-requires
     put-part-head-requires
     add-start
-    copy-requires
+    copy-requires-2
     add-place
     sub-content
     sub-rest
@@ -80,7 +98,7 @@ lay-spec =
     loop-again
     (λ c κs. search needs)
     add-start-2
-    copy-requires-2
+    copy-requires-3
     add-result
     sub-result
     same-length

@@ -7,8 +7,8 @@ use Rattle.texts.proofs.Strings.{char-fault, char-next, char-fits}
 use Rattle.texts.proofs.opened.Statement.{statement}
 use Rattle.texts.proofs.opened.Tie as tie
 
-add-t13 : tie.Need-add-t13
-add-t13 c = search (char-fits, needs)
+add-n : tie.Need-add-n
+add-n c = search (char-fits, needs)
 
 returns : tie.Need-returns
 returns c = λ left h. let z : 0 < left = omega (arith, opens-units (c .before .before .before .before .before .pre .1) .0) in search (char-fault, needs)
@@ -24,6 +24,6 @@ opened-spec =
     (λ c κs. search needs)
     (λ c. search needs)
     (λ c. search needs)
-    add-t13
+    add-n
     returns
     returns-2)

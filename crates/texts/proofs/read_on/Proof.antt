@@ -32,8 +32,8 @@ add-total c = omega (arith, chunk-says (c .before .before .before .chunk .ensure
 add-bytes : tie.Need-add-bytes Inv-loop μ-loop
 add-bytes c = omega (arith, chunk-says (c .before .before .before .chunk .ensures) (c .before .h .given .1))
 
-sub-t19 : tie.Need-sub-t19 Inv-loop μ-loop
-sub-t19 c = omega arith
+sub-t20 : tie.Need-sub-t20 Inv-loop μ-loop
+sub-t20 c = omega arith
 
 returns-2 : tie.Need-returns-2 Inv-loop μ-loop
 returns-2 c = search (joining-last, needs)
@@ -59,7 +59,7 @@ read-on-spec =
     add-here-2
     add-total
     add-bytes
-    sub-t19
+    sub-t20
     returns-2
     loop-less
     loop-again)

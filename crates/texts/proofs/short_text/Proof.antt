@@ -7,7 +7,12 @@ use Rattle.texts.proofs.short_text.Statement.{statement}
 use Rattle.texts.proofs.short_text.Tie as tie
 
 returns-5 : tie.Need-returns-5
-returns-5 c = λ z. (omega arith, omega arith, omega arith, ascii-part _ _ _ 0 _ _ (omega arith) (omega arith) (c .before .short-ascii .ensures .0 (not-false _ (c .if4 .left))))
+returns-5 c = λ z. record {
+  counted = omega arith;
+  short = omega arith;
+  inside = omega arith;
+  ascii = ascii-part _ _ _ 0 _ _ (omega arith) (omega arith) (c .before .short-ascii .ensures .0 (not-false _ (c .if4 .left)));
+}
 
 pub short-text-spec : {M : Type 1} → statement M
 short-text-spec =
