@@ -7,7 +7,6 @@
 
 enum {
     ROOM = 262144, /* bytes of a message, and rows of a table */
-    ROW_SIZE = 32,
     INPUTS = 12
 };
 

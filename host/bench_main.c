@@ -1,6 +1,7 @@
 /*
  * Times the library and the plain C reader and writer of baseline/, or an older library that stands in for them (make
- * bench_before), side by side on the same messages: reading, writing the table that was read, and both in one.
+ * bench_before), side by side on the same messages: reading, writing the table that was read, and both in one. Each has a
+ * table of its own, as an older library may lay out its rows otherwise.
  *
  *     bench                               prints a table; a ratio above 1 says that the library is faster
  *     bench -i INPUT JOB WHO TIMES        does one job so many times; JOB is read, write or rewrite, WHO library or baseline
@@ -20,8 +21,8 @@ enum { JOBS = 3 };
 
 const char *const bench_name = "bench";
 
-static const size_t TABLE_LEN = (size_t)ROOM * ROW_SIZE;
-static uint8_t *table, *output;
+static const size_t TABLE_LEN = (size_t)ROOM * HESSIAN_ROW_SIZE;
+static uint8_t *table, *baseline_table, *output;
 static uint64_t rows;
 
 static uint64_t read_by_library(void)
@@ -31,7 +32,7 @@ static uint64_t read_by_library(void)
 
 static uint64_t read_by_baseline(void)
 {
-    return baseline_read(message, message_len, table, TABLE_LEN);
+    return baseline_read(message, message_len, baseline_table, TABLE_LEN);
 }
 
 static uint64_t write_by_library(void)
@@ -41,7 +42,7 @@ static uint64_t write_by_library(void)
 
 static uint64_t write_by_baseline(void)
 {
-    return baseline_write(message, message_len, table, TABLE_LEN, rows, output, ROOM);
+    return baseline_write(message, message_len, baseline_table, TABLE_LEN, rows, output, ROOM);
 }
 
 static uint64_t rewrite_by_library(void)
@@ -62,10 +63,11 @@ static call *const jobs[JOBS][2] = {{read_by_library, read_by_baseline},
 static const char *const job_names[JOBS] = {"read", "write", "rewrite"};
 static const char *const who_names[2] = {"library", "baseline"};
 
-/* Builds an input and fills the table with its rows. */
+/* Builds an input and fills the tables with its rows. */
 static void prepare(size_t input)
 {
     build_input(input);
+    read_by_baseline();
     rows = read_by_library() >> 24 & 0xffffff;
 }
 
@@ -131,6 +133,7 @@ static int run_one(char **words)
 int main(int argc, char **argv)
 {
     table = allocate_zeros(TABLE_LEN);
+    baseline_table = allocate_zeros(TABLE_LEN);
     output = allocate_zeros(ROOM);
     if (argc == 1)
         return compare_all();

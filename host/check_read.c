@@ -8,6 +8,7 @@
  * get the same message and the same table between guard bytes, at any alignment. Checked is that
  *   - answer and checksum are those of EXPECTED;
  *   - both readers give the same answer and leave the same bytes;
+ *   - the fifth numbers of accepted rows are those that kinds and counts give, and lead through the record;
  *   - the guards, the message, the bytes past the rows accepted and, after a refusal, the whole table are unchanged.
  *
  * Compiled with SELF, baseline_read stands in for the library.
@@ -18,14 +19,14 @@
 #include <stdlib.h>
 #include <string.h>
 
+#include "afters.h"
 #include "baseline.h"
 #include "generate.h"
+#include "rows.h"
 #include "support.h"
 
 #ifdef SELF
 #define hessian_read baseline_read
-#else
-#include "hessian.h"
 #endif
 
 enum {
@@ -75,6 +76,19 @@ static void show_difference(const char *what, const uint8_t *message, size_t mes
     printf(i < message_len ? " ..\n" : "\n");
 }
 
+/* Whether the fifth numbers of the first rows of a table are right. */
+static bool ends_right(const uint8_t *table, size_t rows)
+{
+    uint8_t *other = allocate(rows * ROW_SIZE);
+    bool right;
+
+    memcpy(other, table, rows * ROW_SIZE);
+    set_afters(other, rows);
+    right = memcmp(other, table, rows * ROW_SIZE) == 0 && leads_through(table, rows);
+    free(other);
+    return right;
+}
+
 /*
  * Reads a message with both readers. `expected` is the line of EXPECTED, or NULL; its checksum is over the first `lent`
  * numbers of the table.
@@ -102,6 +116,8 @@ static uint64_t try_message(const uint8_t *source, size_t len, size_t table_len,
     }
     if (!kept(&one, number_of(answer) == 0 ? count_of(answer) * ROW_SIZE : 0))
         show_difference("the library changes bytes that must stay", source, len, table_len);
+    if (number_of(answer) == 0 && !ends_right(lent_bytes(&one), count_of(answer)))
+        show_difference("a fifth number is wrong", source, len, table_len);
     if (expected != NULL) {
         char line[120];
 
@@ -130,19 +146,21 @@ static void check_vectors(const char *cases_name, const char *expected_name)
 
     while ((line = next_line(&cases_rest)) != NULL) {
         const char *expected = next_line(&expected_rest), *rest = line;
-        size_t rows;
+        size_t rows, spare;
         uint64_t lent, answer;
 
         if (!decimal(&rest, MOST_LENT, &lent) || !groups(&rest, message, &len) || *rest != '\0' || expected == NULL)
             give_up("no case, or none expected:", line);
         /* bytes past the numbers, fewer than make a row of their own */
-        answer = try_message(message, len, lent * 8 + cases % (ROW_SIZE - lent % 4 * 8), lent, expected);
+        spare = cases % (ROW_SIZE - lent % ROW_NUMBERS * NUMBER_SIZE);
+        answer = try_message(message, len, lent * NUMBER_SIZE + spare, lent, expected);
         if (number_of(answer) != 0 && number_of(answer) != 9)
             continue;
         /* just the rows needed, and a byte less */
         rows = count_of(answer);
-        try_message(message, len, rows * ROW_SIZE, 0, NULL);
-        try_message(message, len, rows * ROW_SIZE - 1, 0, NULL);
+        if (number_of(try_message(message, len, rows * ROW_SIZE, 0, NULL)) != 0 ||
+            number_of(try_message(message, len, rows * ROW_SIZE - 1, 0, NULL)) != 9)
+            show_difference("not as many rows are found in a table as it has", message, len, rows * ROW_SIZE);
     }
     if (next_line(&expected_rest) != NULL)
         give_up("more is expected than there are cases", "");

@@ -4,11 +4,13 @@
  *     check_write CASES EXPECTED [COUNT [SEED]]
  *
  * CASES and EXPECTED are stdin and stdout of write_vectors; crates/write_vectors/vectors.py says what their lines mean.
- * After them come all spellings of small records, and COUNT random messages, from SEED. In each case hessian_write and
- * baseline_write get the same source, table and claim, and the same output between guard bytes, at any alignment.
+ * After them come wrong fifth numbers and all spellings of small records, and COUNT random messages, from SEED. In
+ * each case hessian_write and baseline_write get the same source, table and claim, and the same output between guard
+ * bytes, at any alignment.
  * Checked is that
  *   - answer and checksum are those of EXPECTED;
  *   - both writers give the same answer and leave the same bytes, for damaged tables and sources too;
+ *   - a table in which one fifth number is wrong, and nothing else, is refused 10;
  *   - the guards, the source, the table, the output past what is written and, after a refusal, all of it are unchanged;
  *   - a message that is accepted is rewritten, no longer than it was, and reads back as the same record;
  *   - rewriting it again changes nothing, and any other spelling of the record is rewritten as the same bytes.
@@ -21,15 +23,15 @@
 #include <stdlib.h>
 #include <string.h>
 
+#include "afters.h"
 #include "baseline.h"
 #include "generate.h"
+#include "rows.h"
 #include "support.h"
 
 #ifdef SELF
 #define hessian_read baseline_read
 #define hessian_write baseline_write
-#else
-#include "hessian.h"
 #endif
 
 enum {
@@ -38,8 +40,6 @@ enum {
     MOST_PICKS = 200,   /* in a spelling of a small record */
     MOST_SHOWN = 10
 };
-
-enum { KIND, PLACE, FIRST, SECOND };
 
 const char *const check_name = "check_write";
 
@@ -69,24 +69,14 @@ static void free_input(struct input *in)
 
 /* ---- rows */
 
-static uint64_t get(const struct input *in, size_t row, unsigned which)
+static uint64_t get(const struct input *in, size_t row, enum column which)
 {
-    const uint8_t *p = in->table + row * ROW_SIZE + 8 * which;
-    uint64_t n = 0;
-    unsigned i;
-
-    for (i = 0; i < 8; i++)
-        n = n << 8 | p[i];
-    return n;
+    return get_number(in->table, row, which);
 }
 
-static void set(struct input *in, size_t row, unsigned which, uint64_t n)
+static void set(struct input *in, size_t row, enum column which, uint64_t n)
 {
-    uint8_t *p = in->table + row * ROW_SIZE + 8 * which;
-    unsigned i;
-
-    for (i = 0; i < 8; i++)
-        p[i] = (uint8_t)(n >> (56 - 8 * i));
+    set_number(in->table, row, which, n);
 }
 
 static bool is_text(uint64_t kind)
@@ -128,8 +118,8 @@ static void show_difference(const char *what, const struct input *in, size_t out
         printf(" %02x", in->source[i]);
     printf(i < in->source_len ? " ..\n   " : "\n   ");
     for (i = 0; i < rows && i < 40; i++)
-        printf(" %" PRIu64 ",%" PRIu64 ",%" PRIu64 ",%" PRIu64, get(in, i, KIND), get(in, i, PLACE), get(in, i, FIRST),
-               get(in, i, SECOND));
+        printf(" %" PRIu64 ",%" PRIu64 ",%" PRIu64 ",%" PRIu64 ",%" PRIu64, get(in, i, KIND), get(in, i, PLACE),
+               get(in, i, FIRST), get(in, i, SECOND), get(in, i, AFTER));
     printf(i < rows ? " ..\n" : "\n");
 }
 
@@ -191,18 +181,18 @@ static uint64_t try_write(const struct input *in, size_t output_len, const char 
 
 /* ---- the cases of write_vectors */
 
-/* The rows of a table, a space before each, up to the end of the line. */
+/* The rows of a table, a space before each, up to the end of the line. A fifth number is counted from its own row. */
 static bool parse_rows(const char *text, struct input *in)
 {
     size_t rows = 0, i;
 
     while (*text != '\0') {
-        uint64_t times = 1, n;
+        uint64_t times = 1, n = 0;
         unsigned which;
 
         if (rows == MOST_ROWS)
             return false;
-        for (which = KIND; which <= SECOND; which++) {
+        for (which = 0; which < ROW_NUMBERS; which++) {
             if (*text++ != (which == KIND ? ' ' : ',') || !decimal(&text, UINT64_MAX, &n))
                 return false;
             set(in, rows, which, n);
@@ -214,8 +204,10 @@ static bool parse_rows(const char *text, struct input *in)
         }
         if (times == 0 || times > MOST_ROWS - rows)
             return false;
-        for (i = 1; i < times; i++)
-            memcpy(in->table + (rows + i) * ROW_SIZE, in->table + rows * ROW_SIZE, ROW_SIZE);
+        for (i = 0; i < times; i++) {
+            memmove(in->table + (rows + i) * ROW_SIZE, in->table + rows * ROW_SIZE, ROW_SIZE);
+            set(in, rows + i, AFTER, n + rows + i);
+        }
         rows += times;
     }
     in->table_len = rows * ROW_SIZE;
@@ -371,7 +363,7 @@ static bool same_record(const struct input *in, const struct input *other)
         uint64_t kind = get(in, i, KIND);
 
         if (kind != get(other, i, KIND) || get(in, i, FIRST) != get(other, i, FIRST) ||
-            get(in, i, SECOND) != get(other, i, SECOND))
+            get(in, i, SECOND) != get(other, i, SECOND) || get(in, i, AFTER) != get(other, i, AFTER))
             return false;
         if (is_string(kind) && !same_content(in, other, i))
             return false;
@@ -414,6 +406,57 @@ static bool check_record(const struct input *in, struct input *shortest)
     if (!written_as(shortest, shortest))
         show_difference("rewriting a shortest message changes it", shortest, shortest->source_len);
     return true;
+}
+
+/* ---- fifth numbers */
+
+/* Writes with another fifth number in a row: refused 10, unless it is the right one. */
+static void try_after(struct input *in, size_t row, unsigned trial)
+{
+    uint64_t right = get(in, row, AFTER), n = after_trial(in->table, (size_t)in->rows, row, trial);
+
+    set(in, row, AFTER, n);
+    if (number_of(try_write(in, in->source_len, NULL, NULL)) != (n == right ? 0 : 10))
+        show_difference("a fifth number is judged wrongly", in, in->source_len);
+    set(in, row, AFTER, right);
+}
+
+/* All trials in each row of records that have rows of all kinds, and holders and classes in each other. */
+static void check_afters(void)
+{
+    static const char *const records[] = {
+        " 57 4e4654 91 e1 5c 4b00000001 0161 2101 78 79 90 48 5a 48 0161 79 90 5a 700174 7190 91 4d0174 90 91 5a"
+        " 430143 92 0161 0162 60 90 79 91 430090 61 5190 5a",
+        " 90",
+        " 79 79 79 90",
+        " 7b 7990 78 7a 78 7990",
+        " 430090 43009100 61 430090 62",
+        " 72 00 430090 60 71 90 430090 61",
+    };
+    bool seen[HESSIAN_TYPE_NUMBER + 1] = {false};
+    struct input in = new_input();
+    unsigned trial, kind;
+    size_t i, row;
+
+    for (i = 0; i < sizeof records / sizeof records[0]; i++) {
+        const char *text = records[i];
+
+        if (!groups(&text, in.source, &in.source_len) || !read_source(&in))
+            give_up("no record:", records[i]);
+        for (row = 0; row < in.rows; row++) {
+            seen[get(&in, row, KIND)] = true;
+            for (trial = 0; trial < AFTER_TRIALS; trial++)
+                try_after(&in, row, trial);
+        }
+        /* a byte of the last row is missing */
+        in.table_len--;
+        if (number_of(try_write(&in, in.source_len, NULL, NULL)) != 10)
+            show_difference("a row is found in fewer bytes than it has", &in, in.source_len);
+    }
+    for (kind = HESSIAN_NULL; kind <= HESSIAN_TYPE_NUMBER; kind++)
+        if (!seen[kind])
+            give_up("no row has one of the kinds", "");
+    free_input(&in);
 }
 
 /* ---- spellings of a record */
@@ -861,8 +904,11 @@ static uint64_t other_number(uint64_t n)
 /* A string row gets the place and the sizes of another one. */
 static void rename_row(struct input *in, size_t row, size_t other)
 {
+    unsigned which;
+
     if (is_string(get(in, row, KIND)) && is_text(get(in, row, KIND)) == is_text(get(in, other, KIND)))
-        memcpy(in->table + row * ROW_SIZE + 8, in->table + other * ROW_SIZE + 8, ROW_SIZE - 8);
+        for (which = PLACE; which <= SECOND; which++)
+            set(in, row, which, get(in, other, which));
 }
 
 static void damage_rows(struct input *in)
@@ -913,6 +959,24 @@ static void damage_source(struct input *in)
     in->source_len = m.len;
 }
 
+/* A fifth number is another one, mostly near its own or at an edge. */
+static void damage_after(struct input *in)
+{
+    size_t rows = (size_t)in->rows, row = chance((unsigned)rows);
+    uint64_t n = after_trial(in->table, rows, row, chance(AFTER_TRIALS));
+
+    set(in, row, AFTER, chance(4) ? n : other_number(n));
+}
+
+/* The fifth numbers become those of the record that the rows would be, or all but one, or stay as they are. */
+static void damage_afters(struct input *in)
+{
+    if (chance(4))
+        set_afters(in->table, (size_t)in->rows);
+    if (chance(4) == 0)
+        damage_after(in);
+}
+
 /* Rows of any kinds. */
 static void random_rows(struct input *in)
 {
@@ -925,7 +989,9 @@ static void random_rows(struct input *in)
         set(in, i, PLACE, chance((unsigned)in->source_len + 2));
         set(in, i, FIRST, chance(4) ? chance(4) : random_bits() >> chance(64));
         set(in, i, SECOND, chance(3) ? 0 : chance(4));
+        set(in, i, AFTER, chance(8));
     }
+    damage_afters(in);
 }
 
 /* Rows, source, claim and table are changed, or some of them. */
@@ -935,6 +1001,8 @@ static void damage_input(struct input *in)
 
     for (times = chance(4); times > 0 && in->rows > 0; times--)
         damage_rows(in);
+    if (in->rows > 0)
+        damage_afters(in);
     if (chance(4) == 0)
         damage_source(in);
     if (chance(8) == 0)
@@ -984,6 +1052,7 @@ static void check_random(unsigned long count)
         if (read_source(&in)) {
             if (check_record(&in, &shortest))
                 check_spelling(&in, &shortest, &other);
+            try_after(&in, chance((unsigned)in.rows), chance(AFTER_TRIALS));
         } else {
             random_rows(&in);
         }
@@ -1008,6 +1077,7 @@ int main(int argc, char **argv)
         count = strtoul(argv[3], NULL, 10);
     seed = argc > 4 ? strtoull(argv[4], NULL, 10) : 1;
     check_vectors(argv[1], argv[2]);
+    check_afters();
     check_spellings();
     check_random(count);
     printf("check_write: %lu cases, %lu differences\n", cases, differences);

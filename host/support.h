@@ -7,7 +7,6 @@
 #include <stdint.h>
 
 enum {
-    ROW_SIZE = 32,
     MOST_BYTES = 262144,  /* of a message that is not too long */
     MOST_MESSAGE = 300000 /* bytes of a message that is tried */
 };

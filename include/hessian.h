@@ -19,8 +19,8 @@ extern "C" {
 /* The longest message, in bytes, and so the most rows of one. */
 #define HESSIAN_LONGEST 262144u
 
-/* The bytes of a row in a table: kind, place, first and second, eight bytes each, the highest first. */
-#define HESSIAN_ROW_SIZE 32u
+/* The bytes of a row in a table: kind, place, first, second and after, eight bytes each, the highest first. */
+#define HESSIAN_ROW_SIZE 40u
 
 /* The number of an answer: accepted, or why not. The place is where, as an index into the message. */
 enum hessian_refusal {
@@ -34,7 +34,7 @@ enum hessian_refusal {
     HESSIAN_CEILING = 7,   /* more than 32 containers open, or 256 classes, types, or fields of one class */
     HESSIAN_AFTER = 8,     /* bytes after the record */
     HESSIAN_ROOM = 9,      /* fewer rows (writer: bytes) are lent than needed; the count says how many */
-    HESSIAN_NO_RECORD = 10 /* writer: the rows are no record */
+    HESSIAN_NO_RECORD = 10 /* writer: the rows are no record, or their fifth numbers are wrong */
 };
 
 /*
@@ -66,6 +66,25 @@ enum hessian_kind {
     HESSIAN_TYPE_NAME = 18, /* as a text */
     HESSIAN_TYPE_NUMBER = 19 /* type number */
 };
+
+/*
+ * The fifth number of a row, after. Rows are numbered from 0, and after is the number of the row just after what this row
+ * opens: for a list, map or object the row after its last value, for a class the row after its last name, for anything
+ * else the next row. The row of a type belongs to its list or map, and a class to the list, map or object that it is
+ * defined in. So a value is passed over in one step, however much it holds. This visits the elements of the list in row
+ * `list`, where kind(i) and after(i) are the first and the last number of row i:
+ *
+ *     uint64_t i = list + 1, end = after(list);
+ *
+ *     if (kind(list) == HESSIAN_TYPED_LIST)
+ *         i++;                            // the row of its type
+ *     for (; i < end; i = after(i))
+ *         if (kind(i) != HESSIAN_CLASS)   // a class may be defined before an element
+ *             element(i);
+ *
+ * The keys and values of a map, in turn, and the fields of an object are visited alike. hessian_write refuses a table in
+ * which one of these numbers is wrong (HESSIAN_NO_RECORD).
+ */
 
 /*
  * Reads a message into a table of rows. Accepted: the count is the rows stored, the place the message's length; bytes of the table

@@ -9,9 +9,9 @@ the call; and `ok`, where the numbers past the accepted rows, or after a refusal
 the call number i of the table is 0xb1a0000000000000 + i. The checksum starts at 7, and the high and then the low 32
 bits of each number of the table, h, take it from s to s * 1000003 + h, modulo 2^31 - 1.
 
-The reader below is written from 01, 2026-04 and docs/DECISIONS.md, and shares nothing with the code that is tested.
-UTF-8 and UTF-16 are Python's own. Most cases are given with their answers, and each random message is made together
-with its rows.
+The reader below is written from 01, 2026-04, 2026-07 and docs/DECISIONS.md, and shares nothing with the code that is
+tested. UTF-8 and UTF-16 are Python's own. Most cases are given with their answers, and each random message is made
+together with its rows. A row has four numbers here; `ends` gives the fifth ones.
 """
 import functools
 import math
@@ -23,6 +23,7 @@ MOST_BYTES = 262144
 MOST_OPEN = 32
 MOST = 256
 LENT = 8000
+ROW = 5
 WORD = 2**64
 
 
@@ -338,13 +339,37 @@ for t in PATTERN:
     UNTOUCHED.append(summed(UNTOUCHED[-1], t))
 
 
+def ends(rows):
+    """The fifth numbers by kinds and counts: the row after what each row opens. Of what is no record, some numbers."""
+    found = [k + 1 for k in range(len(rows))]
+
+    def value(k):
+        """The row after the value that begins at k, with the definitions before it."""
+        while k < len(rows) and rows[k][0] == 15:
+            found[k] = k + 2 + rows[k][2]
+            k = found[k]
+        if k >= len(rows):
+            return len(rows)
+        kind, _, first, second = rows[k]
+        end = k + 1 + (kind in (10, 12))
+        for _ in range({9: first, 10: first, 11: 2 * first, 12: 2 * first, 13: second}.get(kind, 0)):
+            if end >= len(rows):
+                break
+            end = value(end)
+        found[k] = end
+        return end
+
+    value(0)
+    return found
+
+
 def answer(read, size, lent):
     """The line to be printed, by what is read, the message's size, and the numbers lent."""
     if isinstance(read, tuple):
         return f"{read[0]} 0 {read[1]} {UNTOUCHED[lent]} ok"
-    if lent // 4 < len(read):
+    if lent // ROW < len(read):
         return f"9 {len(read)} 0 {UNTOUCHED[lent]} ok"
-    table = [n % WORD for row in read for n in row]
+    table = [n % WORD for row, end in zip(read, ends(read)) for n in (*row, end)]
     return f"0 {len(read)} {size} {checksum(table + PATTERN[len(table) : lent])} ok"
 
 
@@ -377,7 +402,7 @@ def case(data, lent=None):
     read = judged(data)
     if lent is None:
         rows = 7 if isinstance(read, tuple) else len(read)
-        lent = 4 * rows + len(CASES) % 13
+        lent = ROW * rows + len(CASES) % 13
     lent = min(lent, LENT)
     CASES.setdefault(" ".join([str(lent), *groups(data)]), answer(read, len(data), lent))
     return read
@@ -505,6 +530,50 @@ accepted(b"\x79" * 31 + b"\x78", *[(9, i, int(i < 31), 0) for i in range(32)])
 refused(b"\x79" * 32 + b"\x78", 7, 32)
 accepted(b"\x57" * 32 + b"\x5a" * 32)
 refused(b"\x57" * 33 + b"\x5a" * 33, 7, 32)
+
+
+# ---- 2026-07: the fifth numbers. Those of the first two are given there
+def ending(message, *fifths):
+    """A message that is accepted, and the fifth numbers of its rows."""
+    read = case(data_of(message))
+    assert isinstance(read, list) and ends(read) == list(fifths), (message, read)
+
+
+ending("57 90 91 5a", 3, 2, 3)
+ending("43 03 'Car' 91 05 'color' 60 03 'red'", 3, 2, 3, 5, 5)
+for message in each("4e | 46 | 54 | 90 | e0 | 5b | 4b 00000000 | 00 | 20 | 78 | 57 5a | 58 90 | 48 5a"):
+    ending(message, 1)
+# values in each other, beside each other, at the end of their holder and before it
+ending("79 79 79 90", 4, 4, 4, 4)
+ending("7a 79 90 91", 4, 3, 3, 4)
+ending("7a 90 79 91", 4, 2, 4, 4)
+ending("7b 78 79 78 78", 5, 2, 4, 4, 5)
+ending("48 90 79 91 48 5a 92 5a", 6, 2, 4, 4, 5, 6)
+ending("57 48 90 91 5a 58 91 92 48 78 57 5a 5a 5a", 9, 4, 3, 4, 6, 6, 9, 8, 9)
+ending("7a 79 51 91 51 90", 4, 3, 3, 4)
+# types, spelled out and by number, belong to their list or map
+ending("70 00", 2, 2)
+ending("4d 00 5a", 2, 2)
+ending("72 00 90 91", 4, 2, 3, 4)
+ending("55 00 90 91 5a", 4, 2, 3, 4)
+ending("56 00 92 90 91", 4, 2, 3, 4)
+ending("4d 00 90 91 5a", 4, 2, 3, 4)
+ending("71 00 70 90", 4, 2, 4, 4)
+ending("7a 71 01 't' 90 4d 90 91 92 5a", 8, 4, 3, 4, 8, 6, 7, 8)
+# definitions end after their names; before a value they do not belong to it, in a holder they do
+ending("D 90", 2, 2, 3)
+ending("D D F 4e", 2, 2, 4, 4, 7, 6, 7, 8)
+ending("43 00 93 00 00 00 4e", 5, 2, 3, 4, 5, 6)
+ending("D 60", 2, 2, 3)
+ending("F 60 90", 3, 2, 3, 5, 5)
+ending("F 60 F 61 90", 3, 2, 3, 9, 7, 6, 7, 9, 9)
+ending("7a D 90 91", 5, 3, 3, 4, 5)
+ending("7a 90 D 91", 5, 2, 4, 4, 5)
+ending("79 D D 61", 6, 3, 3, 5, 5, 6)
+ending("7a 79 D 60 60", 6, 5, 4, 4, 5, 6)
+ending("48 D 90 D 91 5a", 7, 3, 3, 4, 6, 6, 7)
+ending("71 00 D 60", 5, 2, 4, 4, 5)
+ending("55 00 D 90 D 91 5a", 8, 2, 4, 4, 5, 7, 7, 8)
 
 # ---- the draft's examples, corrected
 for message in each("20 | 23 010203 | 2a 'ssssssssss' | 54 | 46 | 4e"):
@@ -905,22 +974,24 @@ for code in (0x90, 0x40, 0x5A, 0x57, 0x79):
 refused(chunked(270000, 0x41, 0x42), 1, 0)
 
 # ---- how many numbers are lent
-assert answer(judged(raw("57 90 91 5a")), 4, 12).startswith("0 3 4 ")
-assert answer(judged(raw("57 90 91 5a")), 4, 11) == f"9 3 0 {UNTOUCHED[11]} ok"
+assert answer(judged(raw("57 90 91 5a")), 4, 15).startswith("0 3 4 ")
+assert answer(judged(raw("57 90 91 5a")), 4, 14) == f"9 3 0 {UNTOUCHED[14]} ok"
+assert answer(judged(raw("90")), 1, 4) == f"9 1 0 {UNTOUCHED[4]} ok"
 assert answer(judged(raw("90 90")), 2, 0) == "8 0 1 7 ok"
 for message in (*each("90 | 57 90 91 5a | 48 5a | 72 00 4e 4e | D 79 60"), *map(raw, (TOUR, BEETLE, COLORS, LINKED))):
-    needed = 4 * len(judged(message))
-    for lent in (0, 1, 2, 3, 4, 5, needed // 2, *range(needed - 5, needed + 6), needed + 40, LENT - 1, LENT):
+    needed = ROW * len(judged(message))
+    for lent in (0, 1, 3, 4, 5, 9, needed // 2, *range(needed - 6, needed + 7), needed + 40, LENT - 1, LENT):
         if lent >= 0:
             case(message, lent)
 for message in (b"", *each("5a | 90 90 | 51 90 | 7a 90 91 40 | 7b 90 91 | 7a 90 01 80 | 58 8f | 72 00 90 40")):
-    for lent in (0, 1, 3, 4, 7, 8, 11, 100, LENT):
+    for lent in (0, 1, 4, 5, 9, 10, 14, 100, LENT):
         case(message, lent)
-for n in (1997, 1998, 1999, 2000, 2001):
-    for lent in (LENT, LENT - 1, LENT - 3, LENT - 4, 0):
+assert LENT == 1600 * ROW
+for n in (1597, 1598, 1599, 1600, 1601):
+    for lent in (LENT, LENT - 1, LENT - 4, LENT - 5, 0):
         case(b"\x57" + b"\x90" * n + b"\x5a", lent)
         case(b"\x58" + int_of(n) + b"\x4e" * n, lent)
-for lent in (0, 3, 4, 5, LENT):
+for lent in (0, 4, 5, 6, LENT):
     case(chunked(MOST_BYTES, 0x52, 0x53), lent)
     case(b"\x57" + b"\x90" * (MOST_BYTES - 2) + b"\x5a", lent)
     case(b"\x57" + b"\x90" * (MOST_BYTES - 1) + b"\x5a", lent)
@@ -960,15 +1031,21 @@ def some_number(size):
 
 
 class Maker:
-    """A random message in random spellings, and the rows that it is to be read as."""
+    """A random message in random spellings, the rows that it is to be read as, and their fifth numbers."""
 
     def __init__(self, values):
-        self.data, self.rows, self.values = b"", [], values
+        self.data, self.rows, self.ends, self.values = b"", [], [], values
         self.references, self.types, self.fields = 0, 0, []
 
     def row(self, *numbers):
+        """A row; what it opens ends with it, unless `end` says that it ends later."""
         self.rows.append([*numbers])
+        self.ends.append(len(self.rows))
         return self.rows[-1]
+
+    def end(self, start):
+        """Here ends what the row `start` opens."""
+        self.ends[start] = len(self.rows)
 
     def int(self, n):
         self.data += choice(int_forms(n))
@@ -1005,13 +1082,14 @@ class Maker:
         return self.types - 1
 
     def definition(self):
-        n = choice((0, 1, 1, 2, 2, 3))
+        n, start = choice((0, 1, 1, 2, 2, 3)), len(self.rows)
         self.row(15, len(self.data), n, 0)
         self.data += b"\x43"
         self.text(16)
         self.int(n)
         for _ in range(n):
             self.text(17)
+        self.end(start)
         self.fields.append(n)
 
     def number(self):
@@ -1040,7 +1118,7 @@ class Maker:
         self.row(kind, place, n, 0)
 
     def container(self, allowance):
-        place, n = len(self.data), choice((chance(3), chance(9)))
+        place, start, n = len(self.data), len(self.rows), choice((chance(3), chance(9)))
         row = self.row(0, place, 0, 0)
         self.references += 1
         form = choice([0x57, 0x58, 0x78, 0x55, 0x56, 0x70, 0x48, 0x4D] + [0x60, 0x60] * bool(self.fields))
@@ -1063,6 +1141,7 @@ class Maker:
             n *= width
         for _ in range(n):
             self.value(allowance - 1)
+        self.end(start)
         if form in (0x57, 0x55, 0x48, 0x4D):
             self.data += b"\x5a"
 
@@ -1101,13 +1180,14 @@ while made < 530:
         continue
     made += 1
     assert judged(message) == [tuple(row) for row in maker.rows], message.hex()
-    lent = 4 * rows + choice((0, 1, 2, 3, 4, 9, 40, -1, -4, -4 * rows, -4 * chance(rows + 1)))
+    assert ends(judged(message)) == maker.ends, message.hex()
+    lent = ROW * rows + choice((0, 1, 2, 3, 4, 9, 40, -1, -5, -ROW * rows, -ROW * chance(rows + 1)))
     case(message, max(0, lent))
     # a byte changed, the message cut short, a byte inserted
     at = chance(len(message))
-    case(message[:at] + some_byte() + message[at + 1 :], 4 * rows + chance(8))
-    case(message[:at], 4 * rows + chance(8))
-    case(message[:at] + some_byte() + message[at:], 4 * rows + chance(8))
+    case(message[:at] + some_byte() + message[at + 1 :], ROW * rows + chance(8))
+    case(message[:at], ROW * rows + chance(8))
+    case(message[:at] + some_byte() + message[at:], ROW * rows + chance(8))
 
 here = os.path.dirname(os.path.abspath(__file__))
 with open(os.path.join(here, "stdin"), "w") as f:

@@ -3,17 +3,18 @@
 
 A case is a line: how many bytes of output are lent and how many rows are claimed, in decimal; the source in groups, one
 space before each; ` ;`; and the rows of the table, one space before each. A group is bytes, two hexadecimal digits each;
-a row is four decimals with commas between: kind, place, first, second. `*` and a number after a group or a row say how
-often it stands there.
+a row is five decimals with commas between: kind, place, first, second, and by how much the fifth number is above the
+row's own number, modulo 2^64. `*` and a number after a group or a row say how often it stands there.
 
 What is printed for it is a line: number, count and place of the answer; the checksum of the whole lent output after the
 call; and `ok`, where the output past what was written, or after a refusal the whole output, is unchanged. Before the call
 byte i of the output is (i * 7 + 3) % 251. The checksum starts at 7, and each byte b takes it from s to s * 1000003 + b,
 modulo 2^31 - 1.
 
-The writer below is written from 01, 2026-04 and docs/DECISIONS.md, and shares nothing with the code that is tested, nor
-with the reader of record_vectors. That reader is asked what rows a message has, and whether what is written reads back
-as the same record: by then its own answers are checked. UTF-8 and UTF-16 are Python's own.
+The writer below is written from 01, 2026-04, 2026-07 and docs/DECISIONS.md, and shares nothing with the code that is
+tested, nor with the reader of record_vectors. That reader is asked what rows a message has, and whether what is written
+reads back as the same record: by then its own answers are checked. UTF-8 and UTF-16 are Python's own. Most rows have
+four numbers here, and get the fifth ones of the record that they would be, so that something else is tested.
 """
 import functools
 import importlib.util
@@ -34,6 +35,7 @@ MOST = 256
 WORD = 2**64
 MOST_LENT = 270000
 MOST_ROWS = 2000
+MOST_INPUT = 400000
 
 
 # ---- shortest forms
@@ -185,6 +187,18 @@ def need(met):
         raise NoRecord
 
 
+def opening(write):
+    """Writes what the next row opens, whose fifth number is to be that of the row after it."""
+
+    @functools.wraps(write)
+    def judged(walk, *rest):
+        start = walk.at
+        write(walk, *rest)
+        need(walk.rows[start][4] == walk.at)
+
+    return judged
+
+
 class Walk:
     """Rows, how many of them are written, and what they have given so far."""
 
@@ -199,25 +213,29 @@ class Walk:
         return self.rows[self.at][0]
 
     def take(self, *kinds):
+        """The next row, but for its fifth number."""
         need(self.kind() in kinds)
         self.at += 1
-        return self.rows[self.at - 1]
+        return self.rows[self.at - 1][:4]
 
     def put(self, piece):
         self.pieces.append(piece)
 
+    @opening
     def text(self, kind):
         _, place, units, size = self.take(kind)
         found = string_at(self.source, place, True)
         need(found and len(found[0]) == size and len(found[0].decode().encode("utf-16-be")) == 2 * units)
         self.put(found[1])
 
+    @opening
     def bytes(self):
         _, place, size, zero = self.take(8)
         found = string_at(self.source, place, False)
         need(found and len(found[0]) == size and zero == 0)
         self.put(found[1])
 
+    @opening
     def number(self):
         kind, _, first, zero = self.take(*range(7))
         need(zero == 0)
@@ -234,6 +252,7 @@ class Walk:
         else:
             self.put(date_form(signed(first)))
 
+    @opening
     def type(self, number):
         """The type of a list or map whose row has this type number."""
         if self.kind() == 18:
@@ -245,6 +264,7 @@ class Walk:
             need(zero == 0 and named == number and named < self.types)
             self.put(int_form(named))
 
+    @opening
     def definition(self):
         _, _, fields, zero = self.take(15)
         need(zero == 0 and fields <= MOST and len(self.fields) < MOST)
@@ -255,6 +275,7 @@ class Walk:
             self.text(17)
         self.fields.append(fields)
 
+    @opening
     def reference(self):
         _, _, number, zero = self.take(14)
         need(zero == 0 and number < self.references)
@@ -265,6 +286,7 @@ class Walk:
             self.value(allowance)
             n -= 1
 
+    @opening
     def list(self, allowance):
         kind, _, n, number = self.take(9, 10)
         typed = kind == 10
@@ -284,6 +306,7 @@ class Walk:
         if 48 <= n:
             self.put(b"Z")
 
+    @opening
     def map(self, allowance):
         kind, _, pairs, number = self.take(11, 12)
         self.put(b"M" if kind == 12 else b"H")
@@ -294,6 +317,7 @@ class Walk:
         self.values(2 * pairs, allowance)
         self.put(b"Z")
 
+    @opening
     def object(self, allowance):
         _, _, number, fields = self.take(13)
         need(number < len(self.fields) and fields == self.fields[number])
@@ -359,6 +383,7 @@ def answer(found, lent):
 
 def row_words(rows):
     """The rows, each as often as it stands there in turn."""
+    rows = [(*row[:4], (row[4] - at) % WORD) for at, row in enumerate(rows)]
     words, at = [], 0
     while at < len(rows):
         end = at
@@ -391,12 +416,19 @@ def same(source, rows, other_source, other_rows):
     ) == contents(other_source, other_rows)
 
 
-def case(source, rows, claimed=None, lent=None):
-    """A case, and what is written. Where it does not matter how many bytes are lent, some are to spare."""
+def ended(rows, claimed=WORD):
+    """The rows with their fifth numbers, as the ones claimed are to have them; the others have 0."""
+    ends = reader.ends(rows[:claimed])
+    return [(*row, end % WORD) for row, end in itertools.zip_longest(rows, ends, fillvalue=0)]
+
+
+def case_of(source, rows, claimed=None, lent=None):
+    """A case of rows of five numbers, and what is written. Where it does not matter how many bytes are lent, some are
+    to spare."""
     claimed = len(rows) if claimed is None else claimed
     found = written(source, rows, claimed)
     if isinstance(found, bytes):
-        back = read(found)
+        back = ended(read(found))
         assert same(source, rows[:claimed], found, back), (source, rows)
         assert written(found, back, claimed) == found
     if lent is None:
@@ -407,6 +439,11 @@ def case(source, rows, claimed=None, lent=None):
     line = " ".join([str(lent), str(claimed), *reader.groups(source), ";", *row_words(rows)])
     CASES.setdefault(line, answer(found, lent))
     return found
+
+
+def case(source, rows, claimed=None, lent=None):
+    """The same of rows of four numbers."""
+    return case_of(source, ended(rows, len(rows) if claimed is None else claimed), claimed, lent)
 
 
 def unplaced(rows):
@@ -630,7 +667,7 @@ for n in SIZES:
 for n in (48, 300, 1999):
     writes("", [(9, 0, n, 0)] + [ZERO] * n, b"\x57" + b"\x90" * n + b"\x5a")
 writes("01 't'", [(10, 0, 1998, 0), (18, 0, 1, 1)] + [NULL] * 1998, raw("55 01 't'") + b"\x4e" * 1998 + b"\x5a")
-writes("", [(11, 0, 999, 0)] + [ZERO, NULL] * 999, b"\x48" + b"\x90\x4e" * 999 + b"\x5a")
+writes("", [(11, 0, 999, 0)] + [ZERO] * 999 + [NULL] * 999, b"\x48" + b"\x90" * 999 + b"\x4e" * 999 + b"\x5a")
 for message in each("D 90 | D D 61 | 57 D 90 D 91 5a | 48 D 60 D 61 D 60 D 62 5a | F 60 F 61 F 62 90 | D F 61 57 D 60 D 62 5a"):
     shortens(message)
 for message in (reader.BEETLE, reader.CARS, reader.COLORS, reader.LINKED, reader.TOUR):
@@ -638,7 +675,7 @@ for message in (reader.BEETLE, reader.CARS, reader.COLORS, reader.LINKED, reader
 # classes 15, 16 and 255
 for number, shortest in ((0, "60"), (14, "6e"), (15, "6f"), (16, "4f a0"), (47, "4f bf"), (48, "4f c830"), (255, "4f c8ff")):
     classes = reader.NO_FIELDS * (number + 1)
-    for form in reader.int_forms(number):
+    for form in reader.int_forms(number)[-1 if number == 255 else 0 :]:
         rewrites(classes + b"\x4f" + form, classes + data_of(shortest))
     if number < 16:
         rewrites(classes + bytes([0x60 + number]))
@@ -819,7 +856,7 @@ none("00", typed + [(12, 0, 0, 0), (19, 0, 0, 0)])
 # a container is closed after its last value
 assert isinstance(case(b"", [(9, 0, 2, 0)] + ([(9, 0, 1, 0)] * 30 + [(9, 0, 0, 0)]) * 2), bytes)
 none("", [(9, 0, 2, 0)] + [(9, 0, 1, 0)] * 30 + [(9, 0, 0, 0)] + [(9, 0, 1, 0)] * 31 + [(9, 0, 0, 0)])
-for n in (255, 256, 257):
+for n in (256, 257):
     rows = [(9, 0, n, 0), *(row for i in range(n) for row in ((10, 0, 0, i), (18, 0, 0, 0)))]
     assert (case(b"\x00", rows) == 10) == (n > 256)
     rows = [*NO_FIELDS * n, (13, 0, n - 1, 0)]
@@ -888,10 +925,67 @@ refused(1, whole, [(15, 0, 0, 0), (16, 0, LONGEST - 12, LONGEST - 12), NULL])
 refused(1, whole, [(15, 0, 3, 0), *[(16, 0, LONGEST - 12, LONGEST - 12)], *[(17, 0, LONGEST - 12, LONGEST - 12)] * 3, NULL])
 refused(1, whole, [(12, 0, 0, 0), (18, 0, LONGEST - 12, LONGEST - 12)])
 
+
+# ---- 10: each fifth number of each kind of row wrong
+def with_fifth(rows, at, n):
+    return [*rows[:at], (*rows[at][:4], n % WORD), *rows[at + 1 :]]
+
+
+def wrong_fifth(source, rows, at, n, claimed=None, lent=None):
+    """One fifth number is changed, which is refused. `rows` have the right ones."""
+    assert rows[at][4] != n % WORD
+    assert case_of(data_of(source), with_fifth(rows, at, n), claimed, lent) == 10, (source, rows, at, n)
+
+
+# the two tables that 2026-07 gives
+LIST_ROWS = [(9, 0, 2, 0, 3), (3, 1, 0, 0, 2), (3, 2, 1, 0, 3)]
+assert case_of(raw("57 90 91 5a"), LIST_ROWS) == raw("7a 90 91")
+CAR_ROWS = [(15, 0, 1, 0, 3), (16, 1, 3, 3, 2), (17, 6, 5, 5, 3), (13, 12, 0, 1, 5), (7, 13, 3, 3, 5)]
+assert case_of(raw(CAR), CAR_ROWS) == raw(CAR)
+# holders in each other, beside each other and at the end of one, types, definitions in holders
+HELD = each(
+    "79 79 79 90 | 7b 78 79 90 91 | 7a 90 79 91 | 48 90 79 91 92 48 5a 5a | 7a 71 01 't' 70 90 4d 90 79 91 92 5a"
+    "| 7a D 90 D 61 | 71 00 F 60 79 90 | F 60 F 61 4e"
+)
+seen = {}
+for message in (*SMALL, *HELD):
+    rows = ended(read(message))
+    for at, (kind, *_, right) in enumerate(rows):
+        wrong = {0, at, at + 1, right - 1, right + 1, len(rows), right + 2**32, right + 2**63, WORD - 1} - {right}
+        # all of them for the first two rows of a kind
+        seen[kind] = seen.get(kind, 0) + 1
+        wrong = sorted(wrong) if seen[kind] <= 2 else [choice(sorted(wrong)), right + choice((-1, 1))]
+        for n in wrong:
+            wrong_fifth(message, rows, at, n)
+assert sorted(seen) == list(range(20))
+# all fifth numbers wrong alike: rows counted from 1, or from the row itself, and 0
+for message in (raw(CAR), *HELD[:3]):
+    rows = ended(read(message))
+    for fifths in ([row[4] + 1 for row in rows], [row[4] - at for at, row in enumerate(rows)], [0] * len(rows)):
+        assert case_of(message, [(*row[:4], n) for row, n in zip(rows, fifths)]) == 10
+# two fifth numbers exchanged
+for one, two in ((0, 1), (1, 2), (0, 2), (3, 4)):
+    rows = ended(read(raw("7b 78 79 90 91")))
+    wrong_fifth("7b 78 79 90 91", with_fifth(rows, two, rows[one][4]), one, rows[two][4])
+# 10 comes before 9 and before a shortest message that is too long; a source that is too long comes before 10
+for lent in (0, 1, 2):
+    wrong_fifth("57 90 91 5a", LIST_ROWS, 2, 2, lent=lent)
+for at in (0, 1, 35, 70):
+    wrong_fifth(whole, ended(many), at, 70)
+assert case_of(b"a" * (LONGEST + 1), with_fifth(LIST_ROWS, 0, 2)) == 1
+# a row that is lent and not claimed is not looked at; a holder whose end is past the claim
+assert case_of(raw("57 90 91 5a"), [*LIST_ROWS, (3, 0, 0, 0, 99)], 3) == raw("7a 90 91")
+assert case_of(raw("57 90 91 5a"), LIST_ROWS, 2) == 10
+# the ends that a row would have if a definition were part of the value after it, or a type none of its list
+wrong_fifth("D 90", ended(read(raw("D 90"))), 0, 3)
+wrong_fifth("7a D 90 91", ended(read(raw("7a D 90 91"))), 1, 4)
+wrong_fifth("71 00 90", ended(read(raw("71 00 90"))), 0, 2)
+wrong_fifth("71 00 90", ended(read(raw("71 00 90"))), 1, 3)
+
 # ---- how many bytes are lent
 for message in (*SMALL, raw(CAR), raw(reader.TOUR), raw(reader.BEETLE), PAIR, b"\x57" + b"\x91" * 60 + b"\x5a"):
     rows = unplaced(read(message))
-    needed = len(written(message, rows, len(rows)))
+    needed = len(written(message, ended(rows), len(rows)))
     for lent in (0, needed - 1, needed, needed + 40):
         case(message, rows, lent=lent)
 for lent in (0, 1, 7, 1000, MOST_LENT):
@@ -939,14 +1033,21 @@ while made < 110:
     made += 1
     shortens(message)
     rows = unplaced(rows)
-    found = written(message, rows, len(rows))
+    found = written(message, ended(rows), len(rows))
     case(message, rows, lent=len(found) - choice((0, 1, 1, 2, len(found))))
-    for _ in range(2):
+    case(*damaged(message, rows))
+    if chance(3):
         case(*damaged(message, rows))
+    else:
+        # a fifth number changed; now and then it stays right
+        at, right = chance(len(rows)), ended(rows)
+        case_of(message, with_fifth(right, at, choice((random_number(right[at][4]), choice(right)[4]))))
 
 if __name__ == "__main__":
+    stdin = "".join(line + "\n" for line in CASES)
+    assert len(stdin) <= MOST_INPUT, len(stdin)
     with open(os.path.join(HERE, "stdin"), "w") as f:
-        f.write("".join(line + "\n" for line in CASES))
+        f.write(stdin)
     with open(os.path.join(HERE, "stdout"), "w") as f:
         f.write("".join(line + "\n" for line in CASES.values()))
-    print(len(CASES), "cases,", sum(map(len, CASES)) + len(CASES), "bytes")
+    print(len(CASES), "cases,", len(stdin), "bytes")

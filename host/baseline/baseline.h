@@ -9,8 +9,9 @@
 #include <stdint.h>
 
 /*
- * Reads a message into a table of rows. A row is 32 bytes: kind, place, first and second, eight big-endian bytes each.
- * The answer is number * 2^48 + count * 2^24 + place:
+ * Reads a message into a table of rows. A row is 40 bytes: kind, place, first, second and after, eight big-endian bytes
+ * each. Rows are numbered from 0, and after is the number of the row just after what this row opens. The answer is
+ * number * 2^48 + count * 2^24 + place:
  *   accepted:            number 0, count the rows stored, place the message's length
  *   refused 1 to 8:      count 0, place that of the fault
  *   refused 9:           the table is too small; count the rows needed, place 0
@@ -22,7 +23,7 @@ uint64_t baseline_read(const uint8_t *message, size_t message_len, uint8_t *tabl
  * Writes the shortest message of the first `rows` rows of a table, whose texts and bytes lie in the source. The answer:
  *   accepted:            number 0, count the bytes written, place 0
  *   refused 1:           the source, or the shortest message, is too long; count and place 0
- *   refused 10:          the rows are no record; count and place 0
+ *   refused 10:          the rows are no record, or an after is wrong; count and place 0
  *   refused 9:           the output is too small; count the bytes needed, place 0
  * A refusal leaves the output as it was; so do bytes past those written.
  */

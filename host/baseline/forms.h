@@ -14,7 +14,7 @@ enum {
     MAX_CLASSES = 256,
     MAX_FIELDS = 256,
     MAX_TYPES = 256,
-    ROW_SIZE = 32
+    ROW_SIZE = 40
 };
 
 enum refusal {

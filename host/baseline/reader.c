@@ -85,6 +85,7 @@ static bool need(struct reader *r, size_t n)
 
 /* ---- rows */
 
+/* Stores a row once all that it opens is read: the rows so far end there. */
 static void store_row(struct reader *r, size_t row, enum kind kind, size_t place, uint64_t first, uint64_t second)
 {
     uint8_t *p;
@@ -96,6 +97,7 @@ static void store_row(struct reader *r, size_t row, enum kind kind, size_t place
     put_u64(p + 8, place);
     put_u64(p + 16, first);
     put_u64(p + 24, second);
+    put_u64(p + 32, r->rows);
 }
 
 static void add_row(struct reader *r, enum kind kind, size_t place, uint64_t first, uint64_t second)

@@ -31,7 +31,7 @@ struct writer {
 };
 
 struct row {
-    uint64_t kind, place, first, second;
+    uint64_t kind, place, first, second, after;
 };
 
 static bool next_row(struct writer *w, struct row *row)
@@ -45,7 +45,14 @@ static bool next_row(struct writer *w, struct row *row)
     row->place = get_u64(p + 8);
     row->first = get_u64(p + 16);
     row->second = get_u64(p + 24);
+    row->after = get_u64(p + 32);
     return true;
+}
+
+/* Whether what a row opens, of which all rows are taken by now, ends where the row says. */
+static bool ends(const struct writer *w, const struct row *row)
+{
+    return row->after == w->at;
 }
 
 /* ---- bytes */
@@ -370,7 +377,7 @@ static bool write_name(struct writer *w, enum kind kind)
 {
     struct row row;
 
-    return next_row(w, &row) && row.kind == kind && put_text(w, &row);
+    return next_row(w, &row) && row.kind == kind && ends(w, &row) && put_text(w, &row);
 }
 
 /* ---- types, classes, values */
@@ -380,7 +387,7 @@ static bool write_type(struct writer *w, uint64_t number)
 {
     struct row row;
 
-    if (!next_row(w, &row))
+    if (!next_row(w, &row) || !ends(w, &row))
         return false;
     if (row.kind == ROW_TYPE_NAME)
         return w->types < MAX_TYPES && number == w->types++ && put_text(w, &row);
@@ -405,7 +412,7 @@ static bool write_class(struct writer *w, const struct row *row)
         if (!write_name(w, ROW_FIELD_NAME))
             return false;
     w->fields[w->classes++] = (uint16_t)row->first;
-    return true;
+    return ends(w, row);
 }
 
 static bool write_value(struct writer *w, unsigned allowance);
@@ -466,6 +473,61 @@ static bool write_object(struct writer *w, const struct row *row, unsigned allow
     return write_values(w, row->second, allowance);
 }
 
+/* A value whose row has been taken; `allowance` more containers may open. */
+static bool write_item(struct writer *w, const struct row *row, unsigned allowance)
+{
+    switch (row->kind) {
+    case ROW_NULL:
+        put(w, 0x4e);
+        return row->first == 0 && row->second == 0;
+    case ROW_FALSE:
+        put(w, 0x46);
+        return row->first == 0 && row->second == 0;
+    case ROW_TRUE:
+        put(w, 0x54);
+        return row->first == 0 && row->second == 0;
+    case ROW_INT:
+        if ((int64_t)row->first != (int32_t)row->first || row->second != 0)
+            return false;
+        put_int(w, (int64_t)row->first);
+        return true;
+    case ROW_LONG:
+        put_long(w, (int64_t)row->first);
+        return row->second == 0;
+    case ROW_DOUBLE:
+        put_double(w, row->first);
+        return row->second == 0;
+    case ROW_DATE:
+        put_date(w, (int64_t)row->first);
+        return row->second == 0;
+    case ROW_TEXT:
+        return put_text(w, row);
+    case ROW_BYTES:
+        return row->second == 0 && put_string(w, &bytes_heads, row->place, row->first, row->first);
+    case ROW_REFERENCE:
+        if (row->first >= w->references || row->second != 0)
+            return false;
+        put(w, 0x51);
+        put_int(w, (int64_t)row->first);
+        return true;
+    case ROW_LIST:
+    case ROW_TYPED_LIST:
+    case ROW_MAP:
+    case ROW_TYPED_MAP:
+    case ROW_OBJECT:
+        if (allowance == 0)
+            return false;
+        w->references++;
+        if (row->kind == ROW_OBJECT)
+            return write_object(w, row, allowance - 1);
+        if (row->kind == ROW_LIST || row->kind == ROW_TYPED_LIST)
+            return write_list(w, row, allowance - 1);
+        return write_map(w, row, allowance - 1);
+    default:
+        return false;
+    }
+}
+
 /* A value, with the class definitions before it; `allowance` more containers may open. */
 static bool write_value(struct writer *w, unsigned allowance)
 {
@@ -479,56 +541,7 @@ static bool write_value(struct writer *w, unsigned allowance)
         if (!write_class(w, &row))
             return false;
     }
-    switch (row.kind) {
-    case ROW_NULL:
-        put(w, 0x4e);
-        return row.first == 0 && row.second == 0;
-    case ROW_FALSE:
-        put(w, 0x46);
-        return row.first == 0 && row.second == 0;
-    case ROW_TRUE:
-        put(w, 0x54);
-        return row.first == 0 && row.second == 0;
-    case ROW_INT:
-        if ((int64_t)row.first != (int32_t)row.first || row.second != 0)
-            return false;
-        put_int(w, (int64_t)row.first);
-        return true;
-    case ROW_LONG:
-        put_long(w, (int64_t)row.first);
-        return row.second == 0;
-    case ROW_DOUBLE:
-        put_double(w, row.first);
-        return row.second == 0;
-    case ROW_DATE:
-        put_date(w, (int64_t)row.first);
-        return row.second == 0;
-    case ROW_TEXT:
-        return put_text(w, &row);
-    case ROW_BYTES:
-        return row.second == 0 && put_string(w, &bytes_heads, row.place, row.first, row.first);
-    case ROW_REFERENCE:
-        if (row.first >= w->references || row.second != 0)
-            return false;
-        put(w, 0x51);
-        put_int(w, (int64_t)row.first);
-        return true;
-    case ROW_LIST:
-    case ROW_TYPED_LIST:
-    case ROW_MAP:
-    case ROW_TYPED_MAP:
-    case ROW_OBJECT:
-        if (allowance == 0)
-            return false;
-        w->references++;
-        if (row.kind == ROW_OBJECT)
-            return write_object(w, &row, allowance - 1);
-        if (row.kind == ROW_LIST || row.kind == ROW_TYPED_LIST)
-            return write_list(w, &row, allowance - 1);
-        return write_map(w, &row, allowance - 1);
-    default:
-        return false;
-    }
+    return write_item(w, &row, allowance) && ends(w, &row);
 }
 
 /* ---- messages */

@@ -4,23 +4,15 @@
 #include <string.h>
 
 #include "hessian.h"
+#include "rows.h"
 
 enum { PAIR_SIZE = 6 };
 
-static uint64_t number_at(const uint8_t *p)
-{
-    uint64_t n = 0;
-    int i;
-
-    for (i = 0; i < 8; i++)
-        n = n << 8 | p[i];
-    return n;
-}
-
 struct row row_at(const struct record *r, size_t index)
 {
-    const uint8_t *p = r->table + index * HESSIAN_ROW_SIZE;
-    struct row row = {number_at(p), number_at(p + 8), number_at(p + 16), number_at(p + 24)};
+    const uint8_t *t = r->table;
+    struct row row = {get_number(t, index, KIND), get_number(t, index, PLACE), get_number(t, index, FIRST),
+                      get_number(t, index, SECOND), get_number(t, index, AFTER)};
 
     return row;
 }

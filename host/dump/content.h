@@ -8,7 +8,7 @@
 #include "record.h"
 
 struct row {
-    uint64_t kind, place, first, second;
+    uint64_t kind, place, first, second, after;
 };
 
 struct row row_at(const struct record *r, size_t index);

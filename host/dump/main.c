@@ -14,7 +14,7 @@
 enum { ALL_READ = 0, SOME_REFUSED = 1, IN_VAIN = 2, LIMIT = 64 };
 
 static const char help[] =
-    "usage: dump [--limit BYTES] [NAME]...\n"
+    "usage: dump [--limit BYTES] [--elements N] [NAME]...\n"
     "\n"
     "Shows Hessian 2.0 records. NAME is a record file; - or no name is standard input.\n"
     "\n"
@@ -26,6 +26,8 @@ static const char help[] =
     "around it.\n"
     "\n"
     "    --limit BYTES   of a text or byte string (64); 0 is no limit\n"
+    "    --elements N    of each list or map the first N elements or pairs (0); 0 is no limit. The rest is\n"
+    "                    passed over: a line says how many more there are, and in how many rows\n"
     "    --help          this page\n"
     "    --              what follows is no option\n"
     "\n"
@@ -41,7 +43,7 @@ static int complain(const char *name, const char *why)
 }
 
 /* Shows a file; the status. */
-static int show_file(struct record *r, const char *name, size_t limit)
+static int show_file(struct record *r, const char *name, const struct extent *most)
 {
     bool input = strcmp(name, "-") == 0;
     const char *why = input ? load_descriptor(r, STDIN_FILENO) : load_file(r, name);
@@ -61,27 +63,29 @@ static int show_file(struct record *r, const char *name, size_t limit)
     }
     printf(", %zu row%s, shortest form %zu byte%s\n", r->rows, r->rows == 1 ? "" : "s", r->shortest_len,
            r->shortest_len == 1 ? "" : "s");
-    if (!show_record(stdout, r, limit))
+    if (!show_record(stdout, r, most))
         return complain(name, "there is no memory left");
     return ALL_READ;
 }
 
-/* A number of bytes; false if it is none. */
-static bool parse_limit(const char *text, size_t *limit)
+/* The number that the word after option i is, or `unlimited` for 0. Ends the program where there is none. */
+static uint64_t parse_number(int argc, char **argv, int i, const char *of_what, uint64_t unlimited)
 {
-    char *end;
+    const char *text = i + 1 < argc ? argv[i + 1] : "";
     unsigned long long n;
+    char *end;
 
     errno = 0;
     n = strtoull(text, &end, 10);
-    if (text[0] < '0' || text[0] > '9' || *end != '\0' || errno != 0)
-        return false;
-    *limit = n == 0 || n > HESSIAN_LONGEST ? HESSIAN_LONGEST : (size_t)n;
-    return true;
+    if (text[0] < '0' || text[0] > '9' || *end != '\0' || errno != 0) {
+        fprintf(stderr, "dump: %s needs a number of %s\n", argv[i], of_what);
+        exit(IN_VAIN);
+    }
+    return n == 0 || n > unlimited ? unlimited : n;
 }
 
 /* The index of the first name. Ends the program where there is nothing to do. */
-static int parse(int argc, char **argv, size_t *limit)
+static int parse(int argc, char **argv, struct extent *most)
 {
     int i = 1;
 
@@ -92,12 +96,12 @@ static int parse(int argc, char **argv, size_t *limit)
         }
         if (strcmp(argv[i], "--") == 0)
             return i + 1;
-        if (strcmp(argv[i], "--limit") != 0) {
+        if (strcmp(argv[i], "--limit") == 0) {
+            most->bytes = (size_t)parse_number(argc, argv, i++, "bytes", HESSIAN_LONGEST);
+        } else if (strcmp(argv[i], "--elements") == 0) {
+            most->elements = parse_number(argc, argv, i++, "elements", HESSIAN_LONGEST);
+        } else {
             fprintf(stderr, "dump: there is no option %s; dump --help names them\n", argv[i]);
-            exit(IN_VAIN);
-        }
-        if (++i == argc || !parse_limit(argv[i], limit)) {
-            fputs("dump: --limit needs a number of bytes\n", stderr);
             exit(IN_VAIN);
         }
     }
@@ -106,8 +110,8 @@ static int parse(int argc, char **argv, size_t *limit)
 
 int main(int argc, char **argv)
 {
-    size_t limit = LIMIT;
-    int i = parse(argc, argv, &limit), worst = ALL_READ;
+    struct extent most = {LIMIT, HESSIAN_LONGEST};
+    int i = parse(argc, argv, &most), worst = ALL_READ;
     struct record r;
 
     if (!new_record(&r)) {
@@ -115,9 +119,9 @@ int main(int argc, char **argv)
         return IN_VAIN;
     }
     if (i == argc)
-        worst = show_file(&r, "-", limit);
+        worst = show_file(&r, "-", &most);
     for (; i < argc; i++) {
-        int status = show_file(&r, argv[i], limit);
+        int status = show_file(&r, argv[i], &most);
 
         worst = status > worst ? status : worst;
     }

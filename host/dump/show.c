@@ -8,18 +8,23 @@
 #include "hessian.h"
 #include "names.h"
 #include "quote.h"
+#include "rows.h"
 #include "values.h"
 
 enum { MOST_GIVEN = 256 };
 
-/* How far the rows are shown, and what their numbers mean: indexes of rows. The library gives no more than MOST_GIVEN of each. */
+/*
+ * What is shown, and what the numbers in its rows mean. All rows are looked through first, so that a class, a type or
+ * a reference is known also where what gives it is passed over. The library gives no more than MOST_GIVEN classes and
+ * types.
+ */
 struct view {
     FILE *out;
     const struct record *r;
-    size_t limit;
-    uint8_t *bytes; /* as many as the limit */
-    size_t at;
-    size_t *references; /* of lists, maps and objects */
+    const struct extent *most;
+    uint8_t *bytes;     /* as many as are shown of one string */
+    size_t *numbers;    /* of each row: the number of its class, or the reference to it */
+    size_t *references; /* the rows of lists, maps and objects */
     size_t reference_count;
     size_t classes[MOST_GIVEN];
     size_t class_count;
@@ -37,13 +42,6 @@ struct label {
 static const struct label none = {NULL, 0, 0};
 
 /* ---- parts of a line */
-
-static struct row take_row(struct view *v)
-{
-    static const struct row no_row = {HESSIAN_NULL, 0, 0, 0};
-
-    return v->at < v->r->rows ? row_at(v->r, v->at++) : no_row;
-}
 
 static void put_place(struct view *v, uint64_t place, unsigned depth)
 {
@@ -87,7 +85,7 @@ static const char *plural(uint64_t n)
 
 static void put_content(struct view *v, const struct row *row)
 {
-    size_t shown = content(v->r, row, v->bytes, v->limit);
+    size_t shown = content(v->r, row, v->bytes, v->most->bytes);
 
     if (row->kind == HESSIAN_BYTES) {
         fprintf(v->out, " of %" PRIu64, row->first);
@@ -165,115 +163,157 @@ static void put_value(struct view *v, const struct row *row)
     }
 }
 
-/* ---- classes, lists, maps and objects */
+/* ---- classes, lists, maps and objects: each begins at the row `at`, and its fifth number says where it ends */
 
-/* A class definition whose row was taken. */
-static void show_class(struct view *v, const struct row *row, unsigned depth)
+static void show_class(struct view *v, size_t at, unsigned depth)
 {
-    size_t index = v->at - 1;
-    uint64_t i;
+    struct row row = row_at(v->r, at);
+    size_t i;
 
-    put_place(v, row->place, depth);
-    fprintf(v->out, "class %zu ", v->class_count);
-    put_row_name(v, index + 1);
-    fprintf(v->out, " with %" PRIu64 " field%s\n", row->first, plural(row->first));
-    take_row(v);
-    for (i = 0; i < row->first; i++) {
-        put_place(v, row_at(v->r, v->at).place, depth + 1);
-        fprintf(v->out, "field %" PRIu64 " ", i);
-        put_row_name(v, v->at);
+    put_place(v, row.place, depth);
+    fprintf(v->out, "class %zu ", v->numbers[at]);
+    put_row_name(v, at + 1);
+    fprintf(v->out, " with %" PRIu64 " field%s\n", row.first, plural(row.first));
+    for (i = at + 2; i < row.after; i++) {
+        put_place(v, row_at(v->r, i).place, depth + 1);
+        fprintf(v->out, "field %zu ", i - at - 2);
+        put_row_name(v, i);
         putc('\n', v->out);
-        take_row(v);
     }
-    v->classes[v->class_count++ % MOST_GIVEN] = index;
 }
 
 /* The type of a list or map, spelled out or by its number. */
-static void take_type(struct view *v)
+static void show_type(struct view *v, size_t at, unsigned depth)
 {
-    size_t index = v->at;
-
-    if (take_row(v).kind == HESSIAN_TYPE_NAME)
-        v->types[v->type_count++ % MOST_GIVEN] = index;
-}
-
-static void show_type(struct view *v, size_t index, unsigned depth)
-{
-    struct row row = row_at(v->r, index);
+    struct row row = row_at(v->r, at);
 
     put_place(v, row.place, depth);
     if (row.kind == HESSIAN_TYPE_NAME)
-        put_row_name(v, index);
+        put_row_name(v, at);
     fprintf(v->out, "%s\n", row.kind == HESSIAN_TYPE_NAME ? " names the type" : "the type by its number");
 }
 
-static void show_value(struct view *v, const struct label *label, unsigned depth);
-
-static void show_values(struct view *v, const struct row *row, unsigned depth)
+/* How many more elements or pairs there are from this row on to the end of the list or map, which are not shown. */
+static void show_rest(struct view *v, size_t at, const struct row *holder, uint64_t left, unsigned depth)
 {
-    uint64_t i, count = row->kind == HESSIAN_OBJECT ? row->second : row->first;
+    uint64_t rows = holder->after - at;
 
-    for (i = 0; i < count && v->at < v->r->rows; i++) {
-        struct label l = {"element", (size_t)i, 0}, other = {"value", (size_t)i, 0};
-
-        if (row->kind == HESSIAN_OBJECT) {
-            l.word = "";
-            l.field = class_name(v, row->first) + 1 + (size_t)i;
-        } else if (row->kind == HESSIAN_MAP || row->kind == HESSIAN_TYPED_MAP) {
-            l.word = "key";
-        }
-        show_value(v, &l, depth);
-        if (l.word[0] == 'k')
-            show_value(v, &other, depth);
-    }
+    put_place(v, row_at(v->r, at).place, depth);
+    fprintf(v->out, "and %" PRIu64 " more %s%s in %" PRIu64 " row%s\n", left, is_map(holder->kind) ? "pair" : "element",
+            plural(left), rows, plural(rows));
 }
 
-/* A list, map or object whose row was taken and whose place and label stand in the line. */
-static void show_holder(struct view *v, const struct row *row, unsigned depth)
-{
-    bool typed = row->kind == HESSIAN_TYPED_LIST || row->kind == HESSIAN_TYPED_MAP;
-    bool pairs = row->kind == HESSIAN_MAP || row->kind == HESSIAN_TYPED_MAP;
-    size_t type = v->at;
+static size_t show_value(struct view *v, size_t at, const struct label *label, unsigned depth);
 
-    fprintf(v->out, "%s #%zu", holder_word(row->kind), v->reference_count);
-    v->references[v->reference_count++] = v->at - 1;
-    if (typed)
-        take_type(v);
+/* The elements of a list, from its first row on. */
+static void show_elements(struct view *v, size_t at, const struct row *list, unsigned depth)
+{
+    uint64_t i;
+
+    for (i = 0; i < list->first && i < v->most->elements; i++) {
+        struct label element = {"element", (size_t)i, 0};
+
+        at = show_value(v, at, &element, depth);
+    }
+    if (i < list->first)
+        show_rest(v, at, list, list->first - i, depth);
+}
+
+static void show_pairs(struct view *v, size_t at, const struct row *map, unsigned depth)
+{
+    uint64_t i;
+
+    for (i = 0; i < map->first && i < v->most->elements; i++) {
+        struct label key = {"key", (size_t)i, 0}, value = {"value", (size_t)i, 0};
+
+        at = show_value(v, at, &key, depth);
+        at = show_value(v, at, &value, depth);
+    }
+    if (i < map->first)
+        show_rest(v, at, map, map->first - i, depth);
+}
+
+static void show_fields(struct view *v, size_t at, const struct row *object, unsigned depth)
+{
+    struct label field = {"", 0, class_name(v, object->first) + 1};
+
+    for (; at < object->after; field.field++)
+        at = show_value(v, at, &field, depth);
+}
+
+/* A list, map or object whose place and label stand in the line. */
+static void show_holder(struct view *v, size_t at, const struct row *row, unsigned depth)
+{
+    fprintf(v->out, "%s #%zu", holder_word(row->kind), v->numbers[at]);
     put_sort(v, row);
     if (row->kind != HESSIAN_OBJECT)
-        fprintf(v->out, " with %" PRIu64 " %s%s", row->first, pairs ? "pair" : "element", plural(row->first));
+        fprintf(v->out, " with %" PRIu64 " %s%s", row->first, is_map(row->kind) ? "pair" : "element",
+                plural(row->first));
     putc('\n', v->out);
-    if (typed)
-        show_type(v, type, depth + 1);
-    show_values(v, row, depth + 1);
+    at++;
+    if (is_typed(row->kind))
+        show_type(v, at++, depth + 1);
+    if (row->kind == HESSIAN_OBJECT)
+        show_fields(v, at, row, depth + 1);
+    else if (is_map(row->kind))
+        show_pairs(v, at, row, depth + 1);
+    else
+        show_elements(v, at, row, depth + 1);
 }
 
-/* A value, with the class definitions before it. */
-static void show_value(struct view *v, const struct label *label, unsigned depth)
+/* A value, with the class definitions before it; the row after it. */
+static size_t show_value(struct view *v, size_t at, const struct label *label, unsigned depth)
 {
-    struct row row = take_row(v);
+    struct row row = row_at(v->r, at);
 
-    for (; row.kind == HESSIAN_CLASS; row = take_row(v))
-        show_class(v, &row, depth);
+    for (; row.kind == HESSIAN_CLASS; row = row_at(v->r, at)) {
+        show_class(v, at, depth);
+        at = (size_t)row.after;
+    }
     put_place(v, row.place, depth);
     put_label(v, label);
-    if (row.kind >= HESSIAN_LIST && row.kind <= HESSIAN_OBJECT) {
-        show_holder(v, &row, depth);
+    if (is_holder(row.kind)) {
+        show_holder(v, at, &row, depth);
     } else {
         fputs(kind_name(row.kind), v->out);
         put_value(v, &row);
         putc('\n', v->out);
     }
+    return (size_t)row.after;
 }
 
-bool show_record(FILE *out, const struct record *r, size_t limit)
+/* Notes which classes, types and references the rows give. */
+static void number_rows(struct view *v)
 {
-    struct view v = {out, r, limit, malloc(limit + 1), 0, malloc((r->rows + 1) * sizeof *v.references), 0, {0}, 0, {0}, 0};
-    bool room = v.bytes != NULL && v.references != NULL;
+    size_t i;
 
-    if (room)
-        show_value(&v, &none, 0);
+    for (i = 0; i < v->r->rows; i++) {
+        uint64_t kind = row_at(v->r, i).kind;
+
+        if (kind == HESSIAN_CLASS) {
+            v->numbers[i] = v->class_count;
+            v->classes[v->class_count++ % MOST_GIVEN] = i;
+        } else if (kind == HESSIAN_TYPE_NAME) {
+            v->types[v->type_count++ % MOST_GIVEN] = i;
+        } else if (is_holder(kind)) {
+            v->numbers[i] = v->reference_count;
+            v->references[v->reference_count++] = i;
+        }
+    }
+}
+
+bool show_record(FILE *out, const struct record *r, const struct extent *most)
+{
+    size_t size = r->rows * sizeof(size_t);
+    struct view v = {out, r, most, malloc(most->bytes + 1), malloc(size + 1), malloc(size + 1), 0, {0}, 0, {0}, 0};
+    bool room = v.bytes != NULL && v.numbers != NULL && v.references != NULL;
+
+    if (room) {
+        number_rows(&v);
+        show_value(&v, 0, &none, 0);
+    }
     free(v.bytes);
+    free(v.numbers);
     free(v.references);
     return room;
 }

@@ -5,12 +5,14 @@
 #include <stdlib.h>
 #include <string.h>
 
+#include "../afters.h"
+#include "../rows.h"
 #include "baseline.h"
 #include "fence.h"
 #include "hessian.h"
 #include "packed.h"
 
-enum { LONGEST = HESSIAN_LONGEST, ROW_SIZE = HESSIAN_ROW_SIZE, MOST_MESSAGE = 300000, MOST_ALTERED = 4 };
+enum { LONGEST = HESSIAN_LONGEST, MOST_MESSAGE = 300000, MOST_ALTERED = 4 };
 
 /* What the library is lent. The plain functions have blocks of their own, which AddressSanitizer watches. */
 static struct fence message_fence, table_fence, output_fence;
@@ -212,10 +214,12 @@ static bool compare_writes(const struct input *in, uint8_t **written, uint64_t *
 static bool same_rows(const uint8_t *one, const uint8_t *two, size_t rows)
 {
     size_t i;
+    unsigned which;
 
-    for (i = 0; i < rows; i++, one += ROW_SIZE, two += ROW_SIZE)
-        if (memcmp(one, two, 8) != 0 || memcmp(one + 16, two + 16, 16) != 0)
-            return false;
+    for (i = 0; i < rows; i++)
+        for (which = 0; which < ROW_NUMBERS; which++)
+            if (which != PLACE && get_number(one, i, which) != get_number(two, i, which))
+                return false;
     return true;
 }
 
@@ -242,25 +246,58 @@ static bool check_shortest(const struct input *in, const uint8_t *shortest, size
     return good;
 }
 
-/* Writes rows of which some numbers are altered, or more or fewer are claimed. */
-static bool compare_altered(const struct input *in)
+/* Writes with another fifth number in one row: refused 10, unless it is the right one. */
+static bool compare_after(const struct input *in)
 {
-    static const uint64_t edges[] = {0, 1, 7, 8, 15, 16, 47, 48, 255, 256, 0x7fffffff, 0x80000000, 0xffffffff80000000, UINT64_MAX};
     uint8_t *table = copy_of(in->table, in->table_len);
     struct input altered = *in;
-    size_t times = 1 + (size_t)pick(MOST_ALTERED);
+    size_t row = (size_t)pick(in->rows);
+    uint64_t right = get_number(table, row, AFTER), answer;
+    uint64_t n = after_trial(table, (size_t)in->rows, row, (unsigned)pick(AFTER_TRIALS));
+    bool good;
+
+    altered.table = table;
+    set_number(table, row, AFTER, n);
+    good = compare_write(&altered, 0, NULL, &answer);
+    if (good && HESSIAN_NUMBER(answer) != (n == right ? HESSIAN_ROOM : HESSIAN_NO_RECORD))
+        good = differ("a fifth number is judged wrongly", answer, n == right);
+    free(table);
+    return good;
+}
+
+/* Alters a number of a row. */
+static void alter(uint8_t *table, size_t rows, enum column which)
+{
+    static const uint64_t edges[] = {0,   1,   7,   8,          15,         16,                 47,
+                                     48,  255, 256, 0x7fffffff, 0x80000000, 0xffffffff80000000, UINT64_MAX};
+    size_t row = (size_t)pick(rows);
+    uint64_t n = get_number(table, row, which) + pick(5) - 2;
+
+    if (pick(3) == 0)
+        n = edges[pick(sizeof edges / sizeof edges[0])];
+    if (which == AFTER && pick(3) != 0)
+        n = after_trial(table, rows, row, (unsigned)pick(AFTER_TRIALS));
+    set_number(table, row, which, n);
+}
+
+/* Writes rows of which some numbers are altered, or more or fewer are claimed; the fifth numbers follow, or not. */
+static bool compare_altered(const struct input *in)
+{
+    uint8_t *table = copy_of(in->table, in->table_len);
+    struct input altered = *in;
+    size_t times = 1 + (size_t)pick(MOST_ALTERED), rows = (size_t)in->rows;
     uint64_t answer;
     bool same;
 
     altered.table = table;
     if (pick(4) == 0)
         altered.rows += pick(5) - 2;
-    for (; times > 0 && in->table_len > 0; times--) {
-        uint8_t *p = table + pick(in->table_len / 8) * 8;
-        uint64_t n = get_number(p);
-
-        put_number_at(p, pick(3) == 0 ? edges[pick(sizeof edges / sizeof edges[0])] : n + pick(5) - 2);
-    }
+    for (; times > 0; times--)
+        alter(table, rows, (enum column)pick(AFTER));
+    if (pick(4) != 0)
+        set_afters(table, rows);
+    if (pick(4) == 0)
+        alter(table, rows, AFTER);
     if (pick(8) == 0)
         altered.source_len = (size_t)pick(in->source_len + 1);
     same = compare_writes(&altered, NULL, &answer);
@@ -281,7 +318,7 @@ static bool compare_message(const uint8_t *data, size_t size)
     in.table = table;
     if (HESSIAN_NUMBER(answer) == 0)
         same = compare_writes(&in, &shortest, &written) && check_shortest(&in, shortest, HESSIAN_COUNT(written)) &&
-               compare_altered(&in);
+               compare_after(&in) && compare_altered(&in);
     free(shortest);
     free(table);
     return same;

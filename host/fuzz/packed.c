@@ -2,25 +2,8 @@
 
 #include <string.h>
 
-enum { ROW_SIZE = 32 };
-
-uint64_t get_number(const uint8_t *p)
-{
-    uint64_t n = 0;
-    int i;
-
-    for (i = 0; i < 8; i++)
-        n = n << 8 | p[i];
-    return n;
-}
-
-void put_number_at(uint8_t *p, uint64_t n)
-{
-    int i;
-
-    for (i = 8; i-- > 0; n >>= 8)
-        p[i] = (uint8_t)n;
-}
+#include "../afters.h"
+#include "../rows.h"
 
 /* Two bytes, signed. */
 static uint64_t get_short(const uint8_t *p)
@@ -49,14 +32,24 @@ bool unpack(const uint8_t *data, size_t size, struct packed *p)
 }
 
 /* The upper bits of the first byte say how far the numbers are shifted, so that wide ones occur. */
-static void unpack_row(const uint8_t *p, uint8_t *row)
+static void unpack_row(const uint8_t *p, uint8_t *table, size_t row)
 {
     unsigned shift = (p[0] >> 5 & 1u) * 16 + (p[0] >> 6 & 1u) * 32, second = (p[0] >> 7 & 1u) * 32;
 
-    put_number_at(row, p[0] & 0x1f);
-    put_number_at(row + 8, get_short(p + 1));
-    put_number_at(row + 16, get_short(p + 3) << shift);
-    put_number_at(row + 24, get_short(p + 5) << second);
+    set_number(table, row, KIND, p[0] & 0x1f);
+    set_number(table, row, PLACE, get_short(p + 1));
+    set_number(table, row, FIRST, get_short(p + 3) << shift);
+    set_number(table, row, SECOND, get_short(p + 5) << second);
+}
+
+/* The fifth number of a row that has the right one. */
+static uint64_t unpack_after(const uint8_t *p, const uint8_t *table, size_t rows, size_t row)
+{
+    int more = (int8_t)p[7];
+
+    if (more < INT8_MIN + AFTER_TRIALS)
+        return after_trial(table, rows, row, (unsigned)(more - INT8_MIN));
+    return get_number(table, row, AFTER) + (uint64_t)(int64_t)more;
 }
 
 void unpack_rows(const struct packed *p, uint8_t *table)
@@ -64,7 +57,10 @@ void unpack_rows(const struct packed *p, uint8_t *table)
     size_t i;
 
     for (i = 0; i < p->rows; i++)
-        unpack_row(p->packed_rows + i * PACKED_ROW, table + i * ROW_SIZE);
+        unpack_row(p->packed_rows + i * PACKED_ROW, table, i);
+    set_afters(table, p->rows);
+    for (i = 0; i < p->rows; i++)
+        set_number(table, i, AFTER, unpack_after(p->packed_rows + i * PACKED_ROW, table, p->rows, i));
 }
 
 size_t pack(const uint8_t *source, size_t source_len, const uint8_t *table, size_t rows, uint8_t *data, size_t room)
@@ -79,14 +75,14 @@ size_t pack(const uint8_t *source, size_t source_len, const uint8_t *table, size
     memcpy(data + len, source, source_len);
     len += source_len;
     for (i = 0; i < rows && len + PACKED_ROW <= room; i++, len += PACKED_ROW) {
-        const uint8_t *row = table + i * ROW_SIZE;
-        uint64_t first = get_number(row + 16);
+        uint64_t first = get_number(table, i, FIRST);
         bool high = (first & 0xffffffffffff) == 0 && first != 0;
 
-        data[len] = (uint8_t)(get_number(row) | (high ? 0x60 : 0));
-        put_short(data + len + 1, get_number(row + 8));
+        data[len] = (uint8_t)(get_number(table, i, KIND) | (high ? 0x60 : 0));
+        put_short(data + len + 1, get_number(table, i, PLACE));
         put_short(data + len + 3, high ? first >> 48 : first);
-        put_short(data + len + 5, get_number(row + 24));
+        put_short(data + len + 5, get_number(table, i, SECOND));
+        data[len + 7] = 0; /* the fifth number is right */
     }
     return len;
 }

@@ -21,8 +21,9 @@ sameList (a ∷ s) [] = false
 sameList (a ∷ s) (b ∷ t) = eqb a b && sameList s t
 
 -- ---- readers. C: what is known so far. I: the items read. A: a reader's result
-abbrev pub Entry : Type 0 → Type 0  -- an item, and the place of its first byte
-Entry I = record { place : ℕ; item : I }
+-- an item, the place of its first byte, and how many items it opens, itself the first of them
+abbrev pub Entry : Type 0 → Type 0
+Entry I = record { place : ℕ; span : ℕ; item : I }
 
 pub data Outcome (C I A : Type 0) : Type 0 where
   Done : ℕ → A → List (Entry I) → C → Outcome C I A  -- bytes consumed, the result, the entries, what is known afterwards
@@ -65,8 +66,9 @@ module _ {C I : Type 0} where
     abbrev pub mapped : {B : Type 0} → (A → B) → Read C I A → Read C I B  -- the result through a function
     mapped φ f c at s = then (f c at s) (λ n a es c′. Done n (φ a) es c′)
 
-    abbrev pub headed : ℕ → (A → I) → Read C I A → Read C I One  -- an item before the others, by the result
-    headed p x f c at s = then (f c at s) (λ n a es c′. Done n tt (record { place = p; item = x a } ∷ es) c′)
+    abbrev pub headed : ℕ → (A → I) → Read C I A → Read C I One  -- an item that opens the others, by the result
+    headed p x f c at s =
+        then (f c at s) (λ n a es c′. Done n tt (record { place = p; span = suc (length es); item = x a } ∷ es) c′)
 
   abbrev pub bind : {A B : Type 0} → Read C I A → (A → Read C I B) → Read C I B  -- one after the other
   bind f g c at s = then (f c at s) (λ n a es c′. then (g a c′ (at + n) (drop n s)) (λ m b fs c″. Done (n + m) b (es ++ fs) c″))

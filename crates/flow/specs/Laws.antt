@@ -90,7 +90,7 @@ module _ {C I : Type 0} where
   map-makes φ f h = record { makes = λ at tail. let p = h .makes at tail in (p .0, rw (p .1) refl, p .2) }
 
   pub head-makes : {A : Type 0} (p : ℕ) (x : A → I) (f : Read C I A) {c c′ : C} {w : List ℕ} {a : A} {is : List I} → Makes f c w a is c′ → Makes (headed p x f) c w tt (x a ∷ is) c′
-  head-makes p x f {a = a} h = record { makes = λ at tail. let q = h .makes at tail in (record { place = p; item = x a } ∷ q .0, rw (q .1) refl, ap {B = List I} (λ l. x a ∷ l) (q .2)) }
+  head-makes p x f {a = a} h = record { makes = λ at tail. let q = h .makes at tail in (record { place = p; span = suc (length (q .0)); item = x a } ∷ q .0, rw (q .1) refl, ap {B = List I} (λ l. x a ∷ l) (q .2)) }
 
   pub change-makes : {A : Type 0} (φ : C → C) (f : Read C I A) {c c′ : C} {w : List ℕ} {a : A} {is : List I} → Makes f (φ c) w a is c′ → Makes (changing φ f) c w a is c′
   change-makes φ f h = record { makes = h .makes }

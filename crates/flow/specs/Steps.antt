@@ -15,7 +15,7 @@ module _ {C I A : Type 0} where
   renamed φ o = then o (λ n a es c. Done n (φ a) es c)
 
   abbrev pub top : ℕ → (A → I) → Outcome C I A → Outcome C I One
-  top p x o = then o (λ n a es c. Done n tt (record { place = p; item = x a } ∷ es) c)
+  top p x o = then o (λ n a es c. Done n tt (record { place = p; span = suc (length es); item = x a } ∷ es) c)
 
 -- nothing is known, and there are no items
 abbrev pub Answer : Type 0 → Type 0

@@ -8,9 +8,11 @@ use native.Mathlib.Omega.{arith}
 use lib.ListN.{length, take, drop, length-map}
 use Rattle.flow.specs.Flow.{Bytes, Entry, Outcome, Done, Fault, One, items}
 use Rattle.flow.specs.OverlayLaws.{stored-take, stored-behind, length-overlay}
-use Rattle.record.specs.Records.{Item, Known, start, Row, rows, ClaimAll, no-rows, a-row, message}
+use Rattle.record.specs.Records.{Item, Known, start, Row, rows, ClaimItems, no-rows, a-row, ClaimAll, message}
 use Rattle.record.specs.Grammar.{Message}
 use Rattle.record.specs.Claimed.{all-claimed}
+use Rattle.record.specs.Hops.{Skippable}
+use Rattle.record.specs.HopTheorems.{skippable}
 use Rattle.record.specs.Answers.{ReadAnswer, Accept, Refuse, read, base, shortestOf, asBytes, lentRows, rowsOf, reportRead}
 use Rattle.record.specs.Shorthands.{filled}
 use Rattle.record.specs.Terms.{Has}
@@ -21,7 +23,7 @@ use Rattle.record.specs.Meaning.{reads-derived, derived-reads}
 use Rattle.record.specs.Writing.{judged-done, own-rows, rows-no-longer, rows-back, rows-none}
 use Rattle.record.specs.Demands.{accepted-exactly, rows-suffice}
 use Rattle.hessian.specs.Packed.{ReadGives, WriteGives}
-use Rattle.hessian.specs.Terms.{numberOf, countOf, placeOf, rowsAt, RecordOf, ShortestOf}
+use Rattle.hessian.specs.Terms.{numberOf, countOf, placeOf, lentAt, rowsAt, RecordOf, ShortestOf}
 use Rattle.hessian.specs.Calls.{Accepted, read-number, read-ten, read-cases, WriteCases, long-source, beyond, no-record, too-long, too-few, wrote, write-cases}
 
 -- ---- a call of hessian_read
@@ -31,7 +33,7 @@ record ReadRecord (m t : List ℕ) (a : ℕ) (t′ : List ℕ) : Type 0 where
   record-of : List Item
   grammar : Message base 32 m record-of
   short : length m ≤ 262_144
-  enough : length record-of ≤ length t / 32
+  enough : length record-of ≤ lentAt t
   counted : countOf a ≡ length record-of
   whole : placeOf a ≡ length m
   table : ClaimAll m (rowsAt (countOf a) t′) record-of
@@ -70,24 +72,32 @@ module _ (m t : List ℕ) (b : Bytes m) (a : ℕ) (t′ : List ℕ) (g : ReadGiv
       go (inl x) = from-accepted (x .1)
       go (inr x) = absurd (x .0 z)
 
-  pub read-holds : numberOf a ≡ 0 → (r : List Item) × Message base 32 m r × (length m ≤ 262_144) × (length r ≤ length t / 32) × (countOf a ≡ length r) × (placeOf a ≡ length m) × ClaimAll m (rowsAt (countOf a) t′) r
+  pub read-holds : numberOf a ≡ 0 → (r : List Item) × Message base 32 m r × (length m ≤ 262_144) × (length r ≤ lentAt t) × (countOf a ≡ length r) × (placeOf a ≡ length m) × ClaimAll m (rowsAt (countOf a) t′) r
   read-holds z = let x = read-record z in (x .record-of, x .grammar, x .short, x .enough, x .counted, x .whole, x .table)
 
+  pub read-skips : numberOf a ≡ 0 → (r : List Item) × Message base 32 m r × Skippable (rowsAt (countOf a) t′) r
+  read-skips z =
+      let x = read-record z in
+      (x .record-of, x .grammar, skippable base 32 m (x .record-of) (x .grammar) m (rowsAt (countOf a) t′) (x .table))
+
   -- a message is accepted exactly when the grammar reads it as one record within the limits, and the lent rows suffice
-  pub read-accepted : (numberOf a ≡ 0) ↔ ((r : List Item) × Message base 32 m r × (length m ≤ 262_144) × (length r ≤ length t / 32))
+  pub read-accepted : (numberOf a ≡ 0) ↔ ((r : List Item) × Message base 32 m r × (length m ≤ 262_144) × (length r ≤ lentAt t))
   read-accepted = (
     λ z. let x = read-record z in (x .record-of, x .grammar, x .short, x .enough),
     λ x. let y = accepted-exactly base 32 262_144 m b (x .0) .1 (x .2, x .1) in
         let l : length (x .0) ≡ length (y .entries) = ap length (sym (y .reads-as)) ∙ length-map (y .entries) (λ (e : Entry Item). e .item) in
-        read-number m t b a t′ g ∙ ap (λ (z : ReadAnswer). reportRead z .number) (rows-suffice base 32 262_144 (length t / 32) m (x .0) y (omega (arith, x .3))),
+        read-number m t b a t′ g ∙ ap (λ (z : ReadAnswer). reportRead z .number) (rows-suffice base 32 262_144 (lentAt t) m (x .0) y (omega (arith, x .3))),
   )
+
+pub record-skips : (s t : List ℕ) (n : ℕ) (m : List ℕ) (x : RecordOf s t n m) → Skippable (rowsAt n t) (x .record-of)
+record-skips s t n m x = skippable base 32 m (x .record-of) (x .grammar) s (rowsAt n t) (x .claimed)
 
 -- ---- a call of hessian_write
 module _ (s t : List ℕ) (n : ℕ) where
   has-of : (m : List ℕ) → RecordOf s t n m → Has base 32 s (rowsAt n t) m
   has-of m x = record { record-of = x .record-of; claimed = x .claimed; read-as = derived-reads base 32 m (x .record-of) (x .grammar) }
 
-  of-has : n ≤ length t / 32 → (m : List ℕ) → Has base 32 s (rowsAt n t) m → RecordOf s t n m
+  of-has : n ≤ lentAt t → (m : List ℕ) → Has base 32 s (rowsAt n t) m → RecordOf s t n m
   of-has l m x = record { lent = l; record-of = x .record-of; claimed = x .claimed; grammar = reads-derived base 32 m (x .record-of) (x .read-as) }
 
   no-shorter : (w : List ℕ) → shortestOf base 48 32 s (rowsAt n t) ≡ some w → (m : List ℕ) → RecordOf s t n m → length w ≤ length m
@@ -97,10 +107,10 @@ module _ (s t : List ℕ) (n : ℕ) where
       let f : p .0 ≡ w = cc in
       omega (arith, p .2, ap length f)
 
-  written-of : n ≤ length t / 32 → (w : List ℕ) → shortestOf base 48 32 s (rowsAt n t) ≡ some w → RecordOf s t n w
+  written-of : n ≤ lentAt t → (w : List ℕ) → shortestOf base 48 32 s (rowsAt n t) ≡ some w → RecordOf s t n w
   written-of l w q = of-has l w (rows-back base 48 (omega arith) 32 s (rowsAt n t) w q)
 
-  shortest : n ≤ length t / 32 → (w : List ℕ) → shortestOf base 48 32 s (rowsAt n t) ≡ some w → length w ≤ 262_144 → ShortestOf s t n w
+  shortest : n ≤ lentAt t → (w : List ℕ) → shortestOf base 48 32 s (rowsAt n t) ≡ some w → length w ≤ 262_144 → ShortestOf s t n w
   shortest l w q i = record { has = written-of l w q; short = i; none-shorter = no-shorter w q }
 
   module _ (o : List ℕ) (a : ℕ) (o′ : List ℕ) (g : WriteGives s t n o a o′) where
@@ -208,7 +218,7 @@ module _ (s t : List ℕ) (n : ℕ) where
         × ((o₂ : List ℕ) (a₂ : ℕ) (o₂′ : List ℕ) → WriteGives s t n o₂ a₂ o₂′ → length w ≤ length o₂ → (numberOf a₂ ≡ 0) × (take (countOf a₂) o₂′ ≡ w))
     demand-3 x y = go (write-cases s t n o a o′ g)
       where
-        given : (w : List ℕ) → shortestOf base 48 32 s (rowsAt n t) ≡ some w → length w ≤ 262_144 → length s ≤ 262_144 → n ≤ length t / 32 → (o₂ : List ℕ) (a₂ : ℕ) (o₂′ : List ℕ) → WriteGives s t n o₂ a₂ o₂′ → length w ≤ length o₂ → (numberOf a₂ ≡ 0) × (take (countOf a₂) o₂′ ≡ w)
+        given : (w : List ℕ) → shortestOf base 48 32 s (rowsAt n t) ≡ some w → length w ≤ 262_144 → length s ≤ 262_144 → n ≤ lentAt t → (o₂ : List ℕ) (a₂ : ℕ) (o₂′ : List ℕ) → WriteGives s t n o₂ a₂ o₂′ → length w ≤ length o₂ → (numberOf a₂ ≡ 0) × (take (countOf a₂) o₂′ ≡ w)
         given w q j i l o₂ a₂ o₂′ g₂ r = again (write-cases s t n o₂ a₂ o₂′ g₂)
           where
             again : WriteCases s t n o₂ a₂ o₂′ g₂ → (numberOf a₂ ≡ 0) × (take (countOf a₂) o₂′ ≡ w)
@@ -253,20 +263,23 @@ one-claim s {rs} {r} {q} x y = let a = all-claimed s x in let b = all-claimed s 
 
 -- as many items as rows
 claim-length : {s : List ℕ} {rs : List Row} {r : List Item} → ClaimAll s rs r → length r ≡ length rs
-claim-length no-rows = refl
-claim-length (a-row c cs) = ap suc (claim-length cs)
+claim-length x = go (x .each)
+  where
+    go : {s : List ℕ} {rs : List Row} {r : List Item} → ClaimItems s rs r → length r ≡ length rs
+    go no-rows = refl
+    go (a-row c cs) = ap suc (go cs)
 
 rows-count : (n : ℕ) (t : List ℕ) → length (rowsAt n t) ≡ n
 unfolding rowsOf
 rows-count zero t = refl
-rows-count (suc n) t = ap suc (rows-count n (drop 32 t))
+rows-count (suc n) t = ap suc (rows-count n (drop (asBytes .width) t))
 
 -- a table keeps its length
 table-length : (m t : List ℕ) (a : ℕ) (t′ : List ℕ) → ReadGives m t a t′ → length t′ ≡ length t
 table-length m t a t′ g = ap length (g .1) ∙ go (read base 32 262_144 (lentRows asBytes t) m)
   where
     go : (x : ReadAnswer) → length (filled asBytes t x) ≡ length t
-    go (Accept rs n) = length-overlay 32 (asBytes .encode) bytes-sized t 0 rs
+    go (Accept rs n) = length-overlay (asBytes .width) (asBytes .encode) bytes-sized t 0 rs
     go (Refuse x k o) = refl
 
 -- ---- what is written, read again
@@ -274,7 +287,7 @@ module _ (s t : List ℕ) (n : ℕ) (w : List ℕ) (x : ShortestOf s t n w) wher
   abbrev r-of : List Item
   r-of = x .has .record-of
 
-  pub read-again : (t₂ : List ℕ) (a₂ : ℕ) (t₂′ : List ℕ) → ReadGives w t₂ a₂ t₂′ → n ≤ length t₂ / 32 → (numberOf a₂ ≡ 0) × SameRecord s w (rowsAt n t) (rowsAt (countOf a₂) t₂′)
+  pub read-again : (t₂ : List ℕ) (a₂ : ℕ) (t₂′ : List ℕ) → ReadGives w t₂ a₂ t₂′ → n ≤ lentAt t₂ → (numberOf a₂ ≡ 0) × SameRecord s w (rowsAt n t) (rowsAt (countOf a₂) t₂′)
   read-again t₂ a₂ t₂′ g l =
       let b = derived-reads base 32 w r-of (x .has .grammar) .bytes in
       let k : length r-of ≡ n = claim-length (x .has .claimed) ∙ rows-count n t in

@@ -4,8 +4,9 @@ use mathlib.Core.{Path._≡_, Logic.{_↔_, _⊎_}, List.List}
 use Prim.Native.Nat.{ℕ, _/_, _≤_, _<_}
 use lib.ListN.{length, take, drop}
 use Rattle.flow.specs.Flow.{Bytes}
-use Rattle.record.specs.{Records.{Item, ClaimAll}, Grammar.Message, Answers.base, Same.SameRecord}
-use Rattle.hessian.specs.{Packed.{ReadGives, WriteGives}, Terms.{numberOf, countOf, placeOf, rowsAt, RecordOf, ShortestOf}}
+use Rattle.record.specs.{Records.{Item, ClaimAll}, Grammar.Message, Answers.base, Same.SameRecord, Hops.Skippable}
+use Rattle.hessian.specs.Packed.{ReadGives, WriteGives}
+use Rattle.hessian.specs.Terms.{numberOf, countOf, placeOf, lentAt, rowsAt, RecordOf, ShortestOf}
 use Rattle.hessian.specs.Called as called
 
 -- of a call of hessian_read: message, table, answer, table afterwards
@@ -14,12 +15,22 @@ pub record OfRead (m t : List ℕ) (a : ℕ) (t′ : List ℕ) : Type 0 where
   pub numbered : numberOf a ≤ 9
   pub unchanged : (numberOf a ≡ 0 → ⊥) → t′ ≡ t
   -- demand 2: it accepts exactly when the grammar reads the message as one record within the limits and the lent rows suffice
-  pub accepted : (numberOf a ≡ 0) ↔ ((r : List Item) × Message base 32 m r × (length m ≤ 262_144) × (length r ≤ length t / 32))
+  pub accepted :
+      (numberOf a ≡ 0) ↔ ((r : List Item) × Message base 32 m r × (length m ≤ 262_144) × (length r ≤ lentAt t))
   -- and the table then holds that record
-  pub holds : numberOf a ≡ 0 → (r : List Item) × Message base 32 m r × (length m ≤ 262_144) × (length r ≤ length t / 32) × (countOf a ≡ length r) × (placeOf a ≡ length m) × ClaimAll m (rowsAt (countOf a) t′) r
+  pub holds : numberOf a ≡ 0 → (r : List Item) × Message base 32 m r × (length m ≤ 262_144) × (length r ≤ lentAt t)
+      × (countOf a ≡ length r) × (placeOf a ≡ length m) × ClaimAll m (rowsAt (countOf a) t′) r
+  -- request 2026-07: each of its rows skips what it opens
+  pub skips : numberOf a ≡ 0 → (r : List Item) × Message base 32 m r × Skippable (rowsAt (countOf a) t′) r
 
 pub read : (m t : List ℕ) → Bytes m → (a : ℕ) (t′ : List ℕ) → ReadGives m t a t′ → OfRead m t a t′
-read m t b a t′ g = record { numbered = called.read-numbered m t b a t′ g; unchanged = called.read-unchanged m t b a t′ g; accepted = called.read-accepted m t b a t′ g; holds = called.read-holds m t b a t′ g }
+read m t b a t′ g = record {
+  numbered = called.read-numbered m t b a t′ g;
+  unchanged = called.read-unchanged m t b a t′ g;
+  accepted = called.read-accepted m t b a t′ g;
+  holds = called.read-holds m t b a t′ g;
+  skips = called.read-skips m t b a t′ g;
+}
 
 -- of a call of hessian_write: source, table, rows claimed, output, answer, output afterwards
 pub record OfWrite (s t : List ℕ) (n : ℕ) (o : List ℕ) (a : ℕ) (o′ : List ℕ) : Type 0 where
@@ -43,7 +54,8 @@ write s t n o a o′ g = record { numbered = called.write-numbered s t n o a o�
 
 -- of both functions, demand 3 over demand 2's reading: a shortest message is accepted and reads as the same record, and no accepted message that does is shorter
 pub record OfShortest (s t : List ℕ) (n : ℕ) (w : List ℕ) : Type 0 where
-  pub written-reads : (t₂ : List ℕ) (a₂ : ℕ) (t₂′ : List ℕ) → ReadGives w t₂ a₂ t₂′ → n ≤ length t₂ / 32 → (numberOf a₂ ≡ 0) × SameRecord s w (rowsAt n t) (rowsAt (countOf a₂) t₂′)
+  pub written-reads : (t₂ : List ℕ) (a₂ : ℕ) (t₂′ : List ℕ) → ReadGives w t₂ a₂ t₂′ → n ≤ lentAt t₂
+      → (numberOf a₂ ≡ 0) × SameRecord s w (rowsAt n t) (rowsAt (countOf a₂) t₂′)
   pub no-shorter : (m tm : List ℕ) → Bytes m → (am : ℕ) (tm′ : List ℕ) → ReadGives m tm am tm′ → numberOf am ≡ 0 → SameRecord s m (rowsAt n t) (rowsAt (countOf am) tm′) → length w ≤ length m
 
 pub shortest : (s t : List ℕ) (n : ℕ) (w : List ℕ) → ShortestOf s t n w → OfShortest s t n w
@@ -53,6 +65,10 @@ shortest s t n w x = record { written-reads = called.read-again s t n w x; no-sh
 pub rewritten : (m t : List ℕ) → Bytes m → (a : ℕ) (t′ : List ℕ) → ReadGives m t a t′ → numberOf a ≡ 0
     → (o : List ℕ) (c : ℕ) (o′ : List ℕ) → WriteGives m t′ (countOf a) o c o′ → length m ≤ length o → (numberOf c ≡ 0) × (countOf c ≤ length m)
 rewritten = called.rewritten
+
+-- request 2026-07: whatever rows hold the record of a message, each of them skips what it opens
+pub skippable : (s t : List ℕ) (n : ℕ) (m : List ℕ) (x : RecordOf s t n m) → Skippable (rowsAt n t) (x .record-of)
+skippable = called.record-skips
 
 -- true copies: two tables hold the same record exactly when the messages written are the same bytes
 pub copies : (s₁ t₁ : List ℕ) (n₁ : ℕ) (o₁ : List ℕ) (a₁ : ℕ) (o₁′ : List ℕ) → WriteGives s₁ t₁ n₁ o₁ a₁ o₁′ → numberOf a₁ ≡ 0

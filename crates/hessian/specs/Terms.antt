@@ -2,7 +2,7 @@
 use mathlib.Core.{Path._≡_, List.List}
 use Prim.Native.Nat.{ℕ, _/_, _%_, _^_, _≤_}
 use lib.ListN.{length}
-use Rattle.record.specs.{Records.{Item, Row, ClaimAll}, Grammar.Message, Answers.{base, asBytes, rowsOf}}
+use Rattle.record.specs.{Records.{Item, Row, ClaimAll}, Grammar.Message, Answers.{base, asBytes, lentRows, rowsOf}}
 
 -- the parts of an answer, as the header's macros take them
 abbrev pub numberOf : ℕ → ℕ
@@ -14,13 +14,16 @@ countOf a = a / 2 ^ 24 % 2 ^ 24
 abbrev pub placeOf : ℕ → ℕ
 placeOf a = a % 2 ^ 24
 
--- the first n rows of C's table
+-- so many rows has C's table; the first n of them
+abbrev pub lentAt : List ℕ → ℕ
+lentAt t = lentRows asBytes t
+
 abbrev pub rowsAt : ℕ → List ℕ → List Row
 rowsAt n t = rowsOf asBytes n t
 
 -- the message m has the record that the first n rows of the table t claim in the source s
 pub record RecordOf (s t : List ℕ) (n : ℕ) (m : List ℕ) : Type 0 where
-  pub lent : n ≤ length t / 32
+  pub lent : n ≤ lentAt t
   pub record-of : List Item
   pub claimed : ClaimAll s (rowsAt n t) record-of
   pub grammar : Message base 32 m record-of

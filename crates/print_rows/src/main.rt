@@ -1,12 +1,16 @@
-// Reads a message from standard input, and prints its record: a line for each row, four unsigned decimals with one space between.
-// A message that is not accepted prints one line, `refused`, number and place. More than 60,000 bytes are refusal 1; more than 2,000
-// rows are refusal 9.
+// Reads a message from standard input, and prints its record: a line for each row, five unsigned decimals with one space
+// between. A message that is not accepted prints one line, `refused`, number and place. More than 60,000 bytes are
+// refusal 1; more than 1,600 rows are refusal 9.
 use libc::STDIN_FILENO;
 use libc::STDOUT_FILENO;
 use reader::ReadAnswer;
+use record::ROW_NUMBERS;
 
 // The most bytes of a message.
 const MOST: usize = 60_000;
+
+// The numbers of 1,600 rows.
+const ROOM: usize = 1_600 * ROW_NUMBERS;
 
 fn say(text: &[u8]) {
     io::write_all(STDOUT_FILENO, text);
@@ -24,7 +28,7 @@ fn say_refused(number: u8, place: usize) {
     say(b"\n");
 }
 
-fn say_row(kind: u64, place: u64, first: u64, second: u64) {
+fn say_row(kind: u64, place: u64, first: u64, second: u64, after: u64) {
     say_number(kind);
     say(b" ");
     say_number(place);
@@ -32,25 +36,33 @@ fn say_row(kind: u64, place: u64, first: u64, second: u64) {
     say_number(first);
     say(b" ");
     say_number(second);
+    say(b" ");
+    say_number(after);
     say(b"\n");
 }
 
 // The first `rows` rows of the table.
 fn say_rows(table: &[u64], rows: usize) {
-    let lent = table.len() / 4;
+    let lent = table.len() / ROW_NUMBERS;
     let mut i = 0;
     while i < rows {
         if lent <= i {
             return;
         }
-        let k = i * 4;
-        say_row(table[k], table[k + 1], table[k + 2], table[k + 3]);
+        let k = i * ROW_NUMBERS;
+        say_row(
+            table[k],
+            table[k + 1],
+            table[k + 2],
+            table[k + 3],
+            table[k + 4],
+        );
         i += 1;
     }
 }
 
 fn print_rows(message: &[u8]) {
-    let mut table = [0u64; 8_000];
+    let mut table = [0u64; ROOM];
     match reader::read(message, &mut table) {
         ReadAnswer::Accepted { rows, length: _ } => say_rows(&table, rows),
         ReadAnswer::Refused { number, place } => say_refused(number, place),

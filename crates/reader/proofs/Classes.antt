@@ -31,8 +31,8 @@ use Rattle.reader.specs.declared.definitions.Names.the-variants as names
 use Rattle.reader.specs.declared.definitions.Out.{Out}
 use Rattle.reader.specs.declared.definitions.Out.the-variants as out
 use Rattle.record.specs.KnownArray.{knownIn, Kept, definedIn, defined-room, known-defined, kept-defined, references-stay, classes-counted}
-use Rattle.reader.specs.Inside.{At, Ready, Led, Laid, Moved, Outcomes, CountSays, CountMet, FieldsMet, ClassSays, ClassMet, NamesSay, NamesMet, Defined, DefinitionMet}
-use Rattle.reader.proofs.Moves.{laid-none, laid-on, laid-top, laid-numbers, laid-bytes, moved-none, moved-on}
+use Rattle.reader.specs.Inside.{At, Ready, Led, Stored, Laid, Moved, Outcomes, CountSays, CountMet, FieldsMet, ClassSays, ClassMet, NamesSay, NamesMet, Defined, DefinitionMet}
+use Rattle.reader.proofs.Moves.{laid-none, laid-one, laid-on, laid-top, laid-numbers, laid-bytes, moved-none, moved-on}
 use Rattle.reader.proofs.Sizes.{string-within}
 use Rattle.reader.proofs.Leaves.{byte-small}
 use Rattle.reader.proofs.Holders.{among-codes}
@@ -150,17 +150,17 @@ module _ {m : List ℕ} {at n k : ℕ} {t₀ b₀ t b : List ℕ} {here i : ℕ}
     pub names-wrong : (y o : ℕ) → x ≡ Refused y o → NamesMet m at n k t₀ b₀ (names.Wrong y o) t b
     names-wrong y o e = record { says = λ c. sym (R .says c) ∙ ap (front (R .rows)) (names-lost n i c m here l (R .inside) y o (sym s ∙ ap toldString e)) }
 
-    pub naming-more : At m at → (u h z : ℕ) → x ≡ Content u h z → (t′ b′ : List ℕ) → Laid t b (k + i) (row 17 here u h ∷ []) t′ b′ → Naming m at n k t₀ b₀ t′ b′ (here + z) (i + 1)
+    pub naming-more : At m at → (u h z : ℕ) → x ≡ Content u h z → (t′ b′ : List ℕ) → Stored t b (k + i) (row 17 here u h (k + i + 1)) t′ b′ → Naming m at n k t₀ b₀ t′ b′ (here + z) (i + 1)
     naming-more w u h z e t′ b′ d =
         let v = string-within Utf8 m (w .bytes) here s u h z e in
-        let both : Laid t₀ b₀ k (R .rows ++ (row 17 here u h ∷ [])) t′ b′ = laid-on (R .laid) (ap (λ (j : ℕ). k + j) (sym (R .counted))) d in
+        let both : Laid t₀ b₀ k (R .rows ++ (row 17 here u h 1 ∷ [])) t′ b′ = laid-on (R .laid) (ap (λ (j : ℕ). k + j) (sym (R .counted))) (laid-one d) in
         record {
-          rows = R .rows ++ (row 17 here u h ∷ []);
+          rows = R .rows ++ (row 17 here u h 1 ∷ []);
           says = λ c.
-              sym (front-front (R .rows) (row 17 here u h ∷ []) (run (namesLeft n (i + 1)) c m (here + z)))
+              sym (front-front (R .rows) (row 17 here u h 1 ∷ []) (run (namesLeft n (i + 1)) c m (here + z)))
               ∙ ap (front (R .rows)) (sym (names-step n i c m here l (R .inside) z u h (sym s ∙ ap toldString e)))
               ∙ R .says c;
-          counted = length-append (R .rows) (row 17 here u h ∷ []) ∙ omega (arith, R .counted);
+          counted = length-append (R .rows) (row 17 here u h 1 ∷ []) ∙ omega (arith, R .counted);
           laid = both;
           few = omega arith;
           onward = omega (arith, R .onward, v .0);
@@ -192,26 +192,28 @@ module _ {m ks : List ℕ} {p : ℕ} {x : ClassRead} (s : ClassMet m (knownIn ks
       definition-unnamed z o g ks′ = record {
         says =
             class-says s e .says
-            ∙ ap (λ (o : Placed ℕ). topped p Definition (front (row 16 (p + 1) u h ∷ []) (on o (λ e k c′. Got e f [] (defined f c′))))) (names-say d g (knownIn ks));
+            ∙ ap (λ (o : Placed ℕ). topped p Definition (front (row 16 (p + 1) u h 1 ∷ []) (on o (λ e k c′. Got e f [] (defined f c′))))) (names-say d g (knownIn ks));
       }
 
-      pub definition-done : (r : ℕ) → y ≡ names.Past r → {t₂ b₂ t₃ b₃ ks′ : List ℕ} → Laid t₁ b₁ (n + 1) (row 16 (p + 1) u h ∷ []) t₂ b₂ → Laid t₂ b₂ n (row 15 p f 0 ∷ []) t₃ b₃ → Defined ks f ks′
+      pub definition-done : (r : ℕ) → y ≡ names.Past r → {t₂ b₂ t₃ b₃ ks′ : List ℕ} → Stored t₁ b₁ (n + 1) (row 16 (p + 1) u h (n + 2)) t₂ b₂ → Stored t₂ b₂ n (row 15 p f 0 (n + 2 + f)) t₃ b₃ → Defined ks f ks′
           → DefinitionMet m p n ks t b (out.Done r (n + 2 + f)) ks′ t₃ b₃
-      definition-done r g name top given =
+      definition-done r g {t₂} {b₂} {t₃} {b₃} name top given =
           let i = class-says s e in
           let v = names-say d g in
           let two : n + 2 ≡ n + 1 + 1 = omega arith in
+          let all : n + 2 + f ≡ n + suc (suc (length (v .rows))) = omega (arith, v .counted) in
           let inner : Laid t b (n + 1 + 1) (v .rows) t₁ b₁ = subst (λ (k : ℕ). Laid t b k (v .rows) t₁ b₁) two (v .laid) in
           record {
             says = record {
-              rows = row 15 p f 0 ∷ row 16 (p + 1) u h ∷ v .rows;
+              rows = row 15 p f 0 (suc (suc (length (v .rows)))) ∷ row 16 (p + 1) u h 1 ∷ v .rows;
               says =
                   i .says
-                  ∙ ap (λ (o : Placed ℕ). topped p Definition (front (row 16 (p + 1) u h ∷ []) (on o (λ e k c′. Got e f [] (defined f c′))))) (v .says (knownIn ks))
-                  ∙ (λ j. Got r tt (row 15 p f 0 ∷ row 16 (p + 1) u h ∷ append-nil (v .rows) j) (sym (given .known) j));
+                  ∙ ap (λ (o : Placed ℕ). topped p Definition (front (row 16 (p + 1) u h 1 ∷ []) (on o (λ e k c′. Got e f [] (defined f c′))))) (v .says (knownIn ks))
+                  ∙ (λ j. Got r tt (row 15 p f 0 (suc (suc (length (append-nil (v .rows) j)))) ∷ row 16 (p + 1) u h 1 ∷ append-nil (v .rows) j) (sym (given .known) j));
               moved = record {
                 counted = omega (arith, v .counted);
-                laid = laid-top (laid-top inner name) top;
+                laid = laid-top (row 15 p f 0 (suc (suc (length (v .rows))))) (laid-top (row 16 (p + 1) u h 1) inner (subst (λ (z : ℕ). Stored t₁ b₁ (n + 1) (row 16 (p + 1) u h z) t₂ b₂) two name))
+                    (subst (λ (z : ℕ). Stored t₂ b₂ n (row 15 p f 0 z) t₃ b₃) all top);
                 onward = omega (arith, i .onward, v .onward);
                 ready = record {
                   at = record { bytes = w .at .bytes; within = v .within };

@@ -16,7 +16,7 @@ use Rattle.flow.specs.Flow.{pick}
 use Rattle.flow.specs.Tests.{pick-true, pick-false}
 use Rattle.record.specs.declared.Group.{Group}
 use Rattle.record.specs.declared.Group.the-variants.{Counted, Open, Pairs}
-use Rattle.record.specs.Records.{opened, typed, row, itemRow}
+use Rattle.record.specs.Records.{opened, typed, Row, row, itemRow}
 use Rattle.record.specs.Runs.{closes, stops, past, parts}
 use Rattle.record.specs.Values.{heading}
 use Rattle.reader.specs.declared.heads.TypeItem.{TypeItem}
@@ -26,10 +26,9 @@ use Rattle.reader.specs.declared.heads.Head.{Head}
 use Rattle.reader.specs.declared.heads.Head.the-variants as head
 use Rattle.reader.specs.declared.values.Begun.{Begun}
 use Rattle.reader.specs.declared.values.Begun.the-variants as begun
-use Rattle.reader.specs.declared.values.Numbers.{Numbers}
 use Rattle.record.specs.KnownArray.{one-reference, references-more, types-same, known-opened, kept-opened, one-type, references-same, known-typed, kept-typed, knownIn, Kept}
-use Rattle.reader.specs.Inside.{groupOf, plan, Laid, typeOf, typeRows, typeTag, typeSecond, TypeRoom, Entered, HolderRow, Opens, Opened, Fitting, HeadFits, BegunBy}
-use Rattle.reader.proofs.Moves.{laid-none}
+use Rattle.reader.specs.Inside.{groupOf, plan, Stored, Laid, typeOf, typeRows, typeTag, typeSecond, TypeRoom, Entered, Opens, Opened, Fitting, HeadFits, BegunBy}
+use Rattle.reader.proofs.Moves.{laid-none, laid-one}
 
 -- ---- where values stop
 module _ (m : List ℕ) (p : ℕ) where
@@ -96,64 +95,75 @@ tag-small Untyped = omega arith
 tag-small (Named u b) = omega arith
 tag-small (Numbered k) = omega arith
 
-module _ (g : Plan) (of : TypeItem) (given i : ℕ) where
-  abbrev RowBy : ℕ → Numbers → Type 0
-  RowBy s r = HolderRow (groupOf (plan s (g .count) (g .class))) of given i r
+-- the row at p of a container that ends before the row e, after i values
+abbrev pub holderRow : Group → TypeItem → ℕ → ℕ → ℕ → ℕ → Row
+holderRow g of given i p e = itemRow p e (heading g (typeOf given of) (parts g i))
 
-  pub row-fields : g .shape ≡ 1 → HolderRow (groupOf g) of given i (record { kind = 13; first = g .class; second = i })
+module _ (p : ℕ) (g : Plan) (of : TypeItem) (given i e : ℕ) where
+  abbrev RowBy : ℕ → Row → Type 0
+  RowBy s r = r ≡ holderRow (groupOf (plan s (g .count) (g .class))) of given i p e
+
+  pub row-fields : g .shape ≡ 1 → row 13 p (g .class) i e ≡ holderRow (groupOf g) of given i p e
   row-fields = go (g .shape)
     where
-      go : (s : ℕ) → s ≡ 1 → RowBy s (record { kind = 13; first = g .class; second = i })
-      go zero e = absurd (omega arith)
-      go (suc zero) e = record { is = λ p. refl }
-      go (suc (suc s)) e = absurd (omega arith)
+      go : (s : ℕ) → s ≡ 1 → RowBy s (row 13 p (g .class) i e)
+      go zero q = absurd (omega arith)
+      go (suc zero) q = refl
+      go (suc (suc s)) q = absurd (omega arith)
 
   module _ (tag second : ℕ) (te : tag ≡ typeTag of) (se : second ≡ typeSecond given of) where
-    pub row-list : (g .shape ≡ 1 → ⊥) → g .shape < 3 → HolderRow (groupOf g) of given i (record { kind = 9 + tag; first = i; second = second })
+    pub row-list : (g .shape ≡ 1 → ⊥) → g .shape < 3 → row (9 + tag) p i second e ≡ holderRow (groupOf g) of given i p e
     row-list = go (g .shape)
       where
-        listed : (of : TypeItem) (h : Group) (p : ℕ) → (h ≡ Open) ⊎ (h ≡ Counted (g .count)) → row (9 + typeTag of) p i (typeSecond given of) ≡ itemRow p (heading h (typeOf given of) (parts h i))
-        listed Untyped h p (inl e) = rw e refl
-        listed Untyped h p (inr e) = rw e refl
-        listed (Named u b) h p (inl e) = rw e refl
-        listed (Named u b) h p (inr e) = rw e refl
-        listed (Numbered k) h p (inl e) = rw e refl
-        listed (Numbered k) h p (inr e) = rw e refl
+        listed : (of : TypeItem) (h : Group) → (h ≡ Open) ⊎ (h ≡ Counted (g .count))
+            → row (9 + typeTag of) p i (typeSecond given of) e ≡ holderRow h of given i p e
+        listed Untyped h (inl q) = rw q refl
+        listed Untyped h (inr q) = rw q refl
+        listed (Named u b) h (inl q) = rw q refl
+        listed (Named u b) h (inr q) = rw q refl
+        listed (Numbered k) h (inl q) = rw q refl
+        listed (Numbered k) h (inr q) = rw q refl
 
-        go : (s : ℕ) → (s ≡ 1 → ⊥) → s < 3 → RowBy s (record { kind = 9 + tag; first = i; second = second })
-        go zero y l = record { is = λ p. (λ j. row (9 + te j) p i (se j)) ∙ listed of (Counted (g .count)) p (inr refl) }
+        go : (s : ℕ) → (s ≡ 1 → ⊥) → s < 3 → RowBy s (row (9 + tag) p i second e)
+        go zero y l = (λ j. row (9 + te j) p i (se j) e) ∙ listed of (Counted (g .count)) (inr refl)
         go (suc zero) y l = absurd (y refl)
-        go (suc (suc zero)) y l = record { is = λ p. (λ j. row (9 + te j) p i (se j)) ∙ listed of Open p (inl refl) }
+        go (suc (suc zero)) y l = (λ j. row (9 + te j) p i (se j) e) ∙ listed of Open (inl refl)
         go (suc (suc (suc s))) y l = absurd (omega arith)
 
-    pub row-pairs : 3 ≤ g .shape → HolderRow (groupOf g) of given i (record { kind = 11 + tag; first = i / 2; second = second })
+    pub row-pairs : 3 ≤ g .shape → row (11 + tag) p (i / 2) second e ≡ holderRow (groupOf g) of given i p e
     row-pairs = go (g .shape)
       where
-        paired-row : (of : TypeItem) (p : ℕ) → row (11 + typeTag of) p (i / 2) (typeSecond given of) ≡ itemRow p (heading Pairs (typeOf given of) (i / 2))
-        paired-row Untyped p = refl
-        paired-row (Named u b) p = refl
-        paired-row (Numbered k) p = refl
+        paired-row : (of : TypeItem) → row (11 + typeTag of) p (i / 2) (typeSecond given of) e ≡ holderRow Pairs of given i p e
+        paired-row Untyped = refl
+        paired-row (Named u b) = refl
+        paired-row (Numbered k) = refl
 
-        go : (s : ℕ) → 3 ≤ s → RowBy s (record { kind = 11 + tag; first = i / 2; second = second })
+        go : (s : ℕ) → 3 ≤ s → RowBy s (row (11 + tag) p (i / 2) second e)
         go zero l = absurd (omega arith)
         go (suc zero) l = absurd (omega arith)
         go (suc (suc zero)) l = absurd (omega arith)
-        go (suc (suc (suc s))) l = record { is = λ p. (λ j. row (11 + te j) p (i / 2) (se j)) ∙ paired-row of p }
+        go (suc (suc (suc s))) l = (λ j. row (11 + te j) p (i / 2) (se j) e) ∙ paired-row of
 
-pub laid-row : {t b t′ b′ : List ℕ} {k p : ℕ} (g : Group) (of : TypeItem) (given i : ℕ) (r : Numbers) → HolderRow g of given i r → Laid t b k (row (r .kind) p (r .first) (r .second) ∷ []) t′ b′
-    → Laid t b k (itemRow p (heading g (typeOf given of) (parts g i)) ∷ []) t′ b′
-laid-row {t} {b} {t′} {b′} {k} {p} g of given i r h l = rw (← h .is p) l
+pub stored-row : {t b t′ b′ : List ℕ} {k : ℕ} {r x : Row} → r ≡ x → Stored t b k r t′ b′ → Stored t b k x t′ b′
+stored-row {t} {b} {t′} {b′} {k} e h = subst (λ (r : Row). Stored t b k r t′ b′) e h
 
 -- ---- the rows of types
+module _ (k p : ℕ) (of : TypeItem) (l : k + length (typeRows p of) < 2 ^ 64) where
+  pub named-fits : (u n : ℕ) → of ≡ Named u n → Fits w64 (k + 1)
+  named-fits u n e = let h = subst (λ (x : TypeItem). k + length (typeRows p x) < 2 ^ 64) e l in omega (arith, h)
+
+  pub numbered-fits : (n : ℕ) → of ≡ Numbered n → Fits w64 (k + 1)
+  numbered-fits n e = let h = subst (λ (x : TypeItem). k + length (typeRows p x) < 2 ^ 64) e l in omega (arith, h)
+
 module _ (t b : List ℕ) (k p : ℕ) (of : TypeItem) where
   pub laid-untyped : of ≡ Untyped → Laid t b k (typeRows p of) t b
   laid-untyped e = rw e (laid-none t b k)
 
-  pub laid-named : (u n : ℕ) → of ≡ Named u n → (t′ b′ : List ℕ) → Laid t b k (row 18 p u n ∷ []) t′ b′ → Laid t b k (typeRows p of) t′ b′
-  laid-named u n e t′ b′ l = rw e l
+  pub laid-named : (u n : ℕ) → of ≡ Named u n → (t′ b′ : List ℕ) → Stored t b k (row 18 p u n (k + 1)) t′ b′ → Laid t b k (typeRows p of) t′ b′
+  laid-named u n e t′ b′ l = rw e (laid-one l)
 
-  pub laid-numbered : (n : ℕ) → of ≡ Numbered n → (t′ b′ : List ℕ) → Laid t b k (row 19 p n 0 ∷ []) t′ b′ → Laid t b k (typeRows p of) t′ b′
-  laid-numbered n e t′ b′ l = rw e l
+  pub laid-numbered : (n : ℕ) → of ≡ Numbered n → (t′ b′ : List ℕ) → Stored t b k (row 19 p n 0 (k + 1)) t′ b′ → Laid t b k (typeRows p of) t′ b′
+  laid-numbered n e t′ b′ l = rw e (laid-one l)
 
 -- ---- a container opens
 module _ (ks : List ℕ) (w : Kept ks) where
@@ -193,6 +203,9 @@ module _ (ks : List ℕ) (of : TypeItem) (p n q : ℕ) (w : Opens ks of p n q) w
   pub enter-fits : Kept ks × (getD ks 258 0 + 1 < 2 ^ 64) × TypeRoom of (getD ks 257 0)
   enter-fits = (w .kept, omega (arith, w .references-few, w .longer, w .fits), w .room)
 
+  pub type-rows-fit : n + 1 + length (typeRows (p + 1) of) < 2 ^ 64
+  type-rows-fit = omega (arith, w .rows-few, w .longer, w .fits)
+
   pub rows-fit : (ks′ : List ℕ) (more : ℕ) → Entered ks of ks′ more → Fits w64 (n + 1 + more)
   rows-fit ks′ more e = omega (arith, w .rows-few, w .longer, w .fits, e .rows (p + 1))
 
@@ -201,8 +214,8 @@ module _ (ks t b : List ℕ) (p n : ℕ) (h : Head) where
   pub head-wrong : (x o : ℕ) → h ≡ head.Wrong x o → BegunBy ks t b p n h (begun.Fault x o) ks t b
   head-wrong x o e = rw e (record { becomes = refl })
 
-  pub head-leaf : (s x y q : ℕ) → h ≡ head.Leaf s x y q → (t′ b′ : List ℕ) → Laid t b n (row s p x y ∷ []) t′ b′ → BegunBy ks t b p n h (begun.Past q (n + 1)) ks t′ b′
-  head-leaf s x y q e t′ b′ l = rw e (record { becomes = (refl, refl, l) })
+  pub head-leaf : (s x y q : ℕ) → h ≡ head.Leaf s x y q → (t′ b′ : List ℕ) → Stored t b n (row s p x y (n + 1)) t′ b′ → BegunBy ks t b p n h (begun.Past q (n + 1)) ks t′ b′
+  head-leaf s x y q e t′ b′ l = rw e (record { becomes = (refl, refl, laid-one l) })
 
   pub head-holder : (g : Plan) (q : ℕ) (of : TypeItem) → h ≡ head.Holder g q of → (r : Begun) (ks′ t′ b′ : List ℕ) → Opened ks t b p n g q of r ks′ t′ b′ → BegunBy ks t b p n h r ks′ t′ b′
   head-holder g q of e r ks′ t′ b′ w = rw e (record { becomes = w })

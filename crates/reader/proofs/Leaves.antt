@@ -104,7 +104,7 @@ module _ (m : List ℕ) (p : ℕ) (x : Lead) (h : Led m p x) where
   led-lost d c y o e = record { says = led-run d c ∙ e; goes = tt }
 
   pub led-got : (d : ℕ) (c : Known) (k v w n : ℕ) → (0 < n) × (p + n ≤ length m)
-      → run (plainFrom base (below base d) p (getD m p 0)) c m (p + 1) ≡ Got (p + n) tt (row k p v w ∷ []) c → Heads d m c p (head.Leaf k v w (p + n))
+      → run (plainFrom base (below base d) p (getD m p 0)) c m (p + 1) ≡ Got (p + n) tt (row k p v w 1 ∷ []) c → Heads d m c p (head.Leaf k v w (p + n))
   led-got d c k v w n i e = record { says = led-run d c ∙ e; goes = (omega (arith, i .0), i .1) }
 
 -- ---- a number, a text, a byte string

@@ -12,7 +12,7 @@ use Rattle.record.specs.declared.Group.the-variants.{Counted}
 use Rattle.record.specs.Records.{Known, start, Opening, valueFrom, Row}
 use Rattle.record.specs.Answers.{ReadAnswer, Accept, Refuse, read, base, asNumbers, asBytes, reportRead}
 use Rattle.record.specs.Shorthands.{filled}
-use Rattle.record.specs.Placed.{Placed, Got, Lost, run, on, on-same}
+use Rattle.record.specs.Placed.{Placed, Got, Lost, run, on, on-same, numbered, numbered-length}
 use Rattle.record.specs.Runs.{rest, rest-step, rest-stop}
 use Rattle.record.specs.Whole.{read-empty, read-long, read-lost, read-over, read-small, read-got}
 use Rattle.reader.specs.declared.values.Values.{Values}
@@ -139,7 +139,7 @@ module _ (m : List ℕ) (lent : ℕ) (t b : List ℕ) (r : Judged) (a : Judges m
     pub into-record : n ≤ lent → (v : Values) (t′ b′ : List ℕ) → OneMet m t b v t′ b′ → ReadsInto m lent t b (answer.Accepted n (length m)) t′ b′
     into-record l v t′ b′ x = go v (x .met .says)
       where
-        h : read base 32 262_144 lent m ≡ Accept (record-of .rows) (length m)
+        h : read base 32 262_144 lent m ≡ Accept (numbered 0 (record-of .rows)) (length m)
         h = let w = record-of in read-got base 32 262_144 lent m (w .some) (w .short) (length m) (w .rows) (w .after) (w .says) (omega arith) (omega (arith, w .counted))
 
         go : (v : Values) → ValuesSay (run (rest (valueFrom base 32) (Counted 1) 0) start m 0) m 0 0 t b (Counted 1) v (x .after) t′ b′ → ReadsInto m lent t b (answer.Accepted n (length m)) t′ b′
@@ -154,7 +154,7 @@ module _ (m : List ℕ) (lent : ℕ) (t b : List ℕ) (r : Judged) (a : Judges m
             let y = w .says in
             let same : s .rows ≡ w .rows = cc in
             record {
-              says = sym (ap reportRead h ∙ ap (λ (z : ℕ). record { number = 0; count = z; place = length m }) (w .counted));
-              numbers = s .moved .laid .numbers ∙ ap (λ (z : List Row). overlay 4 (asNumbers .encode) t 0 z) same ∙ sym (ap (λ (z : ReadAnswer). filled asNumbers t z) h);
-              bytes = s .moved .laid .bytes ∙ ap (λ (z : List Row). overlay 32 (asBytes .encode) b 0 z) same ∙ sym (ap (λ (z : ReadAnswer). filled asBytes b z) h);
+              says = sym (ap reportRead h ∙ ap (λ (z : ℕ). record { number = 0; count = z; place = length m }) (numbered-length 0 (w .rows) ∙ w .counted));
+              numbers = s .moved .laid .numbers ∙ ap (λ (z : List Row). overlay (asNumbers .width) (asNumbers .encode) t 0 (numbered 0 z)) same ∙ sym (ap (λ (z : ReadAnswer). filled asNumbers t z) h);
+              bytes = s .moved .laid .bytes ∙ ap (λ (z : List Row). overlay (asBytes .width) (asBytes .encode) b 0 (numbered 0 z)) same ∙ sym (ap (λ (z : ReadAnswer). filled asBytes b z) h);
             }

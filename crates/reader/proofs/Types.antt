@@ -53,7 +53,7 @@ module _ (m : List ℕ) (given p : ℕ) (h : Led m p lead.Text) where
           says = record {
             number = given;
             numbered = refl;
-            says = λ c e. type-name base c m p (h .inside) is-text (omega arith) n u b (string-is Utf8 m p r t u b n q) ∙ ap (λ (k : ℕ). Got (p + n) k (row 18 p u b ∷ []) (typed c)) e;
+            says = λ c e. type-name base c m p (h .inside) is-text (omega arith) n u b (string-is Utf8 m p r t u b n q) ∙ ap (λ (k : ℕ). Got (p + n) k (row 18 p u b 1 ∷ []) (typed c)) e;
             room = l;
             longer = omega (arith, w .0);
             within = w .1;

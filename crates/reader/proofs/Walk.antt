@@ -2,7 +2,7 @@
 use mathlib.Core.Path.{_≡_, refl, sym, ap, ap₂, subst, _∙_}
 use mathlib.Core.Bool.{Bool, true, false}
 use mathlib.Core.List.{List, [], _∷_, _++_, append-nil}
-use Prim.Native.Nat.{ℕ, _+_, _-_, _^_, _≤_, _<_}
+use Prim.Native.Nat.{ℕ, suc, _+_, _-_, _^_, _≤_, _<_}
 use native.Mathlib.Omega.{arith}
 use lib.ListN.{length, getD, length-append}
 use types.Run.{OneOf, miss}
@@ -11,7 +11,7 @@ use Rattle.flow.specs.Flow.{One, byteAt}
 use Rattle.record.specs.declared.Group.{Group}
 use Rattle.record.specs.Records.{Known, valueFrom, Row, row, itemRow}
 use Rattle.record.specs.Answers.{base}
-use Rattle.record.specs.Placed.{Placed, Got, Lost, run, front, on, topped, front-none, front-front}
+use Rattle.record.specs.Placed.{Placed, Got, Lost, run, front, on, topped, front-none, front-front, from-item}
 use Rattle.record.specs.Runs.{rest, stops, past, parts, Room, room-first, room-next, past-within, rest-stop, rest-step}
 use Rattle.record.specs.Values.{heading}
 use Rattle.record.specs.Definitions.{value-plain}
@@ -27,7 +27,7 @@ use Rattle.reader.specs.declared.values.Begun.the-variants as begun
 use Rattle.reader.specs.declared.values.Values.{Values}
 use Rattle.reader.specs.declared.values.Values.the-variants as values
 use Rattle.record.specs.KnownArray.{knownIn}
-use Rattle.reader.specs.Inside.{groupOf, Led, Ready, Laid, Moved, typeOf, typeRows, Entered, meant, Heads, Undefined, HeadSays, HeadMet, Went, DefinitionMet, Fitting, HeadFits, Becomes, BegunBy, Inner, BeginSays, BeginMet, ValuesAre, ValuesSay, ValuesMet}
+use Rattle.reader.specs.Inside.{groupOf, Led, Ready, Stored, Laid, Moved, typeOf, typeRows, Entered, meant, Heads, Undefined, HeadSays, HeadMet, Went, DefinitionMet, Fitting, HeadFits, Becomes, BegunBy, Inner, BeginSays, BeginMet, ValuesAre, ValuesSay, ValuesMet}
 use Rattle.reader.proofs.heads.Head.{the-type}
 use Rattle.reader.proofs.Classes.{Defining, defining-fault, defining-forward, defining-more}
 use Rattle.reader.proofs.Moves.{laid-on, laid-top, laid-numbers, laid-bytes, moved-none, moved-on}
@@ -42,11 +42,11 @@ module _ (d : ℕ) (m : List ℕ) (p n : ℕ) (ks t b ks₁ t₁ b₁ : List ℕ
   by-head : (h : Head) → Heads d m (knownIn ks₁) q h → Undefined m q → run (byteAt (valueFrom base d)) (knownIn ks) m p ≡ front (R .some) (meant d m (knownIn ks₁) q h)
   by-head h z u = sym (R .says d) ∙ ap (front (R .some)) (value-plain base d (knownIn ks₁) m q u ∙ z .says)
 
-  leaf-begun : (s x y q′ : ℕ) → Heads d m (knownIn ks₁) q (head.Leaf s x y q′) → Undefined m q → (t₂ b₂ : List ℕ) → Laid t₁ b₁ k (row s q x y ∷ []) t₂ b₂ → BeginMet d m p n ks t b (begun.Past q′ (k + 1)) ks₁ t₂ b₂
+  leaf-begun : (s x y q′ : ℕ) → Heads d m (knownIn ks₁) q (head.Leaf s x y q′) → Undefined m q → (t₂ b₂ : List ℕ) → Laid t₁ b₁ k (row s q x y 1 ∷ []) t₂ b₂ → BeginMet d m p n ks t b (begun.Past q′ (k + 1)) ks₁ t₂ b₂
   leaf-begun s x y q′ z u t₂ b₂ l =
       let g = z .goes in
       let w = R .moved .ready in
-      let one : Moved m q k t₁ b₁ q′ (k + 1) ks₁ t₂ b₂ (row s q x y ∷ []) = record {
+      let one : Moved m q k t₁ b₁ q′ (k + 1) ks₁ t₂ b₂ (row s q x y 1 ∷ []) = record {
         counted = omega arith;
         laid = l;
         onward = omega (arith, g .0);
@@ -54,7 +54,7 @@ module _ (d : ℕ) (m : List ℕ) (p n : ℕ) (ks t b ks₁ t₁ b₁ : List ℕ
       } in
       record {
         says = record {
-          rows = R .some ++ (row s q x y ∷ []);
+          rows = R .some ++ (row s q x y 1 ∷ []);
           says = by-head (head.Leaf s x y q′) z u;
           moved = moved-on (R .moved) one;
           forward = omega (arith, R .moved .onward, g .0);
@@ -138,17 +138,19 @@ module _ (o : Placed One) (d : ℕ) (m : List ℕ) (p n : ℕ) (t b : List ℕ) 
   front-lost u v e = x .says ∙ ap (λ (z : Placed ℕ). front (x .before) (topped y (heading (groupOf g) (typeOf given of)) (front (typeRows (y + 1) of) z))) e
 
   inner-went : (e l i : ℕ) (ks₂ t₂ b₂ : List ℕ) → ValuesAre (run (rest (valueFrom base (d - 1)) (groupOf g) 0) (knownIn ks₁) m q) m q k t₁ b₁ (groupOf g) e l i ks₂ t₂ b₂
-      → (t₃ b₃ : List ℕ) → Laid t₂ b₂ j (itemRow y (heading (groupOf g) (typeOf given of) (parts (groupOf g) i)) ∷ []) t₃ b₃ → Went o m p n t b e l ks₂ t₃ b₃
+      → (t₃ b₃ : List ℕ) → Stored t₂ b₂ j (itemRow y l (heading (groupOf g) (typeOf given of) (parts (groupOf g) i))) t₃ b₃ → Went o m p n t b e l ks₂ t₃ b₃
   inner-went e l i ks₂ t₂ b₂ v t₃ b₃ top =
       let ts = typeRows (y + 1) of in
-      let it = itemRow y (heading (groupOf g) (typeOf given of) (parts (groupOf g) i)) in
+      let head = heading (groupOf g) (typeOf given of) (parts (groupOf g) i) in
+      let it = itemRow y (suc (length (ts ++ v .rows))) head in
+      let all : l ≡ j + suc (length (ts ++ v .rows)) = omega (arith, v .moved .counted, x .counted, length-append ts (v .rows)) in
       let within = laid-on (x .laid) (x .counted) (v .moved .laid) in
       record {
         rows = x .before ++ (it ∷ (ts ++ v .rows));
         says = x .says ∙ ap (λ (z : Placed ℕ). front (x .before) (topped y (heading (groupOf g) (typeOf given of)) (front ts z))) (v .says);
         moved = record {
           counted = omega (arith, v .moved .counted, x .counted, x .first, length-append (x .before) (it ∷ (ts ++ v .rows)), length-append ts (v .rows));
-          laid = laid-on (x .laid-before) (x .first) (laid-top within top);
+          laid = laid-on (x .laid-before) (x .first) (laid-top it within (subst (λ (r : Row). Stored t₂ b₂ j r t₃ b₃) (ap (λ (z : ℕ). itemRow y z head) all ∙ sym (from-item j y (suc (length (ts ++ v .rows))) head)) top));
           onward = omega (arith, x .onward, x .deeper, v .moved .onward);
           ready = v .moved .ready;
         };
@@ -261,7 +263,7 @@ module _ (d : ℕ) (m : List ℕ) (g : Group) (p₀ n₀ : ℕ) (ks₀ t₀ b₀
             pub within-forward : (p < f) × (f ≤ length m)
             within-forward = let u = values-says (values.Done f l h) s in (omega (arith, inner-of .onward, inner-of .deeper, u .moved .onward), u .moved .ready .at .within)
 
-            pub running-within : (t₃ b₃ : List ℕ) → Laid t₂ b₂ j (itemRow y (heading (groupOf g′) (typeOf given of) (parts (groupOf g′) h)) ∷ []) t₃ b₃ → Running d m g p₀ n₀ ks₀ t₀ b₀ ks₂ t₃ b₃ f l (i + 1)
+            pub running-within : (t₃ b₃ : List ℕ) → Stored t₂ b₂ j (itemRow y l (heading (groupOf g′) (typeOf given of) (parts (groupOf g′) h))) t₃ b₃ → Running d m g p₀ n₀ ks₀ t₀ b₀ ks₂ t₃ b₃ f l (i + 1)
             running-within t₃ b₃ top =
                 running-went f l ks₂ t₃ b₃
                 (inner-went (run (byteAt (valueFrom base d)) (knownIn ks) m p) d m p n t b y j g′ of given q k ks₁ t₁ b₁ inner-of f l h ks₂ t₂ b₂ (values-says (values.Done f l h) s) t₃ b₃ top)

@@ -7,7 +7,7 @@ use mathlib.Core.Option.{Option, none, some}
 use Prim.Native.Nat.{ℕ, zero, suc, _+_, _-_, _^_, _≤_, _<_}
 use lib.Dec.{ltb, eqb}
 use lib.ListN.{length, take, getD, replicate}
-use Rattle.flow.specs.Flow.{pick, Bytes, Done, Fault, One, byteAt, overlay}
+use Rattle.flow.specs.Flow.{pick, Bytes, Done, Fault, One, byteAt, put, overlay}
 use Rattle.scalar.specs.declared.Lead.{Lead}
 use Rattle.scalar.specs.declared.Lead.the-variants as lead
 use Rattle.scalar.specs.declared.Sort.the-variants.{Int}
@@ -19,7 +19,7 @@ use Rattle.record.specs.declared.Group.the-variants.{Counted, Fields, Open, Pai
 use Rattle.record.specs.Records.{Definition, Known, start, opened, typed, defined, typeFrom, definition, valueFrom, Row, row, itemRow}
 use Rattle.record.specs.Answers.{Refuse, read, base, asNumbers, asBytes, reportRead}
 use Rattle.record.specs.Shorthands.{filled}
-use Rattle.record.specs.Placed.{Placed, Got, Lost, run, front, on, topped}
+use Rattle.record.specs.Placed.{Placed, Got, Lost, run, front, on, topped, numbered}
 use Rattle.record.specs.Runs.{rest, parts}
 use Rattle.record.specs.Values.{heading}
 use Rattle.record.specs.Definitions.{namesLeft, plain}
@@ -39,7 +39,6 @@ use Rattle.reader.specs.declared.definitions.Names.{Names}
 use Rattle.reader.specs.declared.definitions.Names.the-variants as names
 use Rattle.reader.specs.declared.definitions.Out.{Out}
 use Rattle.reader.specs.declared.definitions.Out.the-variants as out
-use Rattle.reader.specs.declared.values.Numbers.{Numbers}
 use Rattle.reader.specs.declared.values.Begun.{Begun}
 use Rattle.reader.specs.declared.values.Begun.the-variants as begun
 use Rattle.reader.specs.declared.values.Values.{Values}
@@ -108,10 +107,14 @@ Holding lead.Definition = ⊥
 Holding lead.Close = ⊥
 Holding lead.Reserved = ⊥
 
--- ---- rows in the two tables, from the row k on
+-- ---- the row k in the two tables; rows in them from the row k on
+pub record Stored (t b : List ℕ) (k : ℕ) (r : Row) (t′ b′ : List ℕ) : Type 0 where
+  pub numbers : t′ ≡ put (asNumbers .width) (asNumbers .encode) t k r
+  pub bytes : b′ ≡ put (asBytes .width) (asBytes .encode) b k r
+
 pub record Laid (t b : List ℕ) (k : ℕ) (rs : List Row) (t′ b′ : List ℕ) : Type 0 where
-  pub numbers : t′ ≡ overlay 4 (asNumbers .encode) t k rs
-  pub bytes : b′ ≡ overlay 32 (asBytes .encode) b k rs
+  pub numbers : t′ ≡ overlay (asNumbers .width) (asNumbers .encode) t k (numbered k rs)
+  pub bytes : b′ ≡ overlay (asBytes .width) (asBytes .encode) b k (numbered k rs)
 
 -- rows were read, from the place p and the row n to the place q and the row k, and are in the tables
 pub record Moved (m : List ℕ) (p n : ℕ) (t b : List ℕ) (q k : ℕ) (ks′ t′ b′ : List ℕ) (rs : List Row) : Type 0 where
@@ -155,8 +158,8 @@ typeOf given (Numbered k) = some k
 
 abbrev pub typeRows : ℕ → TypeItem → List Row
 typeRows p Untyped = []
-typeRows p (Named u b) = row 18 p u b ∷ []
-typeRows p (Numbered k) = row 19 p k 0 ∷ []
+typeRows p (Named u b) = row 18 p u b 1 ∷ []
+typeRows p (Numbered k) = row 19 p k 0 1 ∷ []
 
 abbrev pub typedBy : TypeItem → Known → Known
 typedBy Untyped c = c
@@ -206,7 +209,7 @@ pub record Entered (ks : List ℕ) (of : TypeItem) (ks′ : List ℕ) (n : ℕ) 
 -- ---- heads
 -- the value at p, with no definitions before it, by its head, where c is known; d: how many containers may open
 abbrev pub meant : ℕ → List ℕ → Known → ℕ → Head → Placed One
-meant d m c p (head.Leaf k x y q) = Got q tt (row k p x y ∷ []) c
+meant d m c p (head.Leaf k x y q) = Got q tt (row k p x y 1 ∷ []) c
 meant d m c p (head.Holder g q of) = topped p (heading (groupOf g) (typeOf (c .types) of)) (front (typeRows (p + 1) of) (run (rest (valueFrom base (d - 1)) (groupOf g) 0) (typedBy of (opened c)) m q))
 meant d m c p head.Definition = Lost 3 p
 meant d m c p (head.Wrong x o) = Lost x o
@@ -268,10 +271,6 @@ pub record ListMet (m : List ℕ) (b open-code few : ℕ) (of : TypeItem) (p : �
 abbrev pub instanceOf : List ℕ → ℕ → ℕ → ℕ → Head
 instanceOf ks p k q = pick (ltb k (getD ks 256 0)) (head.Holder (plan 1 (getD ks k 0) k) q Untyped) (head.Wrong 6 p)
 
--- the row of a list, map or object after i values
-pub record HolderRow (g : Group) (of : TypeItem) (given i : ℕ) (r : Numbers) : Type 0 where
-  pub is : (p : ℕ) → row (r .kind) p (r .first) (r .second) ≡ itemRow p (heading g (typeOf given of) (parts g i))
-
 -- ---- what reading something from the place p and the row n on gives
 -- it is read, up to the place q and the row k
 pub record Went (o : Placed One) (m : List ℕ) (p n : ℕ) (t b : List ℕ) (q k : ℕ) (ks′ t′ b′ : List ℕ) : Type 0 where
@@ -297,7 +296,7 @@ pub record FieldsMet (m : List ℕ) (p u b : ℕ) (r : ClassRead) : Type 0 where
 pub record ClassIs (m : List ℕ) (c : Known) (p u b n q : ℕ) : Type 0 where
   pub says :
       run (definition base p) c m (p + 1)
-      ≡ topped p Definition (front (row 16 (p + 1) u b ∷ []) (on (run (namesLeft n 0) c m q) (λ e k c′. Got e n [] (defined n c′))))
+      ≡ topped p Definition (front (row 16 (p + 1) u b 1 ∷ []) (on (run (namesLeft n 0) c m q) (λ e k c′. Got e n [] (defined n c′))))
   pub few : n ≤ 256
   pub free : length (c .classes) < 256
   pub onward : p + 2 < q
@@ -363,7 +362,7 @@ pub record HeadFits (ks : List ℕ) (p n : ℕ) (h : Head) : Type 0 where
   pub fits : Fitting ks p n h
 
 abbrev pub Becomes : List ℕ → List ℕ → List ℕ → ℕ → ℕ → Head → Begun → List ℕ → List ℕ → List ℕ → Type 0
-Becomes ks t b p n (head.Leaf k x y q) r ks′ t′ b′ = (r ≡ begun.Past q (n + 1)) × (ks′ ≡ ks) × Laid t b n (row k p x y ∷ []) t′ b′
+Becomes ks t b p n (head.Leaf k x y q) r ks′ t′ b′ = (r ≡ begun.Past q (n + 1)) × (ks′ ≡ ks) × Laid t b n (row k p x y 1 ∷ []) t′ b′
 Becomes ks t b p n (head.Holder g q of) r ks′ t′ b′ = Opened ks t b p n g q of r ks′ t′ b′
 Becomes ks t b p n head.Definition r ks′ t′ b′ = Unit {0}
 Becomes ks t b p n (head.Wrong x o) r ks′ t′ b′ = r ≡ begun.Fault x o

@@ -1,5 +1,6 @@
 // Class definitions. The laws of their meaning are in record's specs/Definitions.antt.
 use crate::heads::Count;
+use record::Row;
 use scalar::Kind;
 use texts::StringRead;
 ghost use mathlib.Core.Path.{_≡_};
@@ -105,15 +106,14 @@ fn field_names(
                 bytes: held,
                 size,
             } => {
-                crate::rows::store_row(
-                    numbers,
-                    bytes,
-                    row + i,
-                    17,
-                    here,
-                    units as u64,
-                    held as u64,
-                );
+                let name = Row {
+                    kind: 17,
+                    place: here as u64,
+                    first: units as u64,
+                    second: held as u64,
+                    after: (row + i + 1) as u64,
+                };
+                crate::rows::store_row(numbers, bytes, row + i, name);
                 here += size;
                 i += 1;
             }
@@ -152,12 +152,27 @@ pub(crate) fn definition(
         } => match field_names(message, numbers, bytes, next, fields, rows + 2) {
             Names::Wrong { number, place } => Out::Fault { number, place },
             Names::Past { next: end } => {
-                crate::rows::store_row(numbers, bytes, rows + 1, 16, at + 1, units, held);
-                crate::rows::store_row(numbers, bytes, rows, 15, at, fields as u64, 0);
+                let after = rows + 2 + fields;
+                let name = Row {
+                    kind: 16,
+                    place: (at + 1) as u64,
+                    first: units,
+                    second: held,
+                    after: (rows + 2) as u64,
+                };
+                let class = Row {
+                    kind: 15,
+                    place: at as u64,
+                    first: fields as u64,
+                    second: 0,
+                    after: after as u64,
+                };
+                crate::rows::store_row(numbers, bytes, rows + 1, name);
+                crate::rows::store_row(numbers, bytes, rows, class);
                 define(known, fields);
                 Out::Done {
                     next: end,
-                    rows: rows + 2 + fields,
+                    rows: after,
                 }
             }
         },

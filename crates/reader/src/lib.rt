@@ -8,6 +8,8 @@ pub mod values;
 use crate::heads::COUNTED;
 use crate::heads::Plan;
 use crate::values::Values;
+use record::ROW_BYTES;
+use record::ROW_NUMBERS;
 ghost use mathlib.Core.Path.{_≡_};
 ghost use Rattle.record.specs.Answers.{base, asNumbers, asBytes, readReport, readTable};
 ghost use Rattle.reader.specs.Answers.{report};
@@ -100,20 +102,20 @@ fn read_into(message: &[u8], numbers: &mut [u64], bytes: &mut [u8], lent: usize)
     }
 }
 
-// Reads the message into a table of four numbers a row.
+// Reads the message into a table of five numbers a row.
 pub fn read(message: &[u8], table: &mut [u64]) -> ReadAnswer
     ensures { λ r. ⌜ (report r ≡ readReport base 32 262144 asNumbers (now (message .entry)) (now (table .entry))) × (now (table .exit) ≡ readTable base 32 262144 asNumbers (now (message .entry)) (now (table .entry))) ⌝ }
 {
-    let lent = table.len() / 4;
+    let lent = table.len() / ROW_NUMBERS;
     let mut bytes = [0u8; 1];
     read_into(message, table, &mut bytes[..0], lent)
 }
 
-// Reads the message into a table of 32 bytes a row, each number as eight bytes, the highest first.
+// Reads the message into a table of 40 bytes a row, each number as eight bytes, the highest first.
 pub fn read_bytes(message: &[u8], table: &mut [u8]) -> ReadAnswer
     ensures { λ r. ⌜ (report r ≡ readReport base 32 262144 asBytes (now (message .entry)) (now (table .entry))) × (now (table .exit) ≡ readTable base 32 262144 asBytes (now (message .entry)) (now (table .entry))) ⌝ }
 {
-    let lent = table.len() / 32;
+    let lent = table.len() / ROW_BYTES;
     let mut numbers = [0u64; 1];
     read_into(message, &mut numbers[..0], table, lent)
 }

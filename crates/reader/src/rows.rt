@@ -1,24 +1,29 @@
-// Rows, and the tables that they are stored in: one of numbers and one of C's bytes, of which a caller lends one and leaves the other
+// Rows are stored in two tables, one of numbers and one of C's bytes, of which a caller lends one and leaves the other
 // empty. The definitions are in record's specs/Answers.antt.
+use record::ROW_BYTES;
+use record::ROW_NUMBERS;
+use record::Row;
 ghost use mathlib.Core.Path.{_≡_};
-ghost use mathlib.Core.List.{[], _∷_};
 ghost use Prim.Native.Nat.{_+_, _^_, _<_};
 ghost use Rattle.flow.specs.Flow.{put, stored};
 ghost use Rattle.wire.specs.BigEndian.{be};
-ghost use Rattle.record.specs.Records.{row};
 ghost use Rattle.record.specs.Answers.{asNumbers, asBytes};
-ghost use Rattle.reader.specs.Inside.{Laid};
+ghost use Rattle.record.specs.RowLaws.{rowOf};
+ghost use Rattle.reader.specs.Inside.{Stored};
 
 // The row `index` of a table of numbers, where it fits.
-fn store_numbers(table: &mut [u64], index: usize, kind: u64, place: u64, first: u64, second: u64)
-    ensures { λ _. ⌜ now (table .exit) ≡ put 4 (asNumbers .encode) (now (table .entry)) index (row kind place first second) ⌝ }
+fn store_numbers(table: &mut [u64], index: usize, row: Row)
+    ensures { λ _. ⌜
+        now (table .exit) ≡ put (asNumbers .width) (asNumbers .encode) (now (table .entry)) index (rowOf row)
+        ⌝ }
 {
-    if index < table.len() / 4 {
-        let k = index * 4;
-        table[k] = kind;
-        table[k + 1] = place;
-        table[k + 2] = first;
-        table[k + 3] = second;
+    if index < table.len() / ROW_NUMBERS {
+        let k = index * ROW_NUMBERS;
+        table[k] = row.kind;
+        table[k + 1] = row.place;
+        table[k + 2] = row.first;
+        table[k + 3] = row.second;
+        table[k + 4] = row.after;
     }
 }
 
@@ -48,78 +53,72 @@ fn put_number(table: &mut [u8], at: usize, value: u64)
 }
 
 // The row `index` of a table of bytes, where it fits.
-fn store_bytes(table: &mut [u8], index: usize, kind: u64, place: u64, first: u64, second: u64)
-    ensures { λ _. ⌜ now (table .exit) ≡ put 32 (asBytes .encode) (now (table .entry)) index (row kind place first second) ⌝ }
+fn store_bytes(table: &mut [u8], index: usize, row: Row)
+    ensures { λ _. ⌜
+        now (table .exit) ≡ put (asBytes .width) (asBytes .encode) (now (table .entry)) index (rowOf row)
+        ⌝ }
 {
-    if index < table.len() / 32 {
-        let k = index * 32;
-        put_number(table, k, kind);
-        put_number(table, k + 8, place);
-        put_number(table, k + 16, first);
-        put_number(table, k + 24, second);
+    if index < table.len() / ROW_BYTES {
+        let k = index * ROW_BYTES;
+        put_number(table, k, row.kind);
+        put_number(table, k + 8, row.place);
+        put_number(table, k + 16, row.first);
+        put_number(table, k + 24, row.second);
+        put_number(table, k + 32, row.after);
     }
 }
 
 // The row `index` of both tables, where it fits.
-pub(crate) fn store_row(
-    numbers: &mut [u64],
-    bytes: &mut [u8],
-    index: usize,
-    kind: u64,
-    place: usize,
-    first: u64,
-    second: u64,
-)
-    ensures { λ _. ⌜ Laid (now (numbers .entry)) (now (bytes .entry)) index (row kind place first second ∷ []) (now (numbers .exit)) (now (bytes .exit)) ⌝ }
+pub(crate) fn store_row(numbers: &mut [u64], bytes: &mut [u8], index: usize, row: Row)
+    ensures { λ _. ⌜
+        Stored
+        (now (numbers .entry)) (now (bytes .entry)) index (rowOf row)
+        (now (numbers .exit)) (now (bytes .exit))
+        ⌝ }
 {
-    store_numbers(numbers, index, kind, place as u64, first, second);
-    store_bytes(bytes, index, kind, place as u64, first, second);
+    store_numbers(numbers, index, row);
+    store_bytes(bytes, index, row);
 }
 
 // The same, with a test before it, so that it costs little where no row is lent.
-pub(crate) fn store_lent(
-    numbers: &mut [u64],
-    bytes: &mut [u8],
-    index: usize,
-    kind: u64,
-    place: usize,
-    first: u64,
-    second: u64,
-)
-    ensures { λ _. ⌜ Laid (now (numbers .entry)) (now (bytes .entry)) index (row kind place first second ∷ []) (now (numbers .exit)) (now (bytes .exit)) ⌝ }
+pub(crate) fn store_lent(numbers: &mut [u64], bytes: &mut [u8], index: usize, row: Row)
+    ensures { λ _. ⌜
+        Stored
+        (now (numbers .entry)) (now (bytes .entry)) index (rowOf row)
+        (now (numbers .exit)) (now (bytes .exit))
+        ⌝ }
 {
-    if index < numbers.len() / 4 + bytes.len() / 32 {
-        store_row(numbers, bytes, index, kind, place, first, second);
+    if index < numbers.len() / ROW_NUMBERS + bytes.len() / ROW_BYTES {
+        store_row(numbers, bytes, index, row);
     }
 }
 
 // As store_bytes, for the one place where most rows are stored: it becomes a part of the code there.
-fn put_bytes(table: &mut [u8], index: usize, kind: u64, place: u64, first: u64, second: u64)
-    ensures { λ _. ⌜ now (table .exit) ≡ put 32 (asBytes .encode) (now (table .entry)) index (row kind place first second) ⌝ }
+fn put_bytes(table: &mut [u8], index: usize, row: Row)
+    ensures { λ _. ⌜
+        now (table .exit) ≡ put (asBytes .width) (asBytes .encode) (now (table .entry)) index (rowOf row)
+        ⌝ }
 {
-    if index < table.len() / 32 {
-        let k = index * 32;
-        put_number(table, k, kind);
-        put_number(table, k + 8, place);
-        put_number(table, k + 16, first);
-        put_number(table, k + 24, second);
+    if index < table.len() / ROW_BYTES {
+        let k = index * ROW_BYTES;
+        put_number(table, k, row.kind);
+        put_number(table, k + 8, row.place);
+        put_number(table, k + 16, row.first);
+        put_number(table, k + 24, row.second);
+        put_number(table, k + 32, row.after);
     }
 }
 
 // As store_lent, for the one place where most rows are stored.
-pub(crate) fn put_row(
-    numbers: &mut [u64],
-    bytes: &mut [u8],
-    index: usize,
-    kind: u64,
-    place: usize,
-    first: u64,
-    second: u64,
-)
-    ensures { λ _. ⌜ Laid (now (numbers .entry)) (now (bytes .entry)) index (row kind place first second ∷ []) (now (numbers .exit)) (now (bytes .exit)) ⌝ }
+pub(crate) fn put_row(numbers: &mut [u64], bytes: &mut [u8], index: usize, row: Row)
+    ensures { λ _. ⌜
+        Stored
+        (now (numbers .entry)) (now (bytes .entry)) index (rowOf row)
+        (now (numbers .exit)) (now (bytes .exit))
+        ⌝ }
 {
-    if index < numbers.len() / 4 + bytes.len() / 32 {
-        store_numbers(numbers, index, kind, place as u64, first, second);
-        put_bytes(bytes, index, kind, place as u64, first, second);
+    if index < numbers.len() / ROW_NUMBERS + bytes.len() / ROW_BYTES {
+        store_numbers(numbers, index, row);
+        put_bytes(bytes, index, row);
     }
 }

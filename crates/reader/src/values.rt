@@ -6,15 +6,16 @@ use crate::heads::OPEN;
 use crate::heads::PAIRS;
 use crate::heads::Plan;
 use crate::heads::TypeItem;
+use record::Row;
 ghost use mathlib.Core.Path.{_≡_};
-ghost use mathlib.Core.List.{[], _∷_};
 ghost use Prim.Native.Nat.{_+_, _^_, _<_};
-ghost use lib.ListN.{getD};
+ghost use lib.ListN.{length, getD};
 ghost use Rattle.record.specs.Records.{itemRow};
 ghost use Rattle.record.specs.Runs.{closes, stops, past, parts};
+ghost use Rattle.record.specs.RowLaws.{rowOf};
 ghost use Rattle.record.specs.Values.{heading};
 ghost use Rattle.record.specs.KnownArray.{Kept};
-ghost use Rattle.reader.specs.Inside.{groupOf, Ready, Laid, Opens, Opened, HeadFits, BegunBy, typeOf, typeRows, typeTag, typeSecond, TypeRoom, Entered, HolderRow, BeginMet, ValuesMet};
+ghost use Rattle.reader.specs.Inside.{groupOf, Ready, Laid, Opens, Opened, HeadFits, BegunBy, typeOf, typeRows, typeTag, typeSecond, TypeRoom, Entered, BeginMet, ValuesMet};
 
 // How a value begins: it is read; a list, map or object stands at `at`, where so many types were given, its row is `row`, and its values
 // begin at `next`, with rows from `rows` on; or a refusal.
@@ -90,6 +91,7 @@ fn passed(plan: Plan, at: usize) -> usize
 
 // The row `index` of the type at `place`, if there is one.
 fn store_type(numbers: &mut [u64], bytes: &mut [u8], index: usize, place: usize, of: TypeItem)
+    requires { ⌜ index + length (typeRows place of) < 2 ^ 64 ⌝ }
     ensures { λ _. ⌜ Laid (now (numbers .entry)) (now (bytes .entry)) index (typeRows place of) (now (numbers .exit)) (now (bytes .exit)) ⌝ }
 {
     match of {
@@ -98,19 +100,26 @@ fn store_type(numbers: &mut [u64], bytes: &mut [u8], index: usize, place: usize,
             units,
             bytes: size_of,
         } => {
-            crate::rows::store_row(numbers, bytes, index, 18, place, units, size_of);
+            let name = Row {
+                kind: 18,
+                place: place as u64,
+                first: units,
+                second: size_of,
+                after: (index + 1) as u64,
+            };
+            crate::rows::store_row(numbers, bytes, index, name);
         }
         TypeItem::Numbered { number } => {
-            crate::rows::store_row(numbers, bytes, index, 19, place, number, 0);
+            let by_number = Row {
+                kind: 19,
+                place: place as u64,
+                first: number,
+                second: 0,
+                after: (index + 1) as u64,
+            };
+            crate::rows::store_row(numbers, bytes, index, by_number);
         }
     }
-}
-
-// The numbers of a row but its place.
-pub struct Numbers {
-    pub kind: u64,
-    pub first: u64,
-    pub second: u64,
 }
 
 // One where there is a type.
@@ -135,46 +144,38 @@ fn type_second(of: TypeItem, given: u64) -> u64
     }
 }
 
-// The row of a list, map or object after i values; `given` types were given before it.
-fn holder_row(plan: Plan, of: TypeItem, given: u64, i: u64) -> Numbers
-    ensures { λ r. ⌜ HolderRow (groupOf plan) of given i r ⌝ }
+// The row of the list, map or object at `place` after i values, which end before the row `after`; `given` types were given
+// before it.
+fn holder_row(place: usize, plan: Plan, of: TypeItem, given: u64, i: u64, after: usize) -> Row
+    ensures { λ r. ⌜
+        rowOf r ≡ itemRow place after (heading (groupOf plan) (typeOf given of) (parts (groupOf plan) i))
+        ⌝ }
 {
     if plan.shape == FIELDS {
-        return Numbers {
+        return Row {
             kind: 13,
+            place: place as u64,
             first: plan.class,
             second: i,
+            after: after as u64,
         };
     }
     if plan.shape < PAIRS {
-        return Numbers {
+        return Row {
             kind: 9 + type_tag(of),
+            place: place as u64,
             first: i,
             second: type_second(of, given),
+            after: after as u64,
         };
     }
-    Numbers {
+    Row {
         kind: 11 + type_tag(of),
+        place: place as u64,
         first: i / 2,
         second: type_second(of, given),
+        after: after as u64,
     }
-}
-
-// The same, stored.
-fn store_holder(
-    numbers: &mut [u64],
-    bytes: &mut [u8],
-    index: usize,
-    place: usize,
-    plan: Plan,
-    of: TypeItem,
-    given: u64,
-    i: u64,
-)
-    ensures { λ _. ⌜ Laid (now (numbers .entry)) (now (bytes .entry)) index (itemRow place (heading (groupOf plan) (typeOf given of) (parts (groupOf plan) i)) ∷ []) (now (numbers .exit)) (now (bytes .exit)) ⌝ }
-{
-    let r = holder_row(plan, of, given, i);
-    crate::rows::store_lent(numbers, bytes, index, r.kind, place, r.first, r.second);
 }
 
 // A list, map or object of this type opens: it gets the next reference number, and a type name the next type number. How many rows
@@ -242,11 +243,16 @@ fn by_head(
             second,
             next,
         } => {
-            crate::rows::put_row(numbers, bytes, row, kind, at, first, second);
-            Begun::Past {
-                next,
-                rows: row + 1,
-            }
+            let after = row + 1;
+            let leaf = Row {
+                kind,
+                place: at as u64,
+                first,
+                second,
+                after: after as u64,
+            };
+            crate::rows::put_row(numbers, bytes, row, leaf);
+            Begun::Past { next, rows: after }
         }
         Head::Holder { plan, next, of } => within(numbers, bytes, known, at, row, plan, next, of),
         Head::Definition => Begun::Fault {
@@ -341,7 +347,8 @@ pub(crate) fn read_values(
                         rows: all,
                         count,
                     } => {
-                        store_holder(numbers, bytes, k, place, g, of, given, count);
+                        let holder = holder_row(place, g, of, given, count, all);
+                        crate::rows::store_lent(numbers, bytes, k, holder);
                         at = end;
                         rows = all;
                         i += 1;

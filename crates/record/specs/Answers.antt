@@ -3,7 +3,7 @@ use mathlib.Core.{Bool.Bool, Bool.cond, Bool._&&_, List.List, List.[], List._∷
 use Prim.Native.Nat.{ℕ, zero, suc, _+_, _/_, _^_}
 use lib.{Dec.ltb, Dec.eqb, Dec.leb, ListN.length, ListN.take, ListN.drop, ListN.getD}
 use Rattle.flow.specs.Flow.{pick, Outcome, Done, Fault, One, stored, overlay, Report}
-use Rattle.wire.specs.BigEndian.{joined, be}
+use Rattle.wire.specs.BigEndian.{eightAt, be}
 use Rattle.scalar.specs.Scalars.{shortestScalar, shortestInt, shortestText}
 use Rattle.record.specs.{Records.{Value, Leaf, UntypedList, TypedList, UntypedMap, TypedMap, Object, Reference, Item, Val, Definition, ClassName, FieldName, TypeName, TypeNumber, Known, start, opened, typed, defined, Ceilings, message, Row, row, rows}, Claimed.{onSome, recordOf}}
 
@@ -137,14 +137,18 @@ base = record { types = 256; classes = 256; fields = 256 }
 abbrev pub Layout : Type 0  -- how rows lie in a table, so many numbers a row
 Layout = record { width : ℕ; encode : Row → List ℕ; decode : List ℕ → Row }
 
-abbrev pub asNumbers : Layout  -- four numbers a row
-asNumbers = record { width = 4; encode = λ r. r .kind ∷ r .place ∷ r .first ∷ r .second ∷ []; decode = λ l. row (getD l 0 0) (getD l 1 0) (getD l 2 0) (getD l 3 0) }
+abbrev pub asNumbers : Layout  -- five numbers a row
+asNumbers = record {
+  width = 5;
+  encode = λ r. r .kind ∷ r .place ∷ r .first ∷ r .second ∷ r .after ∷ [];
+  decode = λ l. row (getD l 0 0) (getD l 1 0) (getD l 2 0) (getD l 3 0) (getD l 4 0);
+}
 
 abbrev pub asBytes : Layout  -- from C: eight big-endian bytes a number
 asBytes = record {
-  width = 32;
-  encode = λ r. be 8 (r .kind) ++ (be 8 (r .place) ++ (be 8 (r .first) ++ be 8 (r .second)));
-  decode = λ l. row (joined 0 (take 8 l)) (joined 0 (take 8 (drop 8 l))) (joined 0 (take 8 (drop 16 l))) (joined 0 (take 8 (drop 24 l)));
+  width = 40;
+  encode = λ r. be 8 (r .kind) ++ (be 8 (r .place) ++ (be 8 (r .first) ++ (be 8 (r .second) ++ be 8 (r .after))));
+  decode = λ l. row (eightAt l 0) (eightAt l 8) (eightAt l 16) (eightAt l 24) (eightAt l 32);
 }
 
 abbrev pub lentRows : Layout → List ℕ → ℕ  -- numbers beyond a multiple of the width are no row

@@ -11,7 +11,8 @@ use Rattle.flow.specs.Flow.{pick, sameList}
 use Rattle.scalar.specs.declared.Sort.the-variants as sort
 use Rattle.scalar.specs.declared.Kind.the-variants.{Utf8, Binary}
 use Rattle.scalar.specs.Scalars.{Num, Str}
-use Rattle.record.specs.Records.{Leaf, UntypedList, TypedList, UntypedMap, TypedMap, Object, Reference, Item, Val, Definition, ClassName, FieldName, TypeName, TypeNumber, Row, itemRow, contentOf, contentAt, Claims, ClaimAll, no-rows, a-row}
+use Rattle.record.specs.RowLaws.{moved, item-moved}
+use Rattle.record.specs.Records.{Leaf, UntypedList, TypedList, UntypedMap, TypedMap, Object, Reference, Item, Val, Definition, ClassName, FieldName, TypeName, TypeNumber, Row, itemRow, ends, contentOf, contentAt, Claims, ClaimItems, no-rows, a-row, afters, ClaimAll}
 
 -- the item of the row's kind, with the row's numbers or this content
 unfoldable pub ofKind : Row → List ℕ → Item
@@ -37,12 +38,12 @@ ofKind x cs =
     (pick (eqb (x .kind) 18) (TypeName cs)
     (TypeNumber (x .first))))))))))))))))))))
 
-abbrev pub sameRow : Row → Row → Bool
+abbrev pub sameRow : Row → Row → Bool  -- but for their fifth numbers
 sameRow x y = eqb (x .kind) (y .kind) && (eqb (x .place) (y .place) && (eqb (x .first) (y .first) && eqb (x .second) (y .second)))
 
 -- the item i, if the row claims it with the content cs
 abbrev pub checked : Row → List ℕ → Item → Option Item
-checked x cs i = cond (sameRow (itemRow (x .place) i) x && sameList (contentOf i) cs) (some i) none
+checked x cs i = cond (sameRow (itemRow (x .place) (x .after) i) x && sameList (contentOf i) cs) (some i) none
 
 abbrev pub onSome : {A B : Type 0} → (A → Option B) → Option A → Option B
 onSome f none = none
@@ -51,56 +52,67 @@ onSome f (some a) = f a
 unfoldable pub itemAt : List ℕ → Row → Option Item
 itemAt source x = onSome (λ cs. checked x cs (ofKind x cs)) (contentAt source (x .kind) (x .place))
 
+-- the items that the rows claim, each by itself, or none
+abbrev pub itemsOf : List ℕ → List Row → Option (List Item)
+itemsOf source [] = some []
+itemsOf source (x ∷ r) = onSome (λ i. onSome (λ is. some (i ∷ is)) (itemsOf source r)) (itemAt source x)
+
+-- the same items, if the fifth numbers of the rows are theirs
+unfoldable pub ended : List Row → List Item → Option (List Item)
+ended r is = cond (sameList (afters r) (ends 0 is)) (some is) none
+
 -- the record that the rows claim, or none
 abbrev pub recordOf : List ℕ → List Row → Option (List Item)
-recordOf source [] = some []
-recordOf source (x ∷ r) = onSome (λ i. onSome (λ is. some (i ∷ is)) (recordOf source r)) (itemAt source x)
+recordOf source r = onSome (ended r) (itemsOf source r)
 
 -- ---- it is the one claimed
-row-refl : (x : Row) → T (sameRow x x)
+pub row-refl : (x : Row) → T (sameRow x x)
 row-refl x = and-both (eqb (x .kind) (x .kind)) _ (eqb-refl (x .kind)) (and-both (eqb (x .place) (x .place)) _ (eqb-refl (x .place))
     (and-both (eqb (x .first) (x .first)) _ (eqb-refl (x .first)) (eqb-refl (x .second))))
 
-row-eq : (x y : Row) → T (sameRow x y) → x ≡ y
-row-eq x y h =
+pub row-eq : (x y : Row) → x .after ≡ y .after → T (sameRow x y) → x ≡ y
+row-eq x y f h =
     let h₁ = and-right (eqb (x .kind) (y .kind)) (eqb (x .place) (y .place) && (eqb (x .first) (y .first) && eqb (x .second) (y .second))) h in
     let h₂ = and-right (eqb (x .place) (y .place)) (eqb (x .first) (y .first) && eqb (x .second) (y .second)) h₁ in
     let a = eqb→eq (x .kind) (y .kind) (and-left (eqb (x .kind) (y .kind)) (eqb (x .place) (y .place) && (eqb (x .first) (y .first) && eqb (x .second) (y .second))) h) in
     let b = eqb→eq (x .place) (y .place) (and-left (eqb (x .place) (y .place)) (eqb (x .first) (y .first) && eqb (x .second) (y .second)) h₁) in
     let c = eqb→eq (x .first) (y .first) (and-left (eqb (x .first) (y .first)) (eqb (x .second) (y .second)) h₂) in
     let d = eqb→eq (x .second) (y .second) (and-right (eqb (x .first) (y .first)) (eqb (x .second) (y .second)) h₂) in
-    λ i. record { kind = a i; place = b i; first = c i; second = d i }
+    λ i. record { kind = a i; place = b i; first = c i; second = d i; after = f i }
 
-kind-back : (p : ℕ) (i : Item) → ofKind (itemRow p i) (contentOf i) ≡ i
+pub kind-back : (p e : ℕ) (i : Item) → ofKind (itemRow p e i) (contentOf i) ≡ i
 unfolding ofKind pick
-kind-back p (Val (Leaf (Num sort.Null v))) = refl
-kind-back p (Val (Leaf (Num sort.False v))) = refl
-kind-back p (Val (Leaf (Num sort.True v))) = refl
-kind-back p (Val (Leaf (Num sort.Int v))) = refl
-kind-back p (Val (Leaf (Num sort.Long v))) = refl
-kind-back p (Val (Leaf (Num sort.Double v))) = refl
-kind-back p (Val (Leaf (Num sort.Date v))) = refl
-kind-back p (Val (Leaf (Str Utf8 cs))) = refl
-kind-back p (Val (Leaf (Str Binary cs))) = refl
-kind-back p (Val (UntypedList n)) = refl
-kind-back p (Val (TypedList n t)) = refl
-kind-back p (Val (UntypedMap n)) = refl
-kind-back p (Val (TypedMap n t)) = refl
-kind-back p (Val (Object k n)) = refl
-kind-back p (Val (Reference k)) = refl
-kind-back p (Definition n) = refl
-kind-back p (ClassName cs) = refl
-kind-back p (FieldName cs) = refl
-kind-back p (TypeName cs) = refl
-kind-back p (TypeNumber k) = refl
+kind-back p e (Val (Leaf (Num sort.Null v))) = refl
+kind-back p e (Val (Leaf (Num sort.False v))) = refl
+kind-back p e (Val (Leaf (Num sort.True v))) = refl
+kind-back p e (Val (Leaf (Num sort.Int v))) = refl
+kind-back p e (Val (Leaf (Num sort.Long v))) = refl
+kind-back p e (Val (Leaf (Num sort.Double v))) = refl
+kind-back p e (Val (Leaf (Num sort.Date v))) = refl
+kind-back p e (Val (Leaf (Str Utf8 cs))) = refl
+kind-back p e (Val (Leaf (Str Binary cs))) = refl
+kind-back p e (Val (UntypedList n)) = refl
+kind-back p e (Val (TypedList n t)) = refl
+kind-back p e (Val (UntypedMap n)) = refl
+kind-back p e (Val (TypedMap n t)) = refl
+kind-back p e (Val (Object k n)) = refl
+kind-back p e (Val (Reference k)) = refl
+kind-back p e (Definition n) = refl
+kind-back p e (ClassName cs) = refl
+kind-back p e (FieldName cs) = refl
+kind-back p e (TypeName cs) = refl
+kind-back p e (TypeNumber k) = refl
+
+pub item-after : (p e : ℕ) (i : Item) → itemRow p e i .after ≡ e
+item-after p e i = ap (λ (x : Row). x .after) (item-moved p e p e i)
 
 module _ (source : List ℕ) where
   pub item-claimed : (x : Row) (i : Item) → Claims source x i → itemAt source x ≡ some i
   unfolding itemAt
   item-claimed x i h =
-      let back : ofKind x (contentOf i) ≡ i = subst (λ (y : Row). ofKind y (contentOf i) ≡ i) (h .agrees) (kind-back (x .place) i) in
-      rw (h .content, back) (pass (sameRow (itemRow (x .place) i) x && sameList (contentOf i) (contentOf i)) _ _
-      (and-both (sameRow (itemRow (x .place) i) x) _ (rw (h .agrees) (row-refl x)) (same-refl (contentOf i))) refl)
+      let back : ofKind x (contentOf i) ≡ i = subst (λ (y : Row). ofKind y (contentOf i) ≡ i) (h .agrees) (kind-back (x .place) (x .after) i) in
+      rw (h .content, back) (pass (sameRow (itemRow (x .place) (x .after) i) x && sameList (contentOf i) (contentOf i)) _ _
+      (and-both (sameRow (itemRow (x .place) (x .after) i) x) _ (rw (h .agrees) (row-refl x)) (same-refl (contentOf i))) refl)
 
   abbrev ClaimedBy : Row → Option Item → Type 0
   ClaimedBy x none = Unit {0}
@@ -113,31 +125,51 @@ module _ (source : List ℕ) where
       go : (o : Option (List ℕ)) → contentAt source (x .kind) (x .place) ≡ o → ClaimedBy x (onSome (λ cs. checked x cs (ofKind x cs)) o)
       go none e = tt
       go (some cs) e = let i = ofKind x cs in
-          by-test (ClaimedBy x) (sameRow (itemRow (x .place) i) x && sameList (contentOf i) cs)
+          by-test (ClaimedBy x) (sameRow (itemRow (x .place) (x .after) i) x && sameList (contentOf i) cs)
           (λ t. record {
-            agrees = row-eq (itemRow (x .place) i) x (and-left (sameRow (itemRow (x .place) i) x) (sameList (contentOf i) cs) t);
-            content = e ∙ ap {B = Option (List ℕ)} some (sym (same-eq (contentOf i) cs (and-right (sameRow (itemRow (x .place) i) x) (sameList (contentOf i) cs) t)));
+            agrees = row-eq (itemRow (x .place) (x .after) i) x (item-after (x .place) (x .after) i) (and-left (sameRow (itemRow (x .place) (x .after) i) x) (sameList (contentOf i) cs) t);
+            content = e ∙ ap {B = Option (List ℕ)} some (sym (same-eq (contentOf i) cs (and-right (sameRow (itemRow (x .place) (x .after) i) x) (sameList (contentOf i) cs) t)));
           }) (λ t. tt)
 
   pub claims-back : (x : Row) (i : Item) → itemAt source x ≡ some i → Claims source x i
   claims-back x i e = subst (ClaimedBy x) e (claims-item x)
 
+  items-claimed : {r : List Row} {is : List Item} → ClaimItems source r is → itemsOf source r ≡ some is
+  items-claimed no-rows = refl
+  items-claimed (a-row {x = x} {i = i} h k) = rw (item-claimed x i h, items-claimed k) refl
+
+  abbrev ItemsClaimedBy : List Row → Option (List Item) → Type 0
+  ItemsClaimedBy r none = Unit {0}
+  ItemsClaimedBy r (some is) = ClaimItems source r is
+
+  claims-items : (r : List Row) → ItemsClaimedBy r (itemsOf source r)
+  claims-items [] = no-rows
+  claims-items (x ∷ r) = go (itemAt source x) (claims-item x) (itemsOf source r) (claims-items r)
+    where
+      go : (o : Option Item) → ClaimedBy x o → (q : Option (List Item)) → ItemsClaimedBy r q → ItemsClaimedBy (x ∷ r) (onSome (λ i. onSome (λ is. some (i ∷ is)) q) o)
+      go none h q k = tt
+      go (some i) h none k = tt
+      go (some i) h (some is) k = a-row h k
+
+  -- where the fifth numbers are those of the items
+  pub ended-right : (r : List Row) (is : List Item) → afters r ≡ ends 0 is → ended r is ≡ some is
+  unfolding ended
+  ended-right r is e = pass (sameList (afters r) (ends 0 is)) _ _ (rw e (same-refl (ends 0 is))) refl
+
   pub all-claimed : {r : List Row} {is : List Item} → ClaimAll source r is → recordOf source r ≡ some is
-  all-claimed no-rows = refl
-  all-claimed (a-row {x = x} {i = i} h k) = rw (item-claimed x i h, all-claimed k) refl
+  all-claimed {r} {is} h = ap (onSome (ended r)) (items-claimed (h .each)) ∙ ended-right r is (h .fifths)
 
   abbrev AllClaimedBy : List Row → Option (List Item) → Type 0
   AllClaimedBy r none = Unit {0}
   AllClaimedBy r (some is) = ClaimAll source r is
 
   claims-all : (r : List Row) → AllClaimedBy r (recordOf source r)
-  claims-all [] = no-rows
-  claims-all (x ∷ r) = go (itemAt source x) (claims-item x) (recordOf source r) (claims-all r)
+  unfolding ended
+  claims-all r = go (itemsOf source r) (claims-items r)
     where
-      go : (o : Option Item) → ClaimedBy x o → (q : Option (List Item)) → AllClaimedBy r q → AllClaimedBy (x ∷ r) (onSome (λ i. onSome (λ is. some (i ∷ is)) q) o)
-      go none h q k = tt
-      go (some i) h none k = tt
-      go (some i) h (some is) k = a-row h k
+      go : (o : Option (List Item)) → ItemsClaimedBy r o → AllClaimedBy r (onSome (ended r) o)
+      go none h = tt
+      go (some is) h = by-test (AllClaimedBy r) (sameList (afters r) (ends 0 is)) (λ t. record { each = h; fifths = same-eq (afters r) (ends 0 is) t }) (λ t. tt)
 
   -- the rows claim a record exactly when it is the one computed
   pub claims-exactly : (r : List Row) (is : List Item) → ClaimAll source r is ↔ (recordOf source r ≡ some is)

@@ -12,7 +12,8 @@ use Rattle.record.specs.declared.Contents.{Contents}
 use Rattle.record.specs.declared.Contents.the-variants.{Elements, Couples}
 use Rattle.record.specs.Records.{Item, Known}
 use Rattle.record.specs.Answers.{Put, putThen, putMany}
-use Rattle.record.specs.Walked.{Walked, Over, Stuck, walk, behind, onOver, behind-on, Drops, then-drops, walk-then, walk-many-none, walk-many-more, walk-same, walk-within}
+use Rattle.record.specs.Takes.{Drops, then-takes}
+use Rattle.record.specs.Walked.{Walked, Over, Stuck, walk, behind, onOver, behind-on, walk-then, walk-many-none, walk-many-more, walk-same, walk-within}
 
 -- what is left after j values
 unfoldable pub left : Put → Contents → ℕ → Put
@@ -110,7 +111,7 @@ module _ (g : Put) (drops : Drops g) (is : List Item) where
           let q : n - j / 2 ≡ suc (n - (j + 1) / 2 - 1) = omega (arith, eqb-true (j % 2) 0 h) in
           let h′ : eqb ((j + 1) % 2) 0 ≡ false = ne-eqb ((j + 1) % 2) 0 (λ z. omega (arith, eqb-true (j % 2) 0 h)) in
           ap (λ (f : Put). walk f c is k) (even-left n j h ∙ ap (putMany (putThen g g)) q)
-          ∙ walk-many-more c is k (putThen g g) (n - (j + 1) / 2 - 1) (then-drops g g drops drops)
+          ∙ walk-many-more c is k (putThen g g) (n - (j + 1) / 2 - 1) (then-takes drops drops)
           ∙ ap (λ (o : Walked). onOver o (λ e c′. walk (rest (n - (j + 1) / 2 - 1)) c′ is e)) (walk-then c is k g g drops)
           ∙ on-on (walk g c is k) (λ e c′. walk g c′ is e) (λ e c′. walk (rest (n - (j + 1) / 2 - 1)) c′ is e)
           ∙ walk-same c is k g _ _ (λ e c′ l. sym (ap (λ (f : Put). walk f c′ is e) (odd-left n (j + 1) h′) ∙ walk-then c′ is e g (rest (n - (j + 1) / 2 - 1)) drops))

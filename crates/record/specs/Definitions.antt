@@ -104,7 +104,7 @@ module _ (n i : ℕ) (c : Known) (m : List ℕ) (p : ℕ) where
         rest-step (name FieldName) m c (Counted n) i p (ne-eqb i n (λ e. omega arith)) (omega arith)
         ∙ ap (λ (o : Placed One). on o (λ e u c′. run (namesLeft n (i + 1)) c′ m e)) (name-laid c m p 17 FieldName (λ cs. refl) l o q)
 
-    pub names-step : (z u b : ℕ) → measuredAt Utf8 m p ≡ Done z (sized u b) [] tt → run (namesLeft n i) c m p ≡ front (row 17 p u b ∷ []) (run (namesLeft n (i + 1)) c m (p + z))
+    pub names-step : (z u b : ℕ) → measuredAt Utf8 m p ≡ Done z (sized u b) [] tt → run (namesLeft n i) c m p ≡ front (row 17 p u b 1 ∷ []) (run (namesLeft n (i + 1)) c m (p + z))
     names-step z u b q = names-on (Done z (sized u b) [] tt) q
 
     pub names-lost : (x o : ℕ) → measuredAt Utf8 m p ≡ Fault x o → run (namesLeft n i) c m p ≡ Lost x o
@@ -135,8 +135,8 @@ module _ (ℓ : Ceilings) (p : ℕ) (c : Known) (m : List ℕ) (q : ℕ) where
 
     -- the name takes z bytes; the count is at r
     module _ (z u b : ℕ) (h : measuredAt Utf8 m q ≡ Done z (sized u b) [] tt) (r : ℕ) (e : r ≡ q + z) (i : r ≤ length m) where
-      counts : (o : Placed ℕ) → run (count (fieldNames ℓ)) c m r ≡ o → run (definition ℓ p) c m q ≡ topped p Definition (front (row 16 q u b ∷ []) o)
-      counts o y = named (Done z (sized u b) [] tt) h ∙ ap (λ (o : Placed ℕ). topped p Definition (front (row 16 q u b ∷ []) o)) (ap (run (count (fieldNames ℓ)) c m) (sym e) ∙ y)
+      counts : (o : Placed ℕ) → run (count (fieldNames ℓ)) c m r ≡ o → run (definition ℓ p) c m q ≡ topped p Definition (front (row 16 q u b 1 ∷ []) o)
+      counts o y = named (Done z (sized u b) [] tt) h ∙ ap (λ (o : Placed ℕ). topped p Definition (front (row 16 q u b 1 ∷ []) o)) (ap (run (count (fieldNames ℓ)) c m) (sym e) ∙ y)
 
       pub definition-countless : (x o : ℕ) → numberAt Int m r ≡ Fault x o → run (definition ℓ p) c m q ≡ Lost x o
       definition-countless x o y = counts (Lost x o) (count-lost (fieldNames ℓ) c m r i x o y)
@@ -167,7 +167,7 @@ module _ (ℓ : Ceilings) (p : ℕ) (c : Known) (m : List ℕ) (q : ℕ) where
             go (Lost x o) = refl
 
         module _ (v : n < 2 ^ 63) (w : n ≤ ℓ .fields) where
-          pub names-in : (o : Placed ℕ) → run (namesLeft n 0) c m (r + k) ≡ o → run (definition ℓ p) c m q ≡ topped p Definition (front (row 16 q u b ∷ []) (on o (λ e u c′. Got e n [] (defined n c′))))
+          pub names-in : (o : Placed ℕ) → run (namesLeft n 0) c m (r + k) ≡ o → run (definition ℓ p) c m q ≡ topped p Definition (front (row 16 q u b 1 ∷ []) (on o (λ e u c′. Got e n [] (defined n c′))))
           names-in o a =
               counts (on o (λ e u c′. Got e n [] (defined n c′)))
               (names-test v ∙ pick-false _ _ (le-ltb (ℓ .fields) n w) ∙ names-given ∙ ap (λ (o : Placed ℕ). on o (λ e u c′. Got e n [] (defined n c′))) a)
@@ -175,8 +175,8 @@ module _ (ℓ : Ceilings) (p : ℕ) (c : Known) (m : List ℕ) (q : ℕ) where
           pub definition-names-lost : (x o : ℕ) → run (namesLeft n 0) c m (r + k) ≡ Lost x o → run (definition ℓ p) c m q ≡ Lost x o
           definition-names-lost x o a = names-in (Lost x o) a
 
-          pub definition-got : (e j : ℕ) (rs : List Row) → run (namesLeft n 0) c m (r + k) ≡ Got e j rs c → run (definition ℓ p) c m q ≡ Got e tt (row 15 p n 0 ∷ row 16 q u b ∷ rs) (defined n c)
-          definition-got e j rs a = names-in (Got e j rs c) a ∙ ap (λ (l : List Row). Got e tt (row 15 p n 0 ∷ row 16 q u b ∷ l) (defined n c)) (append-nil rs)
+          pub definition-got : (e j : ℕ) (rs : List Row) → run (namesLeft n 0) c m (r + k) ≡ Got e j rs c → run (definition ℓ p) c m q ≡ Got e tt (row 15 p n 0 (suc (suc (length rs))) ∷ row 16 q u b 1 ∷ rs) (defined n c)
+          definition-got e j rs a = names-in (Got e j rs c) a ∙ ap (λ (l : List Row). Got e tt (row 15 p n 0 (suc (suc (length l))) ∷ row 16 q u b 1 ∷ l) (defined n c)) (append-nil rs)
 
 -- ---- a value: any number of definitions, and then what its first byte says
 module _ (ℓ : Ceilings) where

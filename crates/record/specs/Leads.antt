@@ -95,14 +95,14 @@ pub form-lead : (b : ℕ) → b < 256 → (x : Lead) → leadOf b ≡ x → form
 form-lead b l x h = same-is (formOf b) (formBy (leadOf b) b) (every-at 256 (λ b. same (formOf b) (formBy (leadOf b) b)) all-same b l) ∙ ap (λ (y : Lead). formBy y b) h
 
 -- the kind that the chart gives a scalar's first byte is the kind of its row
-pub row-kind : (p : ℕ) (x : Scalar) → itemRow p (Val (Leaf x)) .kind ≡ kindOf (leadFor x)
+pub row-kind : (p e : ℕ) (x : Scalar) → itemRow p e (Val (Leaf x)) .kind ≡ kindOf (leadFor x)
 unfolding kindOf
-row-kind p (Num sort.Null v) = refl
-row-kind p (Num sort.False v) = refl
-row-kind p (Num sort.True v) = refl
-row-kind p (Num sort.Int v) = refl
-row-kind p (Num sort.Long v) = refl
-row-kind p (Num sort.Double v) = refl
-row-kind p (Num sort.Date v) = refl
-row-kind p (Str Utf8 cs) = refl
-row-kind p (Str Binary cs) = refl
+row-kind p e (Num sort.Null v) = refl
+row-kind p e (Num sort.False v) = refl
+row-kind p e (Num sort.True v) = refl
+row-kind p e (Num sort.Int v) = refl
+row-kind p e (Num sort.Long v) = refl
+row-kind p e (Num sort.Double v) = refl
+row-kind p e (Num sort.Date v) = refl
+row-kind p e (Str Utf8 cs) = refl
+row-kind p e (Str Binary cs) = refl

@@ -13,9 +13,15 @@ pub mod Short
 pub mod Back
 pub mod ItemTheorems
 pub mod Claimed
+pub mod Forest
+pub mod Hops
+pub mod HopLaws
+pub mod Nesting
 pub mod Places
+pub mod Spans
 pub mod Same
 pub mod Writing
+pub mod HopTheorems
 pub mod TableLaws
 pub mod Refusals
 pub mod Answering
@@ -31,8 +37,9 @@ pub mod Values
 pub mod Definitions
 pub mod Whole
 pub mod Leads
+pub mod Takes
 pub mod Walked
-pub mod Drops
+pub mod Bare
 pub mod Writes
 pub mod Contents
 pub mod WrittenNames

@@ -105,11 +105,11 @@ laid p R c (Fault x o) = Lost x o
 
 -- the row, of the kind k, of a text of these sizes
 abbrev pub sizesRow : ℕ → ℕ → Sizes → Row
-sizesRow k p s = row k p (s .units) (s .bytes)
+sizesRow k p s = row k p (s .units) (s .bytes) 1
 
 module _ (c : Known) (m : List ℕ) (p : ℕ) where
   -- a string's row says its sizes only
-  pub string-laid : (k : Kind) (x : List ℕ → Item) (R : Sizes → Row) → ((cs : List ℕ) → itemRow p (x cs) ≡ R (sizes k cs)) → topped p x (lone p c (stringAt k m p)) ≡ laid p R c (measuredAt k m p)
+  pub string-laid : (k : Kind) (x : List ℕ → Item) (R : Sizes → Row) → ((cs : List ℕ) → itemRow p 1 (x cs) ≡ R (sizes k cs)) → topped p x (lone p c (stringAt k m p)) ≡ laid p R c (measuredAt k m p)
   unfolding measuredAt
   string-laid k x R e = go (stringAt k m p)
     where
@@ -123,12 +123,12 @@ module _ (c : Known) (m : List ℕ) (p : ℕ) where
       (λ l. run-end (name x) c m p l ∙ ap (topped p x) (sym (run-end textFrom c m p l)))
 
   -- a name, whose row is of the kind k
-  module _ (k : ℕ) (x : List ℕ → Item) (e : (cs : List ℕ) → itemRow p (x cs) ≡ textRow k p cs) (l : p ≤ length m) where
+  module _ (k : ℕ) (x : List ℕ → Item) (e : (cs : List ℕ) → itemRow p 1 (x cs) ≡ textRow k p 1 cs) (l : p ≤ length m) where
     pub name-laid : (o : Answer Sizes) → measuredAt Utf8 m p ≡ o → run (byteAt (name x)) c m p ≡ laid p (sizesRow k p) c o
     unfolding textFrom
     name-laid o h = name-by x ∙ ap (topped p x) (string-run c m p Utf8 l) ∙ string-laid Utf8 x (sizesRow k p) e ∙ ap (laid p (sizesRow k p) c) h
 
-    pub name-got : (n u b : ℕ) → measuredAt Utf8 m p ≡ Done n (sized u b) [] tt → run (byteAt (name x)) c m p ≡ Got (p + n) tt (row k p u b ∷ []) c
+    pub name-got : (n u b : ℕ) → measuredAt Utf8 m p ≡ Done n (sized u b) [] tt → run (byteAt (name x)) c m p ≡ Got (p + n) tt (row k p u b 1 ∷ []) c
     name-got n u b h = name-laid (Done n (sized u b) [] tt) h
 
     pub name-lost : (y o : ℕ) → measuredAt Utf8 m p ≡ Fault y o → run (byteAt (name x)) c m p ≡ Lost y o
@@ -166,14 +166,14 @@ module _ (ℓ : Ceilings) (c : Known) (m : List ℕ) (p : ℕ) where
         type-laid : (o : Answer Sizes) → measuredAt Utf8 m p ≡ o → run (byteAt (typeFrom ℓ)) c m p ≡ through (λ u. c .types) (laid p (sizesRow 18 p) (typed c) o)
         type-laid o h = name-test ∙ pick-true _ _ (lt-ltb (c .types) (ℓ .types) s) ∙ ap (through (λ u. c .types)) (name-laid (typed c) m p 18 TypeName (λ cs. refl) (omega arith) o h)
 
-        pub type-name : (n u b : ℕ) → measuredAt Utf8 m p ≡ Done n (sized u b) [] tt → run (byteAt (typeFrom ℓ)) c m p ≡ Got (p + n) (c .types) (row 18 p u b ∷ []) (typed c)
+        pub type-name : (n u b : ℕ) → measuredAt Utf8 m p ≡ Done n (sized u b) [] tt → run (byteAt (typeFrom ℓ)) c m p ≡ Got (p + n) (c .types) (row 18 p u b 1 ∷ []) (typed c)
         type-name n u b h = type-laid (Done n (sized u b) [] tt) h
 
         pub type-name-lost : (x o : ℕ) → measuredAt Utf8 m p ≡ Fault x o → run (byteAt (typeFrom ℓ)) c m p ≡ Lost x o
         type-name-lost x o h = type-laid (Fault x o) h
 
     module _ (t : isText (getD m p 0) ≡ false) where
-      number-test : (n k : ℕ) → numberAt Int m p ≡ Done n k [] tt → run (byteAt (typeFrom ℓ)) c m p ≡ pick (ltb k (c .types)) (Got (p + n) k (row 19 p k 0 ∷ []) c) (Lost 6 p)
+      number-test : (n k : ℕ) → numberAt Int m p ≡ Done n k [] tt → run (byteAt (typeFrom ℓ)) c m p ≡ pick (ltb k (c .types)) (Got (p + n) k (row 19 p k 0 1 ∷ []) c) (Lost 6 p)
       number-test n k h =
           type-by
           ∙ pick-false _ _ t
@@ -185,7 +185,7 @@ module _ (ℓ : Ceilings) (c : Known) (m : List ℕ) (p : ℕ) where
           ∙ ap (through (λ u. k)) (run-headed p TypeNumber (give k) c m (p + n) ∙ ap (topped p TypeNumber) (run-give k c m (p + n))))
           (run-fail 6 p c m (p + n))
 
-      pub type-number : (n k : ℕ) → numberAt Int m p ≡ Done n k [] tt → k < c .types → run (byteAt (typeFrom ℓ)) c m p ≡ Got (p + n) k (row 19 p k 0 ∷ []) c
+      pub type-number : (n k : ℕ) → numberAt Int m p ≡ Done n k [] tt → k < c .types → run (byteAt (typeFrom ℓ)) c m p ≡ Got (p + n) k (row 19 p k 0 1 ∷ []) c
       type-number n k h s = number-test n k h ∙ pick-true _ _ (lt-ltb k (c .types) s)
 
       pub type-ungiven : (n k : ℕ) → numberAt Int m p ≡ Done n k [] tt → c .types ≤ k → run (byteAt (typeFrom ℓ)) c m p ≡ Lost 6 p

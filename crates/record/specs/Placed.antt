@@ -9,7 +9,20 @@ use lib.ListN.{length, drop, getD, length-drop, drop-of-length-le}
 use lib.Seq.{drop-cons, drop-drop}
 use Rattle.flow.specs.Flow.{pick, Entry, Outcome, Done, Fault, One, then, give, fail, byteAt, changing, asking, mapped, headed, bind}
 use Rattle.flow.specs.Steps.{before, stepped, renamed, top}
-use Rattle.record.specs.Records.{Item, Known, Reader, Opening, Row, itemRow, rows}
+use Rattle.record.specs.Records.{Item, Known, Reader, Opening, Row, row, itemRow, rowsFrom}
+use Rattle.record.specs.RowLaws.{item-moved}
+
+-- rows as a reader knows them: numbered from their own, so that the fifth number is how many rows each opens; and their numbers from k on
+abbrev pub marks : List (Entry Item) → List Row
+marks [] = []
+marks (e ∷ es) = itemRow (e .place) (e .span) (e .item) ∷ marks es
+
+abbrev pub from : ℕ → Row → Row
+from k x = row (x .kind) (x .place) (x .first) (x .second) (k + x .after)
+
+abbrev pub numbered : ℕ → List Row → List Row
+numbered k [] = []
+numbered k (x ∷ r) = from k x ∷ numbered (suc k) r
 
 -- Got: the place of the end, the result, the rows, what is known then. Lost: a refusal's number and place
 pub data Placed (A : Type 0) : Type 0 where
@@ -18,7 +31,7 @@ pub data Placed (A : Type 0) : Type 0 where
 
 module _ {A : Type 0} where
   abbrev pub placed : ℕ → Outcome Known Item A → Placed A
-  placed p (Done n a es c) = Got (p + n) a (rows es) c
+  placed p (Done n a es c) = Got (p + n) a (marks es) c
   placed p (Fault x o) = Lost x o
 
   -- f at the place p of the message m, where c is known
@@ -43,13 +56,35 @@ module _ {A B : Type 0} where
 
 -- the row of an item before the others, by the result
 abbrev pub topped : {A : Type 0} → ℕ → (A → Item) → Placed A → Placed One
-topped p x (Got e a rs c) = Got e tt (itemRow p (x a) ∷ rs) c
+topped p x (Got e a rs c) = Got e tt (itemRow p (suc (length rs)) (x a) ∷ rs) c
 topped p x (Lost y o) = Lost y o
 
 -- ---- rows, and what follows
-rows-append : (es fs : List (Entry Item)) → rows (es ++ fs) ≡ rows es ++ rows fs
-rows-append [] fs = refl
-rows-append (e ∷ es) fs = ap {B = List Row} (λ l. itemRow (e .place) (e .item) ∷ l) (rows-append es fs)
+marks-append : (es fs : List (Entry Item)) → marks (es ++ fs) ≡ marks es ++ marks fs
+marks-append [] fs = refl
+marks-append (e ∷ es) fs = ap {B = List Row} (λ l. itemRow (e .place) (e .span) (e .item) ∷ l) (marks-append es fs)
+
+pub marks-length : (es : List (Entry Item)) → length (marks es) ≡ length es
+marks-length [] = refl
+marks-length (e ∷ es) = ap suc (marks-length es)
+
+pub numbered-append : (k : ℕ) (r q : List Row) → numbered k (r ++ q) ≡ numbered k r ++ numbered (k + length r) q
+numbered-append k [] q = let e : k + 0 ≡ k = omega arith in ap (λ (j : ℕ). numbered j q) (sym e)
+numbered-append k (x ∷ r) q =
+    let e : suc k + length r ≡ k + suc (length r) = omega arith in
+    ap {B = List Row} (λ l. from k x ∷ l) (numbered-append (suc k) r q ∙ ap (λ (j : ℕ). numbered (suc k) r ++ numbered j q) e)
+
+pub numbered-length : (k : ℕ) (r : List Row) → length (numbered k r) ≡ length r
+numbered-length k [] = refl
+numbered-length k (x ∷ r) = ap suc (numbered-length (suc k) r)
+
+pub from-item : (k p e : ℕ) (i : Item) → from k (itemRow p e i) ≡ itemRow p (k + e) i
+from-item k p e i = let s = item-moved p e p e i in
+    ap₂ (λ (q f : ℕ). row (itemRow p e i .kind) q (itemRow p e i .first) (itemRow p e i .second) (k + f)) (ap (λ (x : Row). x .place) s) (ap (λ (x : Row). x .after) s) ∙ sym (item-moved p e p (k + e) i)
+
+pub numbered-marks : (k : ℕ) (es : List (Entry Item)) → numbered k (marks es) ≡ rowsFrom k es
+numbered-marks k [] = refl
+numbered-marks k (e ∷ es) = ap₂ (λ (x : Row) (l : List Row). x ∷ l) (from-item k (e .place) (e .span) (e .item)) (numbered-marks (suc k) es)
 
 module _ {A : Type 0} where
   pub front-none : (o : Placed A) → front [] o ≡ o
@@ -92,12 +127,12 @@ module _ {A B C : Type 0} where
 
 -- ---- one law for each combinator
 module _ {A : Type 0} where
-  placed-before : (p n : ℕ) (es : List (Entry Item)) (o : Outcome Known Item A) → placed p (before n es o) ≡ front (rows es) (placed (p + n) o)
-  placed-before p n es (Done k a fs c) = ap₂ (λ (e : ℕ) (l : List Row). Got e a l c) (sym (add-assoc p n k)) (rows-append es fs)
+  placed-before : (p n : ℕ) (es : List (Entry Item)) (o : Outcome Known Item A) → placed p (before n es o) ≡ front (marks es) (placed (p + n) o)
+  placed-before p n es (Done k a fs c) = ap₂ (λ (e : ℕ) (l : List Row). Got e a l c) (sym (add-assoc p n k)) (marks-append es fs)
   placed-before p n es (Fault x o) = refl
 
   placed-stepped : (p : ℕ) (o : Outcome Known Item A) → placed p (stepped o) ≡ placed (p + 1) o
-  placed-stepped p (Done n a es c) = ap (λ (e : ℕ). Got e a (rows es) c) (omega arith)
+  placed-stepped p (Done n a es c) = ap (λ (e : ℕ). Got e a (marks es) c) (omega arith)
   placed-stepped p (Fault x o) = refl
 
   pub run-give : (a : A) (c : Known) (m : List ℕ) (p : ℕ) → run (give a) c m p ≡ Got p a [] c
@@ -143,7 +178,7 @@ module _ {A : Type 0} where
   run-headed q x f c m p = go (f c p (drop p m))
     where
       go : (o : Outcome Known Item A) → placed p (top q x o) ≡ topped q x (placed p o)
-      go (Done n a es c) = refl
+      go (Done n a es c) = ap (λ (k : ℕ). Got (p + n) tt (itemRow q (suc k) (x a) ∷ marks es) c) (sym (marks-length es))
       go (Fault y o) = refl
 
 module _ {A B : Type 0} where
@@ -162,7 +197,7 @@ module _ {A B : Type 0} where
       go : (o : Outcome Known Item A) → placed p (then o (λ n a es c′. before n es (g a c′ (p + n) (drop n (drop p m))))) ≡ on (placed p o) (λ e a c′. placed e (g a c′ e (drop e m)))
       go (Done n a es c′) =
           placed-before p n es (g a c′ (p + n) (drop n (drop p m)))
-          ∙ ap (λ (s : List ℕ). front (rows es) (placed (p + n) (g a c′ (p + n) s))) (drop-drop n p m)
+          ∙ ap (λ (s : List ℕ). front (marks es) (placed (p + n) (g a c′ (p + n) s))) (drop-drop n p m)
       go (Fault x o) = refl
 
   -- what follows starts no earlier
@@ -171,5 +206,5 @@ module _ {A B : Type 0} where
   run-same f c m p k h s = go (f c p (drop p m))
     where
       go : (o : Outcome Known Item A) → on (placed p o) k ≡ on (placed p o) h
-      go (Done n a es c′) = ap (λ (o : Placed B). front (rows es) o) (s (p + n) a c′ (omega arith))
+      go (Done n a es c′) = ap (λ (o : Placed B). front (marks es) o) (s (p + n) a c′ (omega arith))
       go (Fault x o) = refl

@@ -1,7 +1,7 @@
 -- Records: a message's items, what a message reads as, rows, and what the rows of a table claim.
 use mathlib.Core.{Path._≡_, Bool.cond, Bool._||_, List.List, List.[], List._∷_, List._++_, List.map, Option.Option, Option.none, Option.some}
-use Prim.Native.Nat.{ℕ, zero, suc, _-_, _^_}
-use lib.{Dec.ltb, Dec.eqb, ListN.length, ListN.getD}
+use Prim.Native.Nat.{ℕ, zero, suc, _+_, _-_, _*_, _^_}
+use lib.{Dec.ltb, Dec.eqb, ListN.length, ListN.take, ListN.drop, ListN.getD}
 use Rattle.flow.specs.Flow.{pick, within, Entry, Outcome, Done, Fault, Read, From, One, give, fail, byteAt, changing, asking, mapped, headed, bind, after, many, untilEnd, precededBy}
 use Rattle.scalar.specs.{declared.Kind.the-variants.{Utf8, Binary}, Scalars.{sortKind, units, stringAt, Scalar, Num, Str, isText, scalarFrom, intFrom, textFrom}}
 
@@ -105,35 +105,89 @@ module _ (ℓ : Ceilings) where
   unfoldable pub message : ℕ → Reader One  -- a message: one record, and nothing after it: a byte there is refusal 8
   message d = after (byteAt (valueFrom d)) (λ c at s. elim s [ [] ↦ Done 0 tt [] c | b ∷ t ↦ Fault 8 at ])
 
--- ---- rows: kind, place, first, second. An unused first or second is 0
+-- ---- rows: kind, place, first, second, after. An unused first or second is 0; after is the number of the row just
+-- after the value, definition or single item that the row opens, where a record's rows are numbered from 0
 abbrev pub Row : Type 0
-Row = record { kind : ℕ; place : ℕ; first : ℕ; second : ℕ }
+Row = record { kind : ℕ; place : ℕ; first : ℕ; second : ℕ; after : ℕ }
 
-abbrev pub row : ℕ → ℕ → ℕ → ℕ → Row
-row k p a b = record { kind = k; place = p; first = a; second = b }
+abbrev pub row : ℕ → ℕ → ℕ → ℕ → ℕ → Row
+row k p a b e = record { kind = k; place = p; first = a; second = b; after = e }
 
-abbrev pub textRow : ℕ → ℕ → List ℕ → Row  -- a text's row, of the kind k: UTF-16 units, UTF-8 bytes
-textRow k p cs = row k p (units Utf8 cs) (length cs)
+abbrev pub textRow : ℕ → ℕ → ℕ → List ℕ → Row  -- a text's row, of the kind k: UTF-16 units, UTF-8 bytes
+textRow k p e cs = row k p (units Utf8 cs) (length cs) e
 
--- the row of an item whose first byte stands at p. A scalar's kind: 0 null, 1 false, 2 true, 3 int, 4 long, 5 double, 6 date, 7 text, 8 bytes
-abbrev pub itemRow : ℕ → Item → Row
-itemRow p (Val (Leaf (Num s v))) = row (sortKind s) p v 0
-itemRow p (Val (Leaf (Str Utf8 cs))) = textRow 7 p cs
-itemRow p (Val (Leaf (Str Binary cs))) = row 8 p (length cs) 0
-itemRow p (Val (UntypedList n)) = row 9 p n 0
-itemRow p (Val (TypedList n t)) = row 10 p n t
-itemRow p (Val (UntypedMap n)) = row 11 p n 0
-itemRow p (Val (TypedMap n t)) = row 12 p n t
-itemRow p (Val (Object k n)) = row 13 p k n
-itemRow p (Val (Reference k)) = row 14 p k 0
-itemRow p (Definition n) = row 15 p n 0
-itemRow p (ClassName cs) = textRow 16 p cs
-itemRow p (FieldName cs) = textRow 17 p cs
-itemRow p (TypeName cs) = textRow 18 p cs
-itemRow p (TypeNumber k) = row 19 p k 0
+-- the row of an item whose first byte stands at p, and after which the row e comes. A scalar's kind: 0 null, 1 false,
+-- 2 true, 3 int, 4 long, 5 double, 6 date, 7 text, 8 bytes
+abbrev pub itemRow : ℕ → ℕ → Item → Row
+itemRow p e (Val (Leaf (Num s v))) = row (sortKind s) p v 0 e
+itemRow p e (Val (Leaf (Str Utf8 cs))) = textRow 7 p e cs
+itemRow p e (Val (Leaf (Str Binary cs))) = row 8 p (length cs) 0 e
+itemRow p e (Val (UntypedList n)) = row 9 p n 0 e
+itemRow p e (Val (TypedList n t)) = row 10 p n t e
+itemRow p e (Val (UntypedMap n)) = row 11 p n 0 e
+itemRow p e (Val (TypedMap n t)) = row 12 p n t e
+itemRow p e (Val (Object k n)) = row 13 p k n e
+itemRow p e (Val (Reference k)) = row 14 p k 0 e
+itemRow p e (Definition n) = row 15 p n 0 e
+itemRow p e (ClassName cs) = textRow 16 p e cs
+itemRow p e (FieldName cs) = textRow 17 p e cs
+itemRow p e (TypeName cs) = textRow 18 p e cs
+itemRow p e (TypeNumber k) = row 19 p k 0 e
+
+abbrev pub rowsFrom : ℕ → List (Entry Item) → List Row  -- the rows of entries, numbered from k
+rowsFrom k [] = []
+rowsFrom k (e ∷ es) = itemRow (e .place) (k + e .span) (e .item) ∷ rowsFrom (suc k) es
 
 abbrev pub rows : List (Entry Item) → List Row  -- the rows of a record, in message order
-rows es = map (λ (e : Entry Item). itemRow (e .place) (e .item)) es
+rows es = rowsFrom 0 es
+
+-- ---- the fifth numbers of a record, by its items alone
+-- how many values, names and types an item holds: a type, elements, keys and values, fields; a definition its names
+abbrev pub holds : Item → ℕ
+holds (Val (Leaf x)) = 0
+holds (Val (UntypedList n)) = n
+holds (Val (TypedList n t)) = suc n
+holds (Val (UntypedMap n)) = n * 2
+holds (Val (TypedMap n t)) = suc (n * 2)
+holds (Val (Object k n)) = n
+holds (Val (Reference k)) = 0
+holds (Definition n) = suc n
+holds (ClassName cs) = 0
+holds (FieldName cs) = 0
+holds (TypeName cs) = 0
+holds (TypeNumber k) = 0
+
+-- how many stand after an item and what it holds, and are counted with it: the value, after a definition before it
+abbrev pub begins : Item → ℕ
+begins (Val v) = 0
+begins (Definition n) = 1
+begins (ClassName cs) = 0
+begins (FieldName cs) = 0
+begins (TypeName cs) = 0
+begins (TypeNumber k) = 0
+
+abbrev pub total : List ℕ → ℕ
+total [] = 0
+total (n ∷ l) = n + total l
+
+-- the values, names and types that items are, one after the other, a value with the definitions before it: how many
+-- items each has
+unfoldable pub spans : List Item → List ℕ
+spans [] = []
+spans (i ∷ is) = suc (total (take (holds i + begins i) (spans is))) ∷ drop (holds i + begins i) (spans is)
+
+-- how many items an item opens, itself the first of them, where `is` stand after it; a definition opens its names
+unfoldable pub span : Item → List Item → ℕ
+span (Val v) is = suc (total (take (holds (Val v)) (spans is)))
+span (Definition n) is = suc (suc n)
+span (ClassName cs) is = 1
+span (FieldName cs) is = 1
+span (TypeName cs) is = 1
+span (TypeNumber k) is = 1
+
+abbrev pub ends : ℕ → List Item → List ℕ  -- the fifth numbers of items numbered from k
+ends k [] = []
+ends k (i ∷ is) = (k + span i is) ∷ ends (suc k) is
 
 -- ---- what the rows of a table claim: the items whose rows they are, with the contents that their places open in the source
 abbrev pub valueContent : Value → List ℕ
@@ -153,8 +207,20 @@ contentAt source k p = pick (eqb k 8) (told (stringAt Binary source p)) (pick (e
 
 -- a row claims an item: it is the item's row at its own place, which opens the item's content
 abbrev pub Claims : List ℕ → Row → Item → Type 0
-Claims source x i = record { agrees : itemRow (x .place) i ≡ x; content : contentAt source (x .kind) (x .place) ≡ some (contentOf i) }
+Claims source x i = record {
+  agrees : itemRow (x .place) (x .after) i ≡ x;
+  content : contentAt source (x .kind) (x .place) ≡ some (contentOf i);
+}
 
-pub data ClaimAll (source : List ℕ) : List Row → List Item → Type 0 where
-  no-rows : ClaimAll source [] []
-  a-row : {x : Row} {i : Item} {r : List Row} {is : List Item} → Claims source x i → ClaimAll source r is → ClaimAll source (x ∷ r) (i ∷ is)
+pub data ClaimItems (source : List ℕ) : List Row → List Item → Type 0 where
+  no-rows : ClaimItems source [] []
+  a-row : {x : Row} {i : Item} {r : List Row} {is : List Item} → Claims source x i → ClaimItems source r is
+      → ClaimItems source (x ∷ r) (i ∷ is)
+
+abbrev pub afters : List Row → List ℕ
+afters r = map (λ (x : Row). x .after) r
+
+-- rows claim the items that each of them claims, where their fifth numbers are those of these items
+pub record ClaimAll (source : List ℕ) (r : List Row) (is : List Item) : Type 0 where
+  pub each : ClaimItems source r is
+  pub fifths : afters r ≡ ends 0 is

@@ -45,53 +45,53 @@ pub data OfText : ℕ → (List ℕ → Item) → Type 0 where
   type-name : OfText 18 (λ cs. TypeName cs)
 
 module _ (source : List ℕ) where
-  by-kind : (x : Row) (k : ℕ) → x .kind ≡ k → itemAt source x ≡ itemAt source (row k (x .place) (x .first) (x .second))
-  by-kind x k e = ap (λ (k : ℕ). itemAt source (row k (x .place) (x .first) (x .second))) e
+  by-kind : (x : Row) (k : ℕ) → x .kind ≡ k → itemAt source x ≡ itemAt source (row k (x .place) (x .first) (x .second) (x .after))
+  by-kind x k e = ap (λ (k : ℕ). itemAt source (row k (x .place) (x .first) (x .second) (x .after))) e
 
   -- ---- by the first number: the second is 0
-  first-is : {k : ℕ} {f : ℕ → Item} → OfFirst k f → (p a b : ℕ) → itemAt source (row k p a b) ≡ cond ((eqb p p && (eqb a a && eqb 0 b)) && true) (some (f a)) none
+  first-is : {k : ℕ} {f : ℕ → Item} → OfFirst k f → (p a b z : ℕ) → itemAt source (row k p a b z) ≡ cond ((eqb p p && (eqb a a && eqb 0 b)) && true) (some (f a)) none
   unfolding itemAt ofKind pick contentAt
-  first-is (a-number sort.Null) p a b = refl
-  first-is (a-number sort.False) p a b = refl
-  first-is (a-number sort.True) p a b = refl
-  first-is (a-number sort.Int) p a b = refl
-  first-is (a-number sort.Long) p a b = refl
-  first-is (a-number sort.Double) p a b = refl
-  first-is (a-number sort.Date) p a b = refl
-  first-is untyped-list p a b = refl
-  first-is untyped-map p a b = refl
-  first-is a-reference p a b = refl
-  first-is a-definition p a b = refl
-  first-is type-number p a b = refl
+  first-is (a-number sort.Null) p a b z = refl
+  first-is (a-number sort.False) p a b z = refl
+  first-is (a-number sort.True) p a b z = refl
+  first-is (a-number sort.Int) p a b z = refl
+  first-is (a-number sort.Long) p a b z = refl
+  first-is (a-number sort.Double) p a b z = refl
+  first-is (a-number sort.Date) p a b z = refl
+  first-is untyped-list p a b z = refl
+  first-is untyped-map p a b z = refl
+  first-is a-reference p a b z = refl
+  first-is a-definition p a b z = refl
+  first-is type-number p a b z = refl
 
   module _ {k : ℕ} {f : ℕ → Item} (t : OfFirst k f) (x : Row) (h : x .kind ≡ k) where
     pub first-item : x .second ≡ 0 → itemAt source x ≡ some (f (x .first))
-    first-item e = by-kind x k h ∙ first-is t (x .place) (x .first) (x .second) ∙ rw (eq-eqb (x .place) (x .place) refl, eq-eqb (x .first) (x .first) refl, eq-eqb 0 (x .second) (sym e))
+    first-item e = by-kind x k h ∙ first-is t (x .place) (x .first) (x .second) (x .after) ∙ rw (eq-eqb (x .place) (x .place) refl, eq-eqb (x .first) (x .first) refl, eq-eqb 0 (x .second) (sym e))
 
     pub first-none : (x .second ≡ 0 → ⊥) → itemAt source x ≡ none
-    first-none e = by-kind x k h ∙ first-is t (x .place) (x .first) (x .second) ∙ rw (eq-eqb (x .place) (x .place) refl, eq-eqb (x .first) (x .first) refl, ne-eqb 0 (x .second) (λ z. e (sym z)))
+    first-none e = by-kind x k h ∙ first-is t (x .place) (x .first) (x .second) (x .after) ∙ rw (eq-eqb (x .place) (x .place) refl, eq-eqb (x .first) (x .first) refl, ne-eqb 0 (x .second) (λ z. e (sym z)))
 
   -- ---- by both numbers
-  both-is : {k : ℕ} {f : ℕ → ℕ → Item} → OfBoth k f → (p a b : ℕ) → itemAt source (row k p a b) ≡ cond ((eqb p p && (eqb a a && eqb b b)) && true) (some (f a b)) none
+  both-is : {k : ℕ} {f : ℕ → ℕ → Item} → OfBoth k f → (p a b z : ℕ) → itemAt source (row k p a b z) ≡ cond ((eqb p p && (eqb a a && eqb b b)) && true) (some (f a b)) none
   unfolding itemAt ofKind pick contentAt
-  both-is typed-list p a b = refl
-  both-is typed-map p a b = refl
-  both-is an-object p a b = refl
+  both-is typed-list p a b z = refl
+  both-is typed-map p a b z = refl
+  both-is an-object p a b z = refl
 
   pub both-item : {k : ℕ} {f : ℕ → ℕ → Item} → OfBoth k f → (x : Row) → x .kind ≡ k → itemAt source x ≡ some (f (x .first) (x .second))
   both-item {k} t x h =
-      by-kind x k h ∙ both-is t (x .place) (x .first) (x .second) ∙ rw (eq-eqb (x .place) (x .place) refl, eq-eqb (x .first) (x .first) refl, eq-eqb (x .second) (x .second) refl)
+      by-kind x k h ∙ both-is t (x .place) (x .first) (x .second) (x .after) ∙ rw (eq-eqb (x .place) (x .place) refl, eq-eqb (x .first) (x .first) refl, eq-eqb (x .second) (x .second) refl)
 
   -- ---- by the text at the place: the numbers are its UTF-16 units and UTF-8 bytes
   abbrev texted : (List ℕ → Item) → (a b : ℕ) → List ℕ → (p : ℕ) → Option Item
   texted f a b cs p = cond ((eqb p p && (eqb (units Utf8 cs) a && eqb (length cs) b)) && sameList cs cs) (some (f cs)) none
 
-  text-is : {k : ℕ} {f : List ℕ → Item} → OfText k f → (p a b : ℕ) → itemAt source (row k p a b) ≡ onSome (λ cs. texted f a b cs p) (told (stringAt Utf8 source p))
+  text-is : {k : ℕ} {f : List ℕ → Item} → OfText k f → (p a b z : ℕ) → itemAt source (row k p a b z) ≡ onSome (λ cs. texted f a b cs p) (told (stringAt Utf8 source p))
   unfolding itemAt ofKind pick contentAt
-  text-is a-text p a b = refl
-  text-is class-name p a b = refl
-  text-is field-name p a b = refl
-  text-is type-name p a b = refl
+  text-is a-text p a b z = refl
+  text-is class-name p a b z = refl
+  text-is field-name p a b z = refl
+  text-is type-name p a b z = refl
 
   same-true : (cs : List ℕ) → sameList cs cs ≡ true
   same-true cs = go (sameList cs cs) (same-refl cs)
@@ -102,7 +102,7 @@ module _ (source : List ℕ) where
 
   module _ {k : ℕ} {f : List ℕ → Item} (t : OfText k f) (x : Row) (h : x .kind ≡ k) where
     text-at : (o : Option (List ℕ)) → told (stringAt Utf8 source (x .place)) ≡ o → itemAt source x ≡ onSome (λ cs. texted f (x .first) (x .second) cs (x .place)) o
-    text-at o e = by-kind x k h ∙ text-is t (x .place) (x .first) (x .second) ∙ ap (λ (o : Option (List ℕ)). onSome (λ cs. texted f (x .first) (x .second) cs (x .place)) o) e
+    text-at o e = by-kind x k h ∙ text-is t (x .place) (x .first) (x .second) (x .after) ∙ ap (λ (o : Option (List ℕ)). onSome (λ cs. texted f (x .first) (x .second) cs (x .place)) o) e
 
     pub text-lost : told (stringAt Utf8 source (x .place)) ≡ none → itemAt source x ≡ none
     text-lost e = text-at none e
@@ -153,31 +153,31 @@ module _ (source : List ℕ) where
   pub kind-none : (x : Row) → 20 ≤ x .kind → itemAt source x ≡ none
   kind-none x h = go (itemAt source x) refl
     where
-      kind-of : (p : ℕ) (i : Item) → itemRow p i .kind < 20
-      kind-of p (Val (Leaf (Num sort.Null v))) = omega arith
-      kind-of p (Val (Leaf (Num sort.False v))) = omega arith
-      kind-of p (Val (Leaf (Num sort.True v))) = omega arith
-      kind-of p (Val (Leaf (Num sort.Int v))) = omega arith
-      kind-of p (Val (Leaf (Num sort.Long v))) = omega arith
-      kind-of p (Val (Leaf (Num sort.Double v))) = omega arith
-      kind-of p (Val (Leaf (Num sort.Date v))) = omega arith
-      kind-of p (Val (Leaf (Str Utf8 cs))) = omega arith
-      kind-of p (Val (Leaf (Str Binary cs))) = omega arith
-      kind-of p (Val (UntypedList n)) = omega arith
-      kind-of p (Val (TypedList n t)) = omega arith
-      kind-of p (Val (UntypedMap n)) = omega arith
-      kind-of p (Val (TypedMap n t)) = omega arith
-      kind-of p (Val (Object k n)) = omega arith
-      kind-of p (Val (Reference k)) = omega arith
-      kind-of p (Definition n) = omega arith
-      kind-of p (ClassName cs) = omega arith
-      kind-of p (FieldName cs) = omega arith
-      kind-of p (TypeName cs) = omega arith
-      kind-of p (TypeNumber k) = omega arith
+      kind-of : (p e : ℕ) (i : Item) → itemRow p e i .kind < 20
+      kind-of p e (Val (Leaf (Num sort.Null v))) = omega arith
+      kind-of p e (Val (Leaf (Num sort.False v))) = omega arith
+      kind-of p e (Val (Leaf (Num sort.True v))) = omega arith
+      kind-of p e (Val (Leaf (Num sort.Int v))) = omega arith
+      kind-of p e (Val (Leaf (Num sort.Long v))) = omega arith
+      kind-of p e (Val (Leaf (Num sort.Double v))) = omega arith
+      kind-of p e (Val (Leaf (Num sort.Date v))) = omega arith
+      kind-of p e (Val (Leaf (Str Utf8 cs))) = omega arith
+      kind-of p e (Val (Leaf (Str Binary cs))) = omega arith
+      kind-of p e (Val (UntypedList n)) = omega arith
+      kind-of p e (Val (TypedList n t)) = omega arith
+      kind-of p e (Val (UntypedMap n)) = omega arith
+      kind-of p e (Val (TypedMap n t)) = omega arith
+      kind-of p e (Val (Object k n)) = omega arith
+      kind-of p e (Val (Reference k)) = omega arith
+      kind-of p e (Definition n) = omega arith
+      kind-of p e (ClassName cs) = omega arith
+      kind-of p e (FieldName cs) = omega arith
+      kind-of p e (TypeName cs) = omega arith
+      kind-of p e (TypeNumber k) = omega arith
 
       go : (o : Option Item) → itemAt source x ≡ o → itemAt source x ≡ none
       go none e = e
-      go (some i) e = absurd (omega (arith, kind-of (x .place) i, ap (λ (y : Row). y .kind) (claims-back source x i e .agrees)))
+      go (some i) e = absurd (omega (arith, kind-of (x .place) (x .after) i, ap (λ (y : Row). y .kind) (claims-back source x i e .agrees)))
 
 -- ---- the text or byte string at a place, by what measuring it answers
 -- it takes n bytes; its content is of u units and b bytes

@@ -1,25 +1,30 @@
--- A row's other numbers do not depend on its place.
+-- Rows: the struct of the code, and that a row's other numbers do not depend on its place and its fifth number.
 use mathlib.Core.Path.{_≡_, refl}
 use Prim.Native.Nat.{ℕ}
 use Rattle.scalar.specs.declared.Kind.the-variants.{Utf8, Binary}
 use Rattle.scalar.specs.Scalars.{Num, Str}
 use Rattle.record.specs.Records.{Leaf, UntypedList, TypedList, UntypedMap, TypedMap, Object, Reference, Item, Val, Definition, ClassName, FieldName, TypeName, TypeNumber, Row, row, itemRow}
+use Rattle.record.specs.declared.Row as code
 
-abbrev pub moved : Row → ℕ → Row
-moved x p = row (x .kind) p (x .first) (x .second)
+-- the row that is held in the code's struct
+abbrev pub rowOf : code.Row → Row
+rowOf r = row (r .kind) (r .place) (r .first) (r .second) (r .after)
 
-pub item-moved : (p q : ℕ) (i : Item) → itemRow q i ≡ moved (itemRow p i) q
-item-moved p q (Val (Leaf (Num s v))) = refl
-item-moved p q (Val (Leaf (Str Utf8 cs))) = refl
-item-moved p q (Val (Leaf (Str Binary cs))) = refl
-item-moved p q (Val (UntypedList n)) = refl
-item-moved p q (Val (TypedList n t)) = refl
-item-moved p q (Val (UntypedMap n)) = refl
-item-moved p q (Val (TypedMap n t)) = refl
-item-moved p q (Val (Object k n)) = refl
-item-moved p q (Val (Reference k)) = refl
-item-moved p q (Definition n) = refl
-item-moved p q (ClassName cs) = refl
-item-moved p q (FieldName cs) = refl
-item-moved p q (TypeName cs) = refl
-item-moved p q (TypeNumber k) = refl
+abbrev pub moved : Row → ℕ → ℕ → Row
+moved x p e = row (x .kind) p (x .first) (x .second) e
+
+pub item-moved : (p e q f : ℕ) (i : Item) → itemRow q f i ≡ moved (itemRow p e i) q f
+item-moved p e q f (Val (Leaf (Num s v))) = refl
+item-moved p e q f (Val (Leaf (Str Utf8 cs))) = refl
+item-moved p e q f (Val (Leaf (Str Binary cs))) = refl
+item-moved p e q f (Val (UntypedList n)) = refl
+item-moved p e q f (Val (TypedList n t)) = refl
+item-moved p e q f (Val (UntypedMap n)) = refl
+item-moved p e q f (Val (TypedMap n t)) = refl
+item-moved p e q f (Val (Object k n)) = refl
+item-moved p e q f (Val (Reference k)) = refl
+item-moved p e q f (Definition n) = refl
+item-moved p e q f (ClassName cs) = refl
+item-moved p e q f (FieldName cs) = refl
+item-moved p e q f (TypeName cs) = refl
+item-moved p e q f (TypeNumber k) = refl

@@ -9,10 +9,10 @@ use Rattle.scalar.specs.Scalars.{scaled, whole, magnitude, widened, value, form
 use Rattle.scalar.specs.Scalars.{partHead, lastHeads, charLead, paired, stringFrom, stringAt, longest, content}
 use Rattle.scalar.specs.Scalars.{shortestString, scalarFrom, intFrom, textFrom, shortestScalar}
 use Rattle.scalar.specs.Guesses.{wholeSize, wholeGuess, narrowMagnitude, narrowed, guess}
-use Rattle.record.specs.Records.{typeFrom, plainFrom, definition, valueFrom, message, Row, row, rows, contentAt}
+use Rattle.record.specs.Records.{typeFrom, plainFrom, definition, valueFrom, message, Row, row, rows, spans, span, contentAt}
 use Rattle.record.specs.Answers.{objectCode, putType, putDefinition, putPlainBy, putValue, spell, ReadAnswer, Accept, Refuse, judged, read, WriteAnswer, Wrote, Refused, shortestOf, base}
 use Rattle.record.specs.Terms.{write}
-use Rattle.record.specs.Claimed.{ofKind, itemAt}
+use Rattle.record.specs.Claimed.{ofKind, itemAt, ended}
 
 -- ---- the base: 32 containers open, 262,144 bytes, the open form from 48 elements on
 abbrev pub baseRead : (lent : ℕ) → List ℕ → ReadAnswer
@@ -36,7 +36,7 @@ shortened m = elim (judged base 32 262_144 m) [ Done n u es c ↦ rewritten (bas
 
 -- a sample: what is given, and what comes of it
 pub data Sample : Type 0 where
-  -- a message, and the reader's answer, 2,000 rows lent
+  -- a message, and the reader's answer, 1,600 rows lent
   reads : List ℕ → ReadAnswer → Sample
   -- a message, and what becomes of it
   rewrites : List ℕ → Shortened → Sample
@@ -44,7 +44,7 @@ pub data Sample : Type 0 where
   writes : List ℕ → List Row → WriteAnswer → Sample
 
 abbrev pub computed : Sample → Sample
-computed (reads m a) = reads m (baseRead 2_000 m)
+computed (reads m a) = reads m (baseRead 1_600 m)
 computed (rewrites m a) = rewrites m (shortened m)
 computed (writes source r a) = writes source r (baseWrite 100 source r)
 
@@ -62,10 +62,10 @@ times (suc n) w = w ++ times n w
 abbrev pub marked : List Sample
 marked =
     rewrites (0x49 ∷ 0x00 ∷ 0x00 ∷ 0x01 ∷ 0x2c ∷ []) (Becomes (0xc9 ∷ 0x2c ∷ []))
-    ∷ writes [] (row 3 0 47 0 ∷ []) (Wrote (0xbf ∷ []))
-    ∷ writes [] (row 3 0 48 0 ∷ []) (Wrote (0xc8 ∷ 0x30 ∷ []))
-    ∷ writes [] (row 3 0 18446744073709551599 0 ∷ []) (Wrote (0xc7 ∷ 0xef ∷ []))
-    ∷ writes [] (row 3 0 262_144 0 ∷ []) (Wrote (0x49 ∷ 0x00 ∷ 0x04 ∷ 0x00 ∷ 0x00 ∷ []))
+    ∷ writes [] (row 3 0 47 0 1 ∷ []) (Wrote (0xbf ∷ []))
+    ∷ writes [] (row 3 0 48 0 1 ∷ []) (Wrote (0xc8 ∷ 0x30 ∷ []))
+    ∷ writes [] (row 3 0 18446744073709551599 0 1 ∷ []) (Wrote (0xc7 ∷ 0xef ∷ []))
+    ∷ writes [] (row 3 0 262_144 0 1 ∷ []) (Wrote (0x49 ∷ 0x00 ∷ 0x04 ∷ 0x00 ∷ 0x00 ∷ []))
     ∷ rewrites (0x59 ∷ 0x00 ∷ 0x00 ∷ 0x01 ∷ 0x2c ∷ []) (Becomes (0xf9 ∷ 0x2c ∷ []))
     ∷ rewrites (0x4a ∷ 0x00 ∷ 0x00 ∷ 0x00 ∷ 0xd0 ∷ 0x4b ∷ 0x92 ∷ 0x0b ∷ 0xa0 ∷ []) (Becomes (0x4b ∷ 0x00 ∷ 0xe3 ∷ 0x83 ∷ 0x8f ∷ []))
     ∷ rewrites (0x44 ∷ 0x40 ∷ 0x28 ∷ 0x80 ∷ 0x00 ∷ 0x00 ∷ 0x00 ∷ 0x00 ∷ 0x00 ∷ []) (Becomes (0x5f ∷ 0x41 ∷ 0x44 ∷ 0x00 ∷ 0x00 ∷ []))
@@ -79,29 +79,29 @@ marked =
 -- a class definition and an object of the class, exactly as 01 gives them
 abbrev pub car : List Sample
 car =
-    reads (0x43 ∷ 0x03 ∷ 0x43 ∷ 0x61 ∷ 0x72 ∷ 0x91 ∷ 0x05 ∷ 0x63 ∷ 0x6f ∷ 0x6c ∷ 0x6f ∷ 0x72 ∷ 0x60 ∷ 0x03 ∷ 0x72 ∷ 0x65 ∷ 0x64 ∷ []) (Accept (row 15 0 1 0 ∷ row 16 1 3 3 ∷ row 17 6 5 5 ∷ row 13 12 0 1 ∷ row 7 13 3 3 ∷ []) 17)
+    reads (0x43 ∷ 0x03 ∷ 0x43 ∷ 0x61 ∷ 0x72 ∷ 0x91 ∷ 0x05 ∷ 0x63 ∷ 0x6f ∷ 0x6c ∷ 0x6f ∷ 0x72 ∷ 0x60 ∷ 0x03 ∷ 0x72 ∷ 0x65 ∷ 0x64 ∷ []) (Accept (row 15 0 1 0 3 ∷ row 16 1 3 3 2 ∷ row 17 6 5 5 3 ∷ row 13 12 0 1 5 ∷ row 7 13 3 3 5 ∷ []) 17)
     ∷ []
 
 -- two class definitions before an object of the first: numbers in their order
 abbrev pub classes : List Sample
 classes =
-    reads (0x43 ∷ 0x00 ∷ 0x91 ∷ 0x00 ∷ 0x43 ∷ 0x00 ∷ 0x90 ∷ 0x60 ∷ 0x4e ∷ []) (Accept (row 15 0 1 0 ∷ row 16 1 0 0 ∷ row 17 3 0 0 ∷ row 15 4 0 0 ∷ row 16 5 0 0 ∷ row 13 7 0 1 ∷ row 0 8 0 0 ∷ []) 9)
+    reads (0x43 ∷ 0x00 ∷ 0x91 ∷ 0x00 ∷ 0x43 ∷ 0x00 ∷ 0x90 ∷ 0x60 ∷ 0x4e ∷ []) (Accept (row 15 0 1 0 3 ∷ row 16 1 0 0 2 ∷ row 17 3 0 0 3 ∷ row 15 4 0 0 5 ∷ row 16 5 0 0 5 ∷ row 13 7 0 1 7 ∷ row 0 8 0 0 7 ∷ []) 9)
     ∷ []
 
 -- rows of lists, maps, references, texts and numbers
 abbrev pub accepted : List Sample
 accepted =
-    reads (0x57 ∷ 0x90 ∷ 0x91 ∷ 0x5a ∷ []) (Accept (row 9 0 2 0 ∷ row 3 1 0 0 ∷ row 3 2 1 0 ∷ []) 4)
-    ∷ reads (0x72 ∷ 0x04 ∷ 0x5b ∷ 0x69 ∷ 0x6e ∷ 0x74 ∷ 0x90 ∷ 0x91 ∷ []) (Accept (row 10 0 2 0 ∷ row 18 1 4 4 ∷ row 3 6 0 0 ∷ row 3 7 1 0 ∷ []) 8)
-    ∷ reads (0x7a ∷ 0x4d ∷ 0x01 ∷ 0x61 ∷ 0x5a ∷ 0x4d ∷ 0x90 ∷ 0x5a ∷ []) (Accept (row 9 0 2 0 ∷ row 12 1 0 0 ∷ row 18 2 1 1 ∷ row 12 5 0 0 ∷ row 19 6 0 0 ∷ []) 8)
-    ∷ reads (0x48 ∷ 0x91 ∷ 0x4e ∷ 0x5a ∷ []) (Accept (row 11 0 1 0 ∷ row 3 1 1 0 ∷ row 0 2 0 0 ∷ []) 4)
-    ∷ reads (0x79 ∷ 0x51 ∷ 0x90 ∷ []) (Accept (row 9 0 1 0 ∷ row 14 1 0 0 ∷ []) 3)
-    ∷ reads (0x02 ∷ 0xf0 ∷ 0x9f ∷ 0x98 ∷ 0x80 ∷ []) (Accept (row 7 0 2 4 ∷ []) 5)
-    ∷ reads (0x41 ∷ 0x00 ∷ 0x01 ∷ 0xff ∷ 0x21 ∷ 0x00 ∷ []) (Accept (row 8 0 2 0 ∷ []) 6)
-    ∷ reads (0x49 ∷ 0xff ∷ 0xff ∷ 0xff ∷ 0xff ∷ []) (Accept (row 3 0 18446744073709551615 0 ∷ []) 5)
-    ∷ reads (0x5e ∷ 0x80 ∷ 0x00 ∷ []) (Accept (row 5 0 13898108450065350656 0 ∷ []) 3)
-    ∷ reads (0x5f ∷ 0x00 ∷ 0x00 ∷ 0x00 ∷ 0x01 ∷ []) (Accept (row 5 0 3936146074321813504 0 ∷ []) 5)
-    ∷ reads (0x4b ∷ 0xff ∷ 0xff ∷ 0xff ∷ 0xff ∷ []) (Accept (row 6 0 18446744073709491616 0 ∷ []) 5)
+    reads (0x57 ∷ 0x90 ∷ 0x91 ∷ 0x5a ∷ []) (Accept (row 9 0 2 0 3 ∷ row 3 1 0 0 2 ∷ row 3 2 1 0 3 ∷ []) 4)
+    ∷ reads (0x72 ∷ 0x04 ∷ 0x5b ∷ 0x69 ∷ 0x6e ∷ 0x74 ∷ 0x90 ∷ 0x91 ∷ []) (Accept (row 10 0 2 0 4 ∷ row 18 1 4 4 2 ∷ row 3 6 0 0 3 ∷ row 3 7 1 0 4 ∷ []) 8)
+    ∷ reads (0x7a ∷ 0x4d ∷ 0x01 ∷ 0x61 ∷ 0x5a ∷ 0x4d ∷ 0x90 ∷ 0x5a ∷ []) (Accept (row 9 0 2 0 5 ∷ row 12 1 0 0 3 ∷ row 18 2 1 1 3 ∷ row 12 5 0 0 5 ∷ row 19 6 0 0 5 ∷ []) 8)
+    ∷ reads (0x48 ∷ 0x91 ∷ 0x4e ∷ 0x5a ∷ []) (Accept (row 11 0 1 0 3 ∷ row 3 1 1 0 2 ∷ row 0 2 0 0 3 ∷ []) 4)
+    ∷ reads (0x79 ∷ 0x51 ∷ 0x90 ∷ []) (Accept (row 9 0 1 0 2 ∷ row 14 1 0 0 2 ∷ []) 3)
+    ∷ reads (0x02 ∷ 0xf0 ∷ 0x9f ∷ 0x98 ∷ 0x80 ∷ []) (Accept (row 7 0 2 4 1 ∷ []) 5)
+    ∷ reads (0x41 ∷ 0x00 ∷ 0x01 ∷ 0xff ∷ 0x21 ∷ 0x00 ∷ []) (Accept (row 8 0 2 0 1 ∷ []) 6)
+    ∷ reads (0x49 ∷ 0xff ∷ 0xff ∷ 0xff ∷ 0xff ∷ []) (Accept (row 3 0 18446744073709551615 0 1 ∷ []) 5)
+    ∷ reads (0x5e ∷ 0x80 ∷ 0x00 ∷ []) (Accept (row 5 0 13898108450065350656 0 1 ∷ []) 3)
+    ∷ reads (0x5f ∷ 0x00 ∷ 0x00 ∷ 0x00 ∷ 0x01 ∷ []) (Accept (row 5 0 3936146074321813504 0 1 ∷ []) 5)
+    ∷ reads (0x4b ∷ 0xff ∷ 0xff ∷ 0xff ∷ 0xff ∷ []) (Accept (row 6 0 18446744073709491616 0 1 ∷ []) 5)
     ∷ []
 
 -- ---- refusals, by number
@@ -214,21 +214,21 @@ list-forms =
 abbrev pub no-records : List Sample
 no-records =
     writes [] [] (Refused 10 0)
-    ∷ writes [] (row 3 0 5 1 ∷ []) (Refused 10 0)
-    ∷ writes [] (row 20 0 0 0 ∷ []) (Refused 10 0)
-    ∷ writes (0x90 ∷ []) (row 7 0 0 0 ∷ []) (Refused 10 0)
-    ∷ writes (0x01 ∷ 0x61 ∷ []) (row 7 0 2 1 ∷ []) (Refused 10 0)
-    ∷ writes (0x01 ∷ 0x61 ∷ []) (row 8 0 1 0 ∷ []) (Refused 10 0)
-    ∷ writes [] (row 9 0 1 0 ∷ []) (Refused 10 0)
-    ∷ writes [] (row 14 0 0 0 ∷ []) (Refused 10 0)
-    ∷ writes [] (row 3 0 2147483648 0 ∷ []) (Refused 10 0)
+    ∷ writes [] (row 3 0 5 1 1 ∷ []) (Refused 10 0)
+    ∷ writes [] (row 20 0 0 0 1 ∷ []) (Refused 10 0)
+    ∷ writes (0x90 ∷ []) (row 7 0 0 0 1 ∷ []) (Refused 10 0)
+    ∷ writes (0x01 ∷ 0x61 ∷ []) (row 7 0 2 1 1 ∷ []) (Refused 10 0)
+    ∷ writes (0x01 ∷ 0x61 ∷ []) (row 8 0 1 0 1 ∷ []) (Refused 10 0)
+    ∷ writes [] (row 9 0 1 0 1 ∷ []) (Refused 10 0)
+    ∷ writes [] (row 14 0 0 0 1 ∷ []) (Refused 10 0)
+    ∷ writes [] (row 3 0 2147483648 0 1 ∷ []) (Refused 10 0)
     ∷ []
 
 -- a text row serves wherever its place opens a complete text: inside other bytes too
 abbrev pub placed : List Sample
 placed =
-    writes (0x40 ∷ 0x01 ∷ 0x61 ∷ []) (row 7 1 1 1 ∷ []) (Wrote (0x01 ∷ 0x61 ∷ []))
-    ∷ writes (0x40 ∷ 0x21 ∷ 0x61 ∷ []) (row 8 1 1 0 ∷ []) (Wrote (0x21 ∷ 0x61 ∷ []))
+    writes (0x40 ∷ 0x01 ∷ 0x61 ∷ []) (row 7 1 1 1 1 ∷ []) (Wrote (0x01 ∷ 0x61 ∷ []))
+    ∷ writes (0x40 ∷ 0x21 ∷ 0x61 ∷ []) (row 8 1 1 0 1 ∷ []) (Wrote (0x21 ∷ 0x61 ∷ []))
     ∷ []
 
 -- ---- 2026-04: pairs of halves
@@ -243,7 +243,7 @@ four = 0xf0 ∷ 0x90 ∷ 0x80 ∷ 0x80 ∷ []
 -- Java library writes it, beside its four bytes. The characters below the halves and byte strings are as before
 abbrev pub pairs-read : List Sample
 pairs-read =
-    reads (0x02 ∷ pair) (Accept (row 7 0 2 4 ∷ []) 7)
+    reads (0x02 ∷ pair) (Accept (row 7 0 2 4 1 ∷ []) 7)
     ∷ rewrites (0x02 ∷ pair) (Becomes (0x02 ∷ four))
     ∷ rewrites (0x02 ∷ 0xed ∷ 0xaf ∷ 0xbf ∷ 0xed ∷ 0xbf ∷ 0xbf ∷ []) (Becomes (0x02 ∷ 0xf4 ∷ 0x8f ∷ 0xbf ∷ 0xbf ∷ []))
     ∷ rewrites (0x03 ∷ 0x41 ∷ pair) (Becomes (0x03 ∷ 0x41 ∷ four))
@@ -322,32 +322,68 @@ pairs-in-names =
 -- the writer compares a row's second number with the length in four-byte UTF-8
 abbrev pub pairs-in-rows : List Sample
 pairs-in-rows =
-    writes (0x02 ∷ pair) (row 7 0 2 4 ∷ []) (Wrote (0x02 ∷ four))
-    ∷ writes (0x02 ∷ pair) (row 7 0 2 6 ∷ []) (Refused 10 0)
+    writes (0x02 ∷ pair) (row 7 0 2 4 1 ∷ []) (Wrote (0x02 ∷ four))
+    ∷ writes (0x02 ∷ pair) (row 7 0 2 6 1 ∷ []) (Refused 10 0)
+    ∷ []
+
+-- ---- 2026-07: the fifth number
+-- a definition ends with its names, before the value that it stands before; a list ends after the definitions in it, a typed
+-- one after its type and its last value
+abbrev pub fifths-read : List Sample
+fifths-read =
+    reads (0x43 ∷ 0x00 ∷ 0x90 ∷ 0x90 ∷ []) (Accept (row 15 0 0 0 2 ∷ row 16 1 0 0 2 ∷ row 3 3 0 0 3 ∷ []) 4)
+    ∷ reads (0x7a ∷ 0x43 ∷ 0x00 ∷ 0x90 ∷ 0x60 ∷ 0x60 ∷ [])
+    (Accept (row 9 0 2 0 5 ∷ row 15 1 0 0 3 ∷ row 16 2 0 0 3 ∷ row 13 4 0 0 4 ∷ row 13 5 0 0 5 ∷ []) 6)
+    ∷ reads (0x79 ∷ 0x7a ∷ 0x90 ∷ 0x78 ∷ []) (Accept (row 9 0 1 0 4 ∷ row 9 1 2 0 4 ∷ row 3 2 0 0 3 ∷ row 9 3 0 0 4 ∷ []) 4)
+    ∷ reads (0x4d ∷ 0x01 ∷ 0x61 ∷ 0x90 ∷ 0x91 ∷ 0x5a ∷ [])
+    (Accept (row 12 0 1 0 4 ∷ row 18 1 1 1 2 ∷ row 3 3 0 0 3 ∷ row 3 4 1 0 4 ∷ []) 6)
+    ∷ []
+
+-- another fifth number is no record: of a single item, of an element, of a list, of a definition (that of the value after it),
+-- of a name
+abbrev pub fifths-judged : List Sample
+fifths-judged =
+    writes [] (row 3 0 0 0 0 ∷ []) (Refused 10 0)
+    ∷ writes [] (row 3 0 0 0 2 ∷ []) (Refused 10 0)
+    ∷ writes [] (row 3 0 0 0 18446744073709551615 ∷ []) (Refused 10 0)
+    ∷ writes [] (row 9 0 1 0 2 ∷ row 3 0 0 0 2 ∷ []) (Wrote (0x79 ∷ 0x90 ∷ []))
+    ∷ writes [] (row 9 0 1 0 1 ∷ row 3 0 0 0 2 ∷ []) (Refused 10 0)
+    ∷ writes [] (row 9 0 1 0 3 ∷ row 3 0 0 0 2 ∷ []) (Refused 10 0)
+    ∷ writes [] (row 9 0 1 0 2 ∷ row 3 0 0 0 1 ∷ []) (Refused 10 0)
+    ∷ writes (0x00 ∷ []) (row 15 0 0 0 2 ∷ row 16 0 0 0 2 ∷ row 0 0 0 0 3 ∷ []) (Wrote (0x43 ∷ 0x00 ∷ 0x90 ∷ 0x4e ∷ []))
+    ∷ writes (0x00 ∷ []) (row 15 0 0 0 3 ∷ row 16 0 0 0 2 ∷ row 0 0 0 0 3 ∷ []) (Refused 10 0)
+    ∷ writes (0x00 ∷ []) (row 15 0 0 0 2 ∷ row 16 0 0 0 3 ∷ row 0 0 0 0 3 ∷ []) (Refused 10 0)
     ∷ []
 
 -- ---- they hold
 pub marked-hold : Hold marked
 unfolding judged message valueFrom plainFrom definition typeFrom pick scalarFrom intFrom textFrom stringFrom formsOf formAt value whole widened magnitude scaled leadingZeros partHead lastHeads charLead
-    write shortestOf itemAt ofKind contentAt stringAt spell putValue putPlainBy putDefinition putType objectCode shortestScalar shortest guess wholeGuess wholeSize narrowed narrowMagnitude shortestString content longest
+    write shortestOf ended span spans itemAt ofKind contentAt stringAt spell putValue putPlainBy putDefinition putType objectCode shortestScalar shortest guess wholeGuess wholeSize narrowed narrowMagnitude shortestString content longest
 marked-hold = refl
 
 pub samples-hold : Hold (car ++ (classes ++ (accepted ++ (refused-1 ++ (refused-2 ++ (refused-3 ++ (refused-4 ++ (refused-5 ++ (refused-6 ++ (refused-7 ++ (refused-8 ++ (written ++ (list-forms ++ (no-records ++ placed))))))))))))))
 unfolding judged message valueFrom plainFrom definition typeFrom pick scalarFrom intFrom textFrom stringFrom formsOf formAt value whole widened magnitude scaled leadingZeros partHead lastHeads charLead
-    write shortestOf itemAt ofKind contentAt stringAt spell putValue putPlainBy putDefinition putType objectCode shortestScalar shortest guess wholeGuess wholeSize narrowed narrowMagnitude shortestString content longest
+    write shortestOf ended span spans itemAt ofKind contentAt stringAt spell putValue putPlainBy putDefinition putType objectCode shortestScalar shortest guess wholeGuess wholeSize narrowed narrowMagnitude shortestString content longest
 samples-hold = refl
 
 pub pairs-hold : Hold (pairs-read ++ (pairs-cut ++ (high-halves ++ (low-halves
     ++ (pairs-in-chunks ++ (pairs-in-names ++ pairs-in-rows))))))
 unfolding judged message valueFrom plainFrom definition typeFrom pick scalarFrom intFrom textFrom stringFrom formsOf
-    formAt value whole widened magnitude scaled leadingZeros partHead lastHeads charLead paired write shortestOf itemAt
-    ofKind contentAt stringAt spell putValue putPlainBy putDefinition putType objectCode shortestScalar shortest guess
+    formAt value whole widened magnitude scaled leadingZeros partHead lastHeads charLead paired write shortestOf ended
+    span spans itemAt ofKind contentAt stringAt spell putValue putPlainBy putDefinition putType objectCode shortestScalar shortest guess
     wholeGuess wholeSize narrowed narrowMagnitude shortestString content longest
 pairs-hold = refl
 
+pub fifths-hold : Hold (fifths-read ++ fifths-judged)
+unfolding judged message valueFrom plainFrom definition typeFrom pick scalarFrom intFrom textFrom stringFrom formsOf
+    formAt value whole widened magnitude scaled leadingZeros partHead lastHeads charLead write shortestOf ended span spans
+    itemAt ofKind contentAt stringAt spell putValue putPlainBy putDefinition putType objectCode shortestScalar shortest
+    guess wholeGuess wholeSize narrowed narrowMagnitude shortestString content longest
+fifths-hold = refl
+
 -- lengths: a message too long for the ceiling, fewer rows lent than needed; a source too long, a shortest message too long, fewer bytes lent than needed
 pub lengths : (read base 32 3 9 (0x7b ∷ 0x90 ∷ 0x90 ∷ 0x90 ∷ []) ≡ Refuse 1 0 0) × (baseRead 1 (0x79 ∷ 0x90 ∷ []) ≡ Refuse 9 2 0)
-    × (write base 48 32 1 9 (0x90 ∷ 0x90 ∷ []) [] ≡ Refused 1 0) × (write base 48 32 1 9 [] (row 3 0 48 0 ∷ []) ≡ Refused 1 0) × (baseWrite 1 [] (row 3 0 48 0 ∷ []) ≡ Refused 9 2)
+    × (write base 48 32 1 9 (0x90 ∷ 0x90 ∷ []) [] ≡ Refused 1 0) × (write base 48 32 1 9 [] (row 3 0 48 0 1 ∷ []) ≡ Refused 1 0) × (baseWrite 1 [] (row 3 0 48 0 1 ∷ []) ≡ Refused 9 2)
 unfolding judged message valueFrom plainFrom definition typeFrom pick scalarFrom intFrom textFrom stringFrom formsOf formAt value whole widened magnitude scaled leadingZeros partHead lastHeads charLead
-    write shortestOf itemAt ofKind contentAt stringAt spell putValue putPlainBy putDefinition putType objectCode shortestScalar shortest guess wholeGuess wholeSize narrowed narrowMagnitude shortestString content longest
+    write shortestOf ended span spans itemAt ofKind contentAt stringAt spell putValue putPlainBy putDefinition putType objectCode shortestScalar shortest guess wholeGuess wholeSize narrowed narrowMagnitude shortestString content longest
 lengths = (refl, refl, refl, refl, refl)

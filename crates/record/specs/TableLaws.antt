@@ -41,6 +41,7 @@ pub record Fits (r : Row) : Type 0 where
   pub place : r .place < 2 ^ 64
   pub first : r .first < 2 ^ 64
   pub second : r .second < 2 ^ 64
+  pub after : r .after < 2 ^ 64
 
 pub numbers-sound : (r : Row) → Sound asNumbers r
 numbers-sound r = record { sized = refl; back = refl }
@@ -48,32 +49,36 @@ numbers-sound r = record { sized = refl; back = refl }
 be-back : (n : ℕ) → n < 2 ^ 64 → joined 0 (be 8 n) ≡ n
 be-back n l = let e : high 8 n ≡ 0 = omega arith in ap (λ (u : ℕ). joined u (be 8 n)) (sym e) ∙ joined-be 8 n
 
--- four parts of eight
-pub record Parts (a b c d : List ℕ) : Type 0 where
-  pub all : length (a ++ (b ++ (c ++ d))) ≡ 32
-  pub one : take 8 (a ++ (b ++ (c ++ d))) ≡ a
-  pub two : take 8 (drop 8 (a ++ (b ++ (c ++ d)))) ≡ b
-  pub three : take 8 (drop 16 (a ++ (b ++ (c ++ d)))) ≡ c
-  pub four : take 8 (drop 24 (a ++ (b ++ (c ++ d)))) ≡ d
+-- five parts of eight
+pub record Parts (a b c d e : List ℕ) : Type 0 where
+  pub all : length (a ++ (b ++ (c ++ (d ++ e)))) ≡ 40
+  pub one : take 8 (a ++ (b ++ (c ++ (d ++ e)))) ≡ a
+  pub two : take 8 (drop 8 (a ++ (b ++ (c ++ (d ++ e))))) ≡ b
+  pub three : take 8 (drop 16 (a ++ (b ++ (c ++ (d ++ e))))) ≡ c
+  pub four : take 8 (drop 24 (a ++ (b ++ (c ++ (d ++ e))))) ≡ d
+  pub five : take 8 (drop 32 (a ++ (b ++ (c ++ (d ++ e))))) ≡ e
 
-parts : (a b c d : List ℕ) → length a ≡ 8 → length b ≡ 8 → length c ≡ 8 → length d ≡ 8 → Parts a b c d
-parts a b c d ha hb hc hd =
-    let x = a ++ (b ++ (c ++ d)) in
-    let e8 : drop 8 (a ++ (b ++ (c ++ d))) ≡ b ++ (c ++ d) = drop-at a (b ++ (c ++ d)) 8 ha in
-    let e16 : drop 16 (a ++ (b ++ (c ++ d))) ≡ c ++ d = sym (drop-drop 8 8 x) ∙ ap (drop 8) e8 ∙ drop-at b (c ++ d) 8 hb in
-    let e24 : drop 24 (a ++ (b ++ (c ++ d))) ≡ d = sym (drop-drop 8 16 x) ∙ ap (drop 8) e16 ∙ drop-at c d 8 hc in
+parts : (a b c d e : List ℕ) → length a ≡ 8 → length b ≡ 8 → length c ≡ 8 → length d ≡ 8 → length e ≡ 8 → Parts a b c d e
+parts a b c d e ha hb hc hd he =
+    let x = a ++ (b ++ (c ++ (d ++ e))) in
+    let e8 : drop 8 (a ++ (b ++ (c ++ (d ++ e)))) ≡ b ++ (c ++ (d ++ e)) = drop-at a (b ++ (c ++ (d ++ e))) 8 ha in
+    let e16 : drop 16 (a ++ (b ++ (c ++ (d ++ e)))) ≡ c ++ (d ++ e) = sym (drop-drop 8 8 x) ∙ ap (drop 8) e8 ∙ drop-at b (c ++ (d ++ e)) 8 hb in
+    let e24 : drop 24 (a ++ (b ++ (c ++ (d ++ e)))) ≡ d ++ e = sym (drop-drop 8 16 x) ∙ ap (drop 8) e16 ∙ drop-at c (d ++ e) 8 hc in
+    let e32 : drop 32 (a ++ (b ++ (c ++ (d ++ e)))) ≡ e = sym (drop-drop 8 24 x) ∙ ap (drop 8) e24 ∙ drop-at d e 8 hd in
     record {
-      all = length-append a (b ++ (c ++ d)) ∙ omega (arith, length-append b (c ++ d), length-append c d);
-      one = take-at a (b ++ (c ++ d)) 8 ha;
-      two = ap (take 8) e8 ∙ take-at b (c ++ d) 8 hb;
-      three = ap (take 8) e16 ∙ take-at c d 8 hc;
-      four = ap (take 8) e24 ∙ take-all 8 d (omega arith);
+      all = length-append a (b ++ (c ++ (d ++ e))) ∙ omega (arith, length-append b (c ++ (d ++ e)), length-append c (d ++ e), length-append d e);
+      one = take-at a (b ++ (c ++ (d ++ e))) 8 ha;
+      two = ap (take 8) e8 ∙ take-at b (c ++ (d ++ e)) 8 hb;
+      three = ap (take 8) e16 ∙ take-at c (d ++ e) 8 hc;
+      four = ap (take 8) e24 ∙ take-at d e 8 hd;
+      five = ap (take 8) e32 ∙ take-all 8 e (omega arith);
     }
 
-row-parts : (r : Row) → Parts (be 8 (r .kind)) (be 8 (r .place)) (be 8 (r .first)) (be 8 (r .second))
-row-parts r = parts (be 8 (r .kind)) (be 8 (r .place)) (be 8 (r .first)) (be 8 (r .second)) (be-length 8 (r .kind)) (be-length 8 (r .place)) (be-length 8 (r .first)) (be-length 8 (r .second))
+row-parts : (r : Row) → Parts (be 8 (r .kind)) (be 8 (r .place)) (be 8 (r .first)) (be 8 (r .second)) (be 8 (r .after))
+row-parts r =
+    parts (be 8 (r .kind)) (be 8 (r .place)) (be 8 (r .first)) (be 8 (r .second)) (be 8 (r .after)) (be-length 8 (r .kind)) (be-length 8 (r .place)) (be-length 8 (r .first)) (be-length 8 (r .second)) (be-length 8 (r .after))
 
-pub bytes-sized : (r : Row) → length (asBytes .encode r) ≡ 32
+pub bytes-sized : (r : Row) → length (asBytes .encode r) ≡ asBytes .width
 bytes-sized r = row-parts r .all
 
 pub bytes-sound : (r : Row) → Fits r → Sound asBytes r
@@ -83,7 +88,8 @@ bytes-sound r h =
     let b = ap (joined 0) (p .two) ∙ be-back (r .place) (h .place) in
     let c = ap (joined 0) (p .three) ∙ be-back (r .first) (h .first) in
     let d = ap (joined 0) (p .four) ∙ be-back (r .second) (h .second) in
-    record { sized = p .all; back = λ i. row (a i) (b i) (c i) (d i) }
+    let e = ap (joined 0) (p .five) ∙ be-back (r .after) (h .after) in
+    record { sized = p .all; back = λ i. row (a i) (b i) (c i) (d i) (e i) }
 
 pub all-numbers : (rs : List Row) → All (Sound asNumbers) rs
 all-numbers [] = tt

@@ -39,8 +39,8 @@ stringLead Utf8 = lead.Text
 stringLead Binary = lead.Bytes
 
 abbrev stringRow : Kind → ℕ → Sizes → Row
-stringRow Utf8 p s = row 7 p (s .units) (s .bytes)
-stringRow Binary p s = row 8 p (s .bytes) 0
+stringRow Utf8 p s = row 7 p (s .units) (s .bytes) 1
+stringRow Binary p s = row 8 p (s .bytes) 0 1
 
 -- the reading by the form of the first byte
 run-plain : (ℓ : Ceilings) (below : Option (Opening One)) (c : Known) (m : List ℕ) (p : ℕ) (x : Form) → formOf (getD m p 0) ≡ x → run (plainFrom ℓ below p (getD m p 0)) c m (p + 1) ≡ run (plainBy ℓ below x p (getD m p 0)) c m (p + 1)
@@ -55,17 +55,17 @@ module _ (ℓ : Ceilings) (below : Option (Opening One)) (c : Known) (m : List �
       ∙ ap (λ (o : Outcome Known Item Scalar). topped p (λ x. Val (Leaf x)) (placed (p + 1) o)) (scalar-by p (getD m p 0) c (p + 1) (drop (p + 1) m) ∙ ap (λ (y : Lead). scalarBy y p (getD m p 0) c (p + 1) (drop (p + 1) m)) e)
 
   module _ (s : Sort) (x : leadOf (getD m p 0) ≡ lead.Number s) where
-    number-laid : (o : Answer ℕ) → numberAt s m p ≡ o → run (plainFrom ℓ below p (getD m p 0)) c m (p + 1) ≡ laid p (λ v. row (sortKind s) p v 0) c o
+    number-laid : (o : Answer ℕ) → numberAt s m p ≡ o → run (plainFrom ℓ below p (getD m p 0)) c m (p + 1) ≡ laid p (λ v. row (sortKind s) p v 0 1) c o
     number-laid o e =
         leaf-by (lead.Number s) x
         ∙ ap (topped p (λ x. Val (Leaf x))) (run-mapped (Num s) (numberFrom (formsOf s) p (getD m p 0)) c m (p + 1) ∙ ap (through (Num s)) (number-behind c m p l s ∙ ap (lone p c) e))
         ∙ go o
       where
-        go : (o : Answer ℕ) → topped p (λ x. Val (Leaf x)) (through (Num s) (lone p c o)) ≡ laid p (λ v. row (sortKind s) p v 0) c o
+        go : (o : Answer ℕ) → topped p (λ x. Val (Leaf x)) (through (Num s) (lone p c o)) ≡ laid p (λ v. row (sortKind s) p v 0 1) c o
         go (Done n v es u) = refl
         go (Fault x o) = refl
 
-    pub leaf-number : (n v : ℕ) → numberAt s m p ≡ Done n v [] tt → run (plainFrom ℓ below p (getD m p 0)) c m (p + 1) ≡ Got (p + n) tt (row (sortKind s) p v 0 ∷ []) c
+    pub leaf-number : (n v : ℕ) → numberAt s m p ≡ Done n v [] tt → run (plainFrom ℓ below p (getD m p 0)) c m (p + 1) ≡ Got (p + n) tt (row (sortKind s) p v 0 1 ∷ []) c
     leaf-number n v e = number-laid (Done n v [] tt) e
 
     pub leaf-number-lost : (y o : ℕ) → numberAt s m p ≡ Fault y o → run (plainFrom ℓ below p (getD m p 0)) c m (p + 1) ≡ Lost y o
@@ -84,17 +84,17 @@ module _ (ℓ : Ceilings) (below : Option (Opening One)) (c : Known) (m : List �
         scalar-is Utf8 = refl
         scalar-is Binary = refl
 
-        row-is : (k : Kind) (cs : List ℕ) → itemRow p (Val (Leaf (Str k cs))) ≡ stringRow k p (sizes k cs)
+        row-is : (k : Kind) (cs : List ℕ) → itemRow p 1 (Val (Leaf (Str k cs))) ≡ stringRow k p (sizes k cs)
         row-is Utf8 cs = refl
         row-is Binary cs = refl
 
     pub leaf-string-lost : (y o : ℕ) → measuredAt k m p ≡ Fault y o → run (plainFrom ℓ below p (getD m p 0)) c m (p + 1) ≡ Lost y o
     leaf-string-lost y o e = string-is (Fault y o) e
 
-  pub leaf-text : leadOf (getD m p 0) ≡ lead.Text → (n u b : ℕ) → measuredAt Utf8 m p ≡ Done n (sized u b) [] tt → run (plainFrom ℓ below p (getD m p 0)) c m (p + 1) ≡ Got (p + n) tt (row 7 p u b ∷ []) c
+  pub leaf-text : leadOf (getD m p 0) ≡ lead.Text → (n u b : ℕ) → measuredAt Utf8 m p ≡ Done n (sized u b) [] tt → run (plainFrom ℓ below p (getD m p 0)) c m (p + 1) ≡ Got (p + n) tt (row 7 p u b 1 ∷ []) c
   leaf-text x n u b e = string-is Utf8 x (Done n (sized u b) [] tt) e
 
-  pub leaf-bytes : leadOf (getD m p 0) ≡ lead.Bytes → (n u b : ℕ) → measuredAt Binary m p ≡ Done n (sized u b) [] tt → run (plainFrom ℓ below p (getD m p 0)) c m (p + 1) ≡ Got (p + n) tt (row 8 p b 0 ∷ []) c
+  pub leaf-bytes : leadOf (getD m p 0) ≡ lead.Bytes → (n u b : ℕ) → measuredAt Binary m p ≡ Done n (sized u b) [] tt → run (plainFrom ℓ below p (getD m p 0)) c m (p + 1) ≡ Got (p + n) tt (row 8 p b 0 1 ∷ []) c
   leaf-bytes x n u b e = string-is Binary x (Done n (sized u b) [] tt) e
 
   pub leaf-none : isScalar (getD m p 0) ≡ false → run (plainFrom ℓ below p (getD m p 0)) c m (p + 1) ≡ Lost 3 p
@@ -116,7 +116,7 @@ module _ (ℓ : Ceilings) (below : Option (Opening One)) (c : Known) (m : List �
       ∙ run-test (ltb k (c .references)) (give k) (fail 6 p) c m (p + 1 + n)
       ∙ ap₂ (λ (x y : Placed ℕ). pick (ltb k (c .references)) x y) (run-give k c m (p + 1 + n)) (run-fail 6 p c m (p + 1 + n))
 
-  pub reference-got : (n k : ℕ) → numberAt Int m (p + 1) ≡ Done n k [] tt → k < c .references → run (plainFrom ℓ below p (getD m p 0)) c m (p + 1) ≡ Got (p + 1 + n) tt (row 14 p k 0 ∷ []) c
+  pub reference-got : (n k : ℕ) → numberAt Int m (p + 1) ≡ Done n k [] tt → k < c .references → run (plainFrom ℓ below p (getD m p 0)) c m (p + 1) ≡ Got (p + 1 + n) tt (row 14 p k 0 1 ∷ []) c
   reference-got n k e s = reference-by ∙ ap (topped p (λ k. Val (Reference k))) (reference-test n k e ∙ pick-true _ _ (lt-ltb k (c .references) s))
 
   pub reference-ungiven : (n k : ℕ) → numberAt Int m (p + 1) ≡ Done n k [] tt → c .references ≤ k → run (plainFrom ℓ below p (getD m p 0)) c m (p + 1) ≡ Lost 6 p

@@ -1,81 +1,242 @@
 -- The writer at an index of the rows: the items that rows claim, up to the first row that claims none, and what is written from an
 -- item on. One law for each combinator of the spelling.
-use mathlib.Core.Path.{_≡_, refl, sym, ap, subst, _∙_}
+use mathlib.Core.Path.{_≡_, refl, sym, ap, ap₂, subst, _∙_}
 use mathlib.Core.Bool.{Bool, true, false, _&&_}
 use mathlib.Core.List.{List, [], _∷_, _++_, append-assoc}
 use mathlib.Core.Option.{Option, none, some}
 use Prim.Native.Nat.{ℕ, zero, suc, _+_, _-_, _≤_, _<_}
 use native.Mathlib.Omega.{arith}
-use lib.ListN.{length, drop, getD, length-drop, drop-of-length-le}
-use lib.Seq.{drop-cons, drop-drop}
-use Rattle.flow.specs.Tests.{split}
-use Rattle.record.specs.Records.{Item, Definition, Known, Row, row}
+use lib.ListN.{length, take, drop, getD, length-append, length-drop, take-append-drop, drop-of-length-le}
+use lib.Seq.{drop-cons, drop-at, drop-nil}
+use lib.Dec.{eqb}
+use native.Mathlib.Nat.{zero-add}
+use borrow.Author.Tests.{eq-eqb, eqb-true}
+use Rattle.flow.specs.Flow.{pick, within}
+use Rattle.scalar.specs.declared.Sort.the-variants as sort
+use Rattle.scalar.specs.declared.Kind.the-variants.{Utf8, Binary}
+use Rattle.scalar.specs.Scalars.{Num, Str}
+use Rattle.flow.specs.Tests.{split, pick-true, pick-false, pick-either}
+use Rattle.record.specs.Records.{Value, Leaf, UntypedList, TypedList, UntypedMap, TypedMap, Object, Reference, Item, Val, Definition, ClassName, FieldName, TypeName, TypeNumber, Known, Row, row, itemRow, span, ends, afters}
 use Rattle.record.specs.Answers.{Spelling, Spelled, NoRecord, Put, putThen, putMany, putBytes, putIf, putItem}
 use Rattle.record.specs.Shorthands.{prefixed, onSpelled}
-use Rattle.record.specs.Claimed.{onSome, itemAt, recordOf}
+use Rattle.record.specs.Claimed.{onSome, itemAt, itemsOf, claims-back}
+use Rattle.record.specs.Takes.{Taken, no-record, taken, Drops, bytes-takes}
+
+-- a list, map or object
+abbrev pub holding : Value → Bool
+holding (Leaf x) = false
+holding (UntypedList n) = true
+holding (TypedList n t) = true
+holding (UntypedMap n) = true
+holding (TypedMap n t) = true
+holding (Object j n) = true
+holding (Reference j) = false
 
 -- ---- the items that rows claim, up to the first row that claims none
 abbrev claimedBy : Option Item → List Item → List Item
 claimedBy none is = []
 claimedBy (some i) is = i ∷ is
 
+-- the fifth number of the row k, where it is not judged by what the row holds: a definition's is past its names, that of a single item past itself
+abbrev pub plainly : ℕ → Row → Bool
+plainly k x = pick (within 9 14 (x .kind)) true (pick (eqb (x .kind) 15) (eqb (x .after) (k + 2 + x .first)) (eqb (x .after) (k + 1)))
+
 module _ (source : List ℕ) where
+  abbrev pub claimAt : ℕ → Row → Option Item
+  claimAt k x = pick (plainly k x) (itemAt source x) none
+
+  -- of rows numbered from b
+  unfoldable pub claimedFrom : ℕ → List Row → List Item
+  claimedFrom b [] = []
+  claimedFrom b (x ∷ r) = claimedBy (claimAt b x) (claimedFrom (suc b) r)
+
   unfoldable pub claimed : List Row → List Item
-  claimed [] = []
-  claimed (x ∷ r) = claimedBy (itemAt source x) (claimed r)
+  claimed r = claimedFrom 0 r
 
   -- the row k
   abbrev pub rowAt : List Row → ℕ → Row
-  rowAt r k = getD r k (row 0 0 0 0)
+  rowAt r k = getD r k (row 0 0 0 0 0)
 
-  pub claimed-few : (r : List Row) → length (claimed r) ≤ length r
-  unfolding claimed
-  claimed-few [] = omega arith
-  claimed-few (x ∷ r) = go (itemAt source x) (claimed-few r)
+  few-from : (b : ℕ) (r : List Row) → length (claimedFrom b r) ≤ length r
+  unfolding claimedFrom
+  few-from b [] = omega arith
+  few-from b (x ∷ r) = go (claimAt b x) (few-from (suc b) r)
     where
-      go : (o : Option Item) → length (claimed r) ≤ length r → length (claimedBy o (claimed r)) ≤ suc (length r)
+      go : (o : Option Item) → length (claimedFrom (suc b) r) ≤ length r → length (claimedBy o (claimedFrom (suc b) r)) ≤ suc (length r)
       go none h = omega arith
       go (some i) h = omega arith
 
-  -- what the row k claims, where those before it claim something
-  pub claimed-at : (r : List Row) (k : ℕ) → k < length r → k ≤ length (claimed r) → drop k (claimed r) ≡ claimedBy (itemAt source (rowAt r k)) (drop (suc k) (claimed r))
+  pub claimed-few : (r : List Row) → length (claimed r) ≤ length r
   unfolding claimed
-  claimed-at [] k l h = absurd (omega arith)
-  claimed-at (x ∷ r) zero l h = go (itemAt source x)
+  claimed-few r = few-from 0 r
+
+  -- what the row k claims, where those before it claim something
+  at-from : (b : ℕ) (r : List Row) (k : ℕ) → k < length r → k ≤ length (claimedFrom b r) → drop k (claimedFrom b r) ≡ claimedBy (claimAt (b + k) (rowAt r k)) (drop (suc k) (claimedFrom b r))
+  unfolding claimedFrom
+  at-from b [] k l h = absurd (omega arith)
+  at-from b (x ∷ r) zero l h = let e : b ≡ b + 0 = omega arith in go (claimAt b x) ∙ ap (λ (j : ℕ). claimedBy (claimAt j x) (drop 1 (claimedBy (claimAt b x) (claimedFrom (suc b) r)))) e
     where
-      go : (o : Option Item) → claimedBy o (claimed r) ≡ claimedBy o (drop 1 (claimedBy o (claimed r)))
+      go : (o : Option Item) → claimedBy o (claimedFrom (suc b) r) ≡ claimedBy o (drop 1 (claimedBy o (claimedFrom (suc b) r)))
       go none = refl
       go (some i) = refl
-  claimed-at (x ∷ r) (suc k) l h = go (itemAt source x) (λ i. claimed-at r k (omega arith) i) h
+  at-from b (x ∷ r) (suc k) l h = let e : suc b + k ≡ b + suc k = omega arith in
+      go (claimAt b x) (λ i. at-from (suc b) r k (omega arith) i ∙ ap (λ (j : ℕ). claimedBy (claimAt j (rowAt r k)) (drop (suc k) (claimedFrom (suc b) r))) e) h
     where
-      go : (o : Option Item) → (k ≤ length (claimed r) → drop k (claimed r) ≡ claimedBy (itemAt source (rowAt r k)) (drop (suc k) (claimed r)))
-          → suc k ≤ length (claimedBy o (claimed r)) → drop (suc k) (claimedBy o (claimed r)) ≡ claimedBy (itemAt source (rowAt r k)) (drop (suc (suc k)) (claimedBy o (claimed r)))
+      go : (o : Option Item) → (k ≤ length (claimedFrom (suc b) r) → drop k (claimedFrom (suc b) r) ≡ claimedBy (claimAt (b + suc k) (rowAt r k)) (drop (suc k) (claimedFrom (suc b) r)))
+          → suc k ≤ length (claimedBy o (claimedFrom (suc b) r))
+          → drop (suc k) (claimedBy o (claimedFrom (suc b) r)) ≡ claimedBy (claimAt (b + suc k) (rowAt r k)) (drop (suc (suc k)) (claimedBy o (claimedFrom (suc b) r)))
       go none f h = absurd (omega arith)
       go (some i) f h = f (omega arith)
+
+  pub claimed-at : (r : List Row) (k : ℕ) → k < length r → k ≤ length (claimed r) → drop k (claimed r) ≡ claimedBy (claimAt k (rowAt r k)) (drop (suc k) (claimed r))
+  unfolding claimed
+  claimed-at r k l h = at-from 0 r k l h ∙ ap (λ (j : ℕ). claimedBy (claimAt j (rowAt r k)) (drop (suc k) (claimed r))) (zero-add k)
 
   pub claimed-end : (r : List Row) (k : ℕ) → length r ≤ k → drop k (claimed r) ≡ []
   claimed-end r k l = let q : length (claimed r) ≤ k = omega (arith, claimed-few r) in drop-of-length-le (claimed r) q
 
-  -- all of them, or fewer
-  pub claimed-all : (r : List Row) (is : List Item) → recordOf source r ≡ some is → claimed r ≡ is
-  unfolding claimed
-  claimed-all [] is e = cc
-  claimed-all (x ∷ r) is e = go (itemAt source x) (recordOf source r) (λ js h. claimed-all r js h) e
-    where
-      go : (o : Option Item) (q : Option (List Item)) → ((js : List Item) → q ≡ some js → claimed r ≡ js) → onSome (λ i. onSome (λ is. some (i ∷ is)) q) o ≡ some is → claimedBy o (claimed r) ≡ is
-      go none q h e = let z : _≡_ {A = ℕ} 0 1 = cc in absurd (omega arith)
-      go (some i) none h e = let z : _≡_ {A = ℕ} 0 1 = cc in absurd (omega arith)
-      go (some i) (some js) h e = let f : i ∷ js ≡ is = cc in ap (λ (l : List Item). i ∷ l) (h js refl) ∙ f
+  -- ---- all of them, or fewer
+  -- where the fifth number is right, it is so plainly
+  item-plainly : (k p e : ℕ) (i : Item) (is : List Item) → e ≡ k + span i is → plainly k (itemRow p e i) ≡ true
+  unfolding pick span
+  item-plainly k p e (Val (Leaf (Num sort.Null v))) is h = eq-eqb e (k + 1) h
+  item-plainly k p e (Val (Leaf (Num sort.False v))) is h = eq-eqb e (k + 1) h
+  item-plainly k p e (Val (Leaf (Num sort.True v))) is h = eq-eqb e (k + 1) h
+  item-plainly k p e (Val (Leaf (Num sort.Int v))) is h = eq-eqb e (k + 1) h
+  item-plainly k p e (Val (Leaf (Num sort.Long v))) is h = eq-eqb e (k + 1) h
+  item-plainly k p e (Val (Leaf (Num sort.Double v))) is h = eq-eqb e (k + 1) h
+  item-plainly k p e (Val (Leaf (Num sort.Date v))) is h = eq-eqb e (k + 1) h
+  item-plainly k p e (Val (Leaf (Str Utf8 cs))) is h = eq-eqb e (k + 1) h
+  item-plainly k p e (Val (Leaf (Str Binary cs))) is h = eq-eqb e (k + 1) h
+  item-plainly k p e (Val (UntypedList n)) is h = refl
+  item-plainly k p e (Val (TypedList n t)) is h = refl
+  item-plainly k p e (Val (UntypedMap n)) is h = refl
+  item-plainly k p e (Val (TypedMap n t)) is h = refl
+  item-plainly k p e (Val (Object j n)) is h = refl
+  item-plainly k p e (Val (Reference j)) is h = eq-eqb e (k + 1) h
+  item-plainly k p e (Definition n) is h = eq-eqb e (k + 2 + n) (omega arith)
+  item-plainly k p e (ClassName cs) is h = eq-eqb e (k + 1) h
+  item-plainly k p e (FieldName cs) is h = eq-eqb e (k + 1) h
+  item-plainly k p e (TypeName cs) is h = eq-eqb e (k + 1) h
+  item-plainly k p e (TypeNumber j) is h = eq-eqb e (k + 1) h
 
-  pub claimed-short : (r : List Row) → recordOf source r ≡ none → length (claimed r) < length r
-  unfolding claimed
-  claimed-short [] e = let z : _≡_ {A = ℕ} 0 1 = cc in absurd (omega arith)
-  claimed-short (x ∷ r) e = go (itemAt source x) (recordOf source r) (claimed-short r) e
+  -- and the other way round, but for lists, maps and objects
+  plainly-item : (k p e : ℕ) (i : Item) (is : List Item) → plainly k (itemRow p e i) ≡ true → ((v : Value) → i ≡ Val v → holding v ≡ true → e ≡ k + span i is) → e ≡ k + span i is
+  unfolding pick span
+  plainly-item k p e (Val (Leaf (Num sort.Null v))) is h f = eqb-true e (k + 1) h
+  plainly-item k p e (Val (Leaf (Num sort.False v))) is h f = eqb-true e (k + 1) h
+  plainly-item k p e (Val (Leaf (Num sort.True v))) is h f = eqb-true e (k + 1) h
+  plainly-item k p e (Val (Leaf (Num sort.Int v))) is h f = eqb-true e (k + 1) h
+  plainly-item k p e (Val (Leaf (Num sort.Long v))) is h f = eqb-true e (k + 1) h
+  plainly-item k p e (Val (Leaf (Num sort.Double v))) is h f = eqb-true e (k + 1) h
+  plainly-item k p e (Val (Leaf (Num sort.Date v))) is h f = eqb-true e (k + 1) h
+  plainly-item k p e (Val (Leaf (Str Utf8 cs))) is h f = eqb-true e (k + 1) h
+  plainly-item k p e (Val (Leaf (Str Binary cs))) is h f = eqb-true e (k + 1) h
+  plainly-item k p e (Val (UntypedList n)) is h f = f (UntypedList n) refl refl
+  plainly-item k p e (Val (TypedList n t)) is h f = f (TypedList n t) refl refl
+  plainly-item k p e (Val (UntypedMap n)) is h f = f (UntypedMap n) refl refl
+  plainly-item k p e (Val (TypedMap n t)) is h f = f (TypedMap n t) refl refl
+  plainly-item k p e (Val (Object j n)) is h f = f (Object j n) refl refl
+  plainly-item k p e (Val (Reference j)) is h f = eqb-true e (k + 1) h
+  plainly-item k p e (Definition n) is h f = omega (arith, eqb-true e (k + 2 + n) h)
+  plainly-item k p e (ClassName cs) is h f = eqb-true e (k + 1) h
+  plainly-item k p e (FieldName cs) is h f = eqb-true e (k + 1) h
+  plainly-item k p e (TypeName cs) is h f = eqb-true e (k + 1) h
+  plainly-item k p e (TypeNumber j) is h f = eqb-true e (k + 1) h
+
+  module _ (k : ℕ) (x : Row) (i : Item) (h : itemAt source x ≡ some i) (is : List Item) where
+    right-plainly : x .after ≡ k + span i is → plainly k x ≡ true
+    right-plainly e = subst (λ (y : Row). plainly k y ≡ true) (claims-back source x i h .agrees) (item-plainly k (x .place) (x .after) i is e)
+
+    plainly-right : plainly k x ≡ true → ((v : Value) → i ≡ Val v → holding v ≡ true → x .after ≡ k + span i is) → x .after ≡ k + span i is
+    plainly-right e f = plainly-item k (x .place) (x .after) i is (subst (λ (y : Row). plainly k y ≡ true) (sym (claims-back source x i h .agrees)) e) f
+
+  all-from : (b : ℕ) (r : List Row) (is : List Item) → itemsOf source r ≡ some is → afters r ≡ ends b is → claimedFrom b r ≡ is
+  unfolding claimedFrom
+  all-from b [] is e f = cc
+  all-from b (x ∷ r) is e f = go (λ js d v. all-from (suc b) r js d v) (itemAt source x) refl (itemsOf source r) refl e
     where
-      go : (o : Option Item) (q : Option (List Item)) → (q ≡ none → length (claimed r) < length r) → onSome (λ i. onSome (λ is. some (i ∷ is)) q) o ≡ none → length (claimedBy o (claimed r)) < suc (length r)
-      go none q h e = omega arith
-      go (some i) none h e = omega (arith, h refl)
-      go (some i) (some js) h e = let z : _≡_ {A = ℕ} 0 1 = cc in absurd (omega arith)
+      go : ((js : List Item) → itemsOf source r ≡ some js → afters r ≡ ends (suc b) js → claimedFrom (suc b) r ≡ js) → (o : Option Item) → itemAt source x ≡ o → (q : Option (List Item)) → itemsOf source r ≡ q → onSome (λ i. onSome (λ is. some (i ∷ is)) q) o ≡ some is → claimedBy (pick (plainly b x) (itemAt source x) none) (claimedFrom (suc b) r) ≡ is
+      go m none a q d e = let z : _≡_ {A = ℕ} 0 1 = cc in absurd (omega arith)
+      go m (some i) a none d e = let z : _≡_ {A = ℕ} 0 1 = cc in absurd (omega arith)
+      go m (some i) a (some js) d e =
+          let g : i ∷ js ≡ is = cc in
+          let t : x .after ∷ afters r ≡ ends b (i ∷ js) = f ∙ ap (ends b) (sym g) in
+          let u : x .after ≡ b + span i js = cc in
+          let v : afters r ≡ ends (suc b) js = cc in
+          ap (λ (o : Option Item). claimedBy o (claimedFrom (suc b) r)) (pick-true _ _ (right-plainly b x i a js u) ∙ a) ∙ ap {B = List Item} (λ l. i ∷ l) (m js d v) ∙ g
+
+  pub claimed-all : (r : List Row) (is : List Item) → itemsOf source r ≡ some is → afters r ≡ ends 0 is → claimed r ≡ is
+  unfolding claimed
+  claimed-all r is e f = all-from 0 r is e f
+
+  short-from : (b : ℕ) (r : List Row) → itemsOf source r ≡ none → length (claimedFrom b r) < length r
+  unfolding claimedFrom
+  short-from b [] e = let z : _≡_ {A = ℕ} 0 1 = cc in absurd (omega arith)
+  short-from b (x ∷ r) e = go (itemAt source x) (itemsOf source r) (short-from (suc b) r) e (plainly b x)
+    where
+      go : (o : Option Item) (q : Option (List Item)) → (q ≡ none → length (claimedFrom (suc b) r) < length r) → onSome (λ i. onSome (λ is. some (i ∷ is)) q) o ≡ none → (t : Bool)
+          → length (claimedBy (pick t o none) (claimedFrom (suc b) r)) < suc (length r)
+      go none q h e t = pick-either (λ (o : Option Item). length (claimedBy o (claimedFrom (suc b) r)) < suc (length r)) t (λ z. omega arith) (λ z. omega arith)
+      go (some i) none h e t = pick-either (λ (o : Option Item). length (claimedBy o (claimedFrom (suc b) r)) < suc (length r)) t (λ z. omega (arith, h refl)) (λ z. omega arith)
+      go (some i) (some js) h e t = let z : _≡_ {A = ℕ} 0 1 = cc in absurd (omega arith)
+
+  pub claimed-short : (r : List Row) → itemsOf source r ≡ none → length (claimed r) < length r
+  unfolding claimed
+  claimed-short r e = short-from 0 r e
+
+  -- where each row claims an item; and all fifth numbers are right, where those of lists, maps and objects are
+  abbrev Held : ℕ → List Row → List Item → Type 0
+  Held b r is = (j : ℕ) (v : Value) (js : List Item) → drop j is ≡ Val v ∷ js → holding v ≡ true → rowAt r j .after ≡ b + j + span (Val v) js
+
+  abbrev Full : ℕ → List Row → List Item → Type 0
+  Full b r is = (claimedFrom b r ≡ is) × (Held b r is → afters r ≡ ends b is)
+
+  full-from : (b : ℕ) (r : List Row) (is : List Item) → itemsOf source r ≡ some is → length r ≤ length (claimedFrom b r) → Full b r is
+  unfolding claimedFrom
+  full-from b [] is e l = let q : [] ≡ is = cc in (q, λ f. ap (ends b) q)
+  full-from b (x ∷ r) is e l = go (λ js d k. full-from (suc b) r js d k) (itemAt source x) refl (itemsOf source r) refl e (plainly b x) refl l
+    where
+      go : ((js : List Item) → itemsOf source r ≡ some js → length r ≤ length (claimedFrom (suc b) r) → Full (suc b) r js) → (o : Option Item) → itemAt source x ≡ o → (q : Option (List Item)) → itemsOf source r ≡ q
+          → onSome (λ i. onSome (λ is. some (i ∷ is)) q) o ≡ some is → (t : Bool) → plainly b x ≡ t
+          → suc (length r) ≤ length (claimedBy (pick t (itemAt source x) none) (claimedFrom (suc b) r)) → (claimedBy (pick t (itemAt source x) none) (claimedFrom (suc b) r) ≡ is) × (Held b (x ∷ r) is → x .after ∷ afters r ≡ ends b is)
+      go m none a q d e t p l = let z : _≡_ {A = ℕ} 0 1 = cc in absurd (omega arith)
+      go m (some i) a none d e t p l = let z : _≡_ {A = ℕ} 0 1 = cc in absurd (omega arith)
+      go m (some i) a (some js) d e false p l =
+          let y : length (claimedBy (pick false (itemAt source x) none) (claimedFrom (suc b) r)) ≡ 0 = ap (λ (o : Option Item). length (claimedBy o (claimedFrom (suc b) r))) (pick-false (itemAt source x) none refl) in
+          absurd (omega arith)
+      go m (some i) a (some js) d e true p l =
+          let g : i ∷ js ≡ is = cc in
+          let c = ap (λ (o : Option Item). claimedBy o (claimedFrom (suc b) r)) (pick-true (itemAt source x) none refl ∙ a) in
+          let h = m js d (omega (arith, ap length c)) in (
+            c ∙ ap {B = List Item} (λ l. i ∷ l) (h .0) ∙ g,
+            λ f.
+                let u = plainly-right b x i a js p (λ v q w. let s : b + 0 ≡ b = omega arith in
+                f 0 v js (sym g ∙ ap {B = List Item} (λ z. z ∷ js) q) w ∙ ap (λ (m : ℕ). m + span (Val v) js) s ∙ ap (λ (z : Item). b + span z js) (sym q)) in
+                let y = h .1 (λ j v ks u w. let s : suc b + j ≡ b + suc j = omega arith in f (suc j) v ks (ap (drop (suc j)) (sym g) ∙ u) w ∙ ap (λ (m : ℕ). m + span (Val v) ks) (sym s)) in
+                ap₂ (λ (m : ℕ) (l : List ℕ). m ∷ l) u y ∙ ap (ends b) g,
+          )
+
+  pub claimed-full : (r : List Row) (is : List Item) → itemsOf source r ≡ some is → length r ≤ length (claimed r)
+      → (claimed r ≡ is) × (((j : ℕ) (v : Value) (js : List Item) → drop j is ≡ Val v ∷ js → holding v ≡ true → rowAt r j .after ≡ j + span (Val v) js) → afters r ≡ ends 0 is)
+  unfolding claimed
+  claimed-full r is e l = let h = full-from 0 r is e l in (h .0, λ f. h .1 (λ j v js a w. f j v js a w ∙ ap (λ (m : ℕ). m + span (Val v) js) (sym (zero-add j))))
+
+-- the fifth number of the row j, where the fifth numbers are those of the items
+pub ends-at : (source : List ℕ) (b : ℕ) (r : List Row) (is : List Item) → afters r ≡ ends b is → (j : ℕ) (i : Item) (js : List Item) → drop j is ≡ i ∷ js → rowAt source r j .after ≡ b + j + span i js
+ends-at source b [] [] e j i js a = let n = ap length (sym (drop-nil j) ∙ a) in absurd (omega (arith, n))
+ends-at source b [] (y ∷ ys) e j i js a = let z : _≡_ {A = ℕ} 0 1 = cc in absurd (omega arith)
+ends-at source b (x ∷ r) [] e j i js a = let z : _≡_ {A = ℕ} 0 1 = cc in absurd (omega arith)
+ends-at source b (x ∷ r) (y ∷ ys) e zero i js a =
+    let p : y ≡ i = cc in
+    let q : ys ≡ js = cc in
+    let u : x .after ≡ b + span y ys = cc in
+    let s : b + span i js ≡ b + 0 + span i js = omega arith in
+    u ∙ ap₂ (λ (z : Item) (l : List Item). b + span z l) p q ∙ s
+ends-at source b (x ∷ r) (y ∷ ys) e (suc j) i js a =
+    let v : afters r ≡ ends (suc b) ys = cc in
+    let s : suc b + j + span i js ≡ b + suc j + span i js = omega arith in
+    ends-at source (suc b) r ys v j i js a ∙ s
 
 -- the item i stands at k; none does
 abbrev pub At : List Item → ℕ → Item → Type 0
@@ -92,10 +253,10 @@ at-or-end is k f g = split k (length is) (λ l. f (getD is k (Definition 0)) (dr
 
 -- by what the row k claims
 module _ (source : List ℕ) (r : List Row) (k : ℕ) where
-  pub row-at : k < length r → k ≤ length (claimed source r) → (i : Item) → itemAt source (rowAt source r k) ≡ some i → At (claimed source r) k i
+  pub row-at : k < length r → k ≤ length (claimed source r) → (i : Item) → claimAt source k (rowAt source r k) ≡ some i → At (claimed source r) k i
   row-at l h i e = claimed-at source r k l h ∙ ap (λ (o : Option Item). claimedBy o (drop (suc k) (claimed source r))) e
 
-  pub row-none : k < length r → k ≤ length (claimed source r) → itemAt source (rowAt source r k) ≡ none → End (claimed source r) k
+  pub row-none : k < length r → k ≤ length (claimed source r) → claimAt source k (rowAt source r k) ≡ none → End (claimed source r) k
   row-none l h e = claimed-at source r k l h ∙ ap (λ (o : Option Item). claimedBy o (drop (suc k) (claimed source r))) e
 
   pub row-end : length r ≤ k → End (claimed source r) k
@@ -135,61 +296,12 @@ pub behind-on : (w : List ℕ) (o : Walked) (g : ℕ → Known → Walked) → b
 behind-on w (Over v e c) g = behind-behind w v (g e c)
 behind-on w Stuck g = refl
 
--- ---- the items that are left are the last ones
-abbrev pub Dropped : List Item → Spelling → Type 0
-Dropped s (Spelled w r c) = (j : ℕ) × (r ≡ drop j s)
-Dropped s NoRecord = Unit {0}
-
-abbrev pub Drops : Put → Type 0
-Drops f = (c : Known) (s : List Item) → Dropped s (f c s)
-
-prefixed-drops : (w : List ℕ) (s : List Item) (o : Spelling) → Dropped s o → Dropped s (prefixed w o)
-prefixed-drops w s (Spelled v r c) h = h
-prefixed-drops w s NoRecord h = tt
-
-pub later-drops : (s : List Item) (j : ℕ) (o : Spelling) → Dropped (drop j s) o → Dropped s o
-later-drops s j (Spelled w r c) h = (j + h .0, h .1 ∙ drop-drop (h .0) j s)
-later-drops s j NoRecord h = tt
-
-pub then-drops : (f g : Put) → Drops f → Drops g → Drops (putThen f g)
-then-drops f g h k c s = go (f c s) (h c s)
-  where
-    go : (o : Spelling) → Dropped s o → Dropped s (onSpelled o (λ w r′ c′. prefixed w (g c′ r′)))
-    go (Spelled w r c′) (j, e) = prefixed-drops w s (g c′ r) (later-drops s j (g c′ r) (subst (λ (x : List Item). Dropped x (g c′ r)) e (k c′ r)))
-    go NoRecord t = tt
-
-pub nothing-drops : (w : List ℕ) → Drops (λ c r. Spelled w r c)
-nothing-drops w c s = (0, refl)
-
-pub many-drops : (f : Put) → Drops f → (n : ℕ) → Drops (putMany f n)
-many-drops f h zero c s = (0, refl)
-many-drops f h (suc n) c s = then-drops f (putMany f n) h (many-drops f h n) c s
-
-pub bytes-drops : (o : Option (List ℕ)) → Drops (putBytes o)
-bytes-drops none c s = tt
-bytes-drops (some w) c s = (0, refl)
-
-pub if-drops : (t : Bool) (g : Put) → Drops g → Drops (putIf t g)
-if-drops true g h c s = h c s
-if-drops false g h c s = tt
-
-pub item-drops : {A : Type 0} (part : Item → Option A) (g : A → Put) → ((a : A) → Drops (g a)) → Drops (putItem part g)
-item-drops part g h c [] = tt
-item-drops {A} part g h c (x ∷ r) = go (part x)
-  where
-    go : (o : Option A) → Dropped (x ∷ r) (elim o [ none ↦ NoRecord | some a ↦ g a c r ])
-    go none = tt
-    go (some a) = later-drops (x ∷ r) 1 (g a c r) (h a c r)
-
--- so they are those from an index on
-last-from : (is r : List Item) (n : ℕ) → r ≡ drop n is → r ≡ drop (length is - length r) is
-last-from is r n e =
-    let l = ap length e ∙ length-drop n is in
-    split n (length is)
-    (λ i. let q : n ≡ length is - length r = omega arith in e ∙ ap (λ (j : ℕ). drop j is) q)
-    (λ i. let q : length is - length r ≡ length is = omega arith in
-    let w : length is ≤ length is = omega arith in
-    e ∙ drop-of-length-le is i ∙ sym (ap (λ (j : ℕ). drop j is) q ∙ drop-of-length-le is w))
+-- ---- the items that are left are those from an index on
+last-from : (is r : List Item) (k : ℕ) (t : List Item) → drop k is ≡ t ++ r → r ≡ drop (length is - length r) is
+last-from is r k t e =
+    let f = take k is ++ t in
+    let q = sym (take-append-drop k is) ∙ ap (λ (l : List Item). take k is ++ l) e ∙ sym (append-assoc (take k is) t r) in
+    sym (ap (drop (length is - length r)) q ∙ drop-at f r (length is - length r) (omega (arith, ap length q, length-append f r)))
 
 walked-prefixed : (is : List Item) (w : List ℕ) (o : Spelling) → walked is (prefixed w o) ≡ behind w (walked is o)
 walked-prefixed is w (Spelled v r c) = refl
@@ -199,11 +311,13 @@ walked-prefixed is w NoRecord = refl
 module _ (c : Known) (is : List Item) (k : ℕ) where
   pub walk-then : (f g : Put) → Drops f → walk (putThen f g) c is k ≡ onOver (walk f c is k) (λ e c′. walk g c′ is e)
   unfolding walk
-  walk-then f g h = go (f c (drop k is)) (h c (drop k is))
+  walk-then f g h = go (h .takes c (drop k is))
     where
-      go : (o : Spelling) → Dropped (drop k is) o → walked is (onSpelled o (λ w r′ c′. prefixed w (g c′ r′))) ≡ onOver (walked is o) (λ e c′. walked is (g c′ (drop e is)))
-      go (Spelled w r c′) (j, e) = walked-prefixed is w (g c′ r) ∙ ap (λ (x : List Item). behind w (walked is (g c′ x))) (last-from is r (k + j) (e ∙ drop-drop j k is))
-      go NoRecord t = refl
+      go : {P : List Item → Type 0} {o : Spelling} → Taken P (drop k is) o
+          → walked is (onSpelled o (λ w r′ c′. prefixed w (g c′ r′))) ≡ onOver (walked is o) (λ e c′. walked is (g c′ (drop e is)))
+      go (taken {w = w} {r = r} {c = c′} {t = t} e x) =
+          walked-prefixed is w (g c′ r) ∙ ap (λ (s : List Item). behind w (walked is (g c′ s))) (last-from is r k t e)
+      go no-record = refl
 
   -- what takes no item of its own
   pub walk-bytes : (w : List ℕ) → k ≤ length is → walk (putBytes (some w)) c is k ≡ Over w k c
@@ -284,18 +398,28 @@ module _ (c : Known) (is : List Item) (k : ℕ) where
       go (Spelled v r d) q = let z : length is - length r ≡ e = cc in omega arith
       go NoRecord q = let z : _≡_ {A = ℕ} 0 1 = cc in absurd (omega arith)
 
-  -- and no earlier
-  pub walk-forward : (f : Put) → Drops f → k ≤ length is → (w : List ℕ) (e : ℕ) (c′ : Known) → walk f c is k ≡ Over w e c′ → k ≤ e
+  -- what is over has taken the items from k up to e
+  pub walk-taken : {P : List Item → Type 0} (f : Put) → ((c : Known) (s : List Item) → Taken P s (f c s)) → k ≤ length is
+      → (w : List ℕ) (e : ℕ) (c′ : Known) → walk f c is k ≡ Over w e c′
+      → (t : List Item) × (drop k is ≡ t ++ drop e is) × (k + length t ≡ e) × P t
   unfolding walk
-  walk-forward f d l w e c′ h = go (f c (drop k is)) (d c (drop k is)) h
+  walk-taken {P} f h l w e c′ d = go (h c (drop k is)) d
     where
-      go : (o : Spelling) → Dropped (drop k is) o → walked is o ≡ Over w e c′ → k ≤ e
-      go (Spelled v r x) (j, y) q = let z : length is - length r ≡ e = cc in omega (arith, ap length y, length-drop j (drop k is), length-drop k is)
-      go NoRecord t q = let z : _≡_ {A = ℕ} 0 1 = cc in absurd (omega arith)
+      go : {o : Spelling} → Taken P (drop k is) o → walked is o ≡ Over w e c′
+          → (t : List Item) × (drop k is ≡ t ++ drop e is) × (k + length t ≡ e) × P t
+      go (taken {r = r} {t = t} p x) q =
+          let z : length is - length r ≡ e = cc in
+          let m = p ∙ ap (λ (l : List Item). t ++ l) (last-from is r k t p ∙ ap (λ (j : ℕ). drop j is) z) in
+          (t, m, omega (arith, ap length p, length-append t r, length-drop k is), x)
+      go no-record q = let z : _≡_ {A = ℕ} 0 1 = cc in absurd (omega arith)
+
+  -- and so ends no earlier
+  pub walk-forward : (f : Put) → Drops f → k ≤ length is → (w : List ℕ) (e : ℕ) (c′ : Known) → walk f c is k ≡ Over w e c′ → k ≤ e
+  walk-forward f d l w e c′ h = let (t, p, n, x) = walk-taken f (d .takes) l w e c′ h in omega arith
 
   -- bytes first
   pub walk-first : (w : List ℕ) (f : Put) → k ≤ length is → walk (putThen (putBytes (some w)) f) c is k ≡ behind w (walk f c is k)
-  walk-first w f l = walk-then (putBytes (some w)) f (bytes-drops (some w)) ∙ ap (λ (o : Walked). onOver o (λ e c′. walk f c′ is e)) (walk-bytes w l)
+  walk-first w f l = walk-then (putBytes (some w)) f (bytes-takes (some w)) ∙ ap (λ (o : Walked). onOver o (λ e c′. walk f c′ is e)) (walk-bytes w l)
 
   pub walk-first-none : (f : Put) → walk (putThen (putBytes none) f) c is k ≡ Stuck
   unfolding walk

@@ -1,7 +1,7 @@
 -- A whole message at a place: one value, nothing after it, and what the reader answers then.
 use mathlib.Core.Path.{_≡_, refl, sym, ap, ap₂, _∙_}
 use mathlib.Core.List.{List, [], _∷_, append-nil}
-use Prim.Native.Nat.{ℕ, suc, _≤_, _<_}
+use Prim.Native.Nat.{ℕ, suc, _+_, _≤_, _<_}
 use native.Mathlib.Omega.{arith}
 use native.Mathlib.Nat.{add-zero, zero-add}
 use lib.Dec.{ltb}
@@ -13,7 +13,7 @@ use Rattle.flow.specs.Tests.{pick-true, pick-false}
 use Rattle.record.specs.Records.{Item, Known, start, Ceilings, valueFrom, message, Row, rows}
 use Rattle.record.specs.Answers.{ReadAnswer, Accept, Refuse, judged, read}
 use Rattle.record.specs.Shorthands.{answered, ending}
-use Rattle.record.specs.Placed.{Placed, Got, Lost, placed, run, front, on, run-bind}
+use Rattle.record.specs.Placed.{Placed, Got, Lost, placed, run, front, on, run-bind, marks, numbered, marks-length, numbered-length, numbered-marks}
 
 -- ---- the end of the message
 module _ (c : Known) (m : List ℕ) (p : ℕ) where
@@ -27,16 +27,16 @@ module _ (c : Known) (m : List ℕ) (p : ℕ) where
 
 -- ---- the answer, by what is read at the first place
 abbrev answeredBy : ℕ → Placed One → ReadAnswer
-answeredBy lent (Got e u rs c) = pick (ltb lent (length rs)) (Refuse 9 (length rs) 0) (Accept rs e)
+answeredBy lent (Got e u rs c) = pick (ltb lent (length rs)) (Refuse 9 (length rs) 0) (Accept (numbered 0 rs) e)
 answeredBy lent (Lost x o) = Refuse x 0 o
 
 pub rows-length : (es : List (Entry Item)) → length (rows es) ≡ length es
-rows-length [] = refl
-rows-length (e ∷ es) = ap suc (rows-length es)
+rows-length es = ap length (sym (numbered-marks 0 es)) ∙ numbered-length 0 (marks es) ∙ marks-length es
 
 answered-is : (lent : ℕ) (o : Outcome Known Item One) → answered lent o ≡ answeredBy lent (placed 0 o)
 answered-is lent (Done n u es c) =
-    ap₂ (λ (k e : ℕ). pick (ltb lent k) (Refuse 9 k 0) (Accept (rows es) e)) (sym (rows-length es)) (sym (zero-add n))
+    ap₂ (λ (k e : ℕ). pick (ltb lent k) (Refuse 9 k 0) (Accept (rows es) e)) (sym (marks-length es)) (sym (zero-add n))
+    ∙ ap (λ (r : List Row). pick (ltb lent (length (marks es))) (Refuse 9 (length (marks es)) 0) (Accept r (0 + n))) (sym (numbered-marks 0 es))
 answered-is lent (Fault x o) = refl
 
 module _ (ℓ : Ceilings) (d longest lent : ℕ) (m : List ℕ) where
@@ -74,7 +74,7 @@ module _ (ℓ : Ceilings) (d longest lent : ℕ) (m : List ℕ) where
       pub read-over : e < length m → read ℓ d longest lent m ≡ Refuse 8 0 e
       read-over l = read-by (Got e tt rs c) q ∙ ap (λ (o : Placed One). answeredBy lent (front rs o)) (ending-more c m e l)
 
-      read-all : length m ≤ e → read ℓ d longest lent m ≡ pick (ltb lent (length rs)) (Refuse 9 (length rs) 0) (Accept rs e)
+      read-all : length m ≤ e → read ℓ d longest lent m ≡ pick (ltb lent (length rs)) (Refuse 9 (length rs) 0) (Accept (numbered 0 rs) e)
       read-all l =
           read-by (Got e tt rs c) q
           ∙ ap (λ (o : Placed One). answeredBy lent (front rs o)) (ending-end c m e l)
@@ -83,5 +83,5 @@ module _ (ℓ : Ceilings) (d longest lent : ℕ) (m : List ℕ) where
       pub read-small : length m ≤ e → lent < length rs → read ℓ d longest lent m ≡ Refuse 9 (length rs) 0
       read-small l w = read-all l ∙ pick-true _ _ (lt-ltb lent (length rs) w)
 
-      pub read-got : length m ≤ e → length rs ≤ lent → read ℓ d longest lent m ≡ Accept rs e
+      pub read-got : length m ≤ e → length rs ≤ lent → read ℓ d longest lent m ≡ Accept (numbered 0 rs) e
       read-got l w = read-all l ∙ pick-false _ _ (le-ltb lent (length rs) w)

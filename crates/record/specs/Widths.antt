@@ -4,7 +4,7 @@ use mathlib.Core.Bool.{Bool, true, false}
 use mathlib.Core.List.{List, [], _∷_, _++_}
 use Prim.Native.Nat.{ℕ, zero, suc, _+_, _^_, _≤_, _<_}
 use native.Mathlib.Omega.{arith}
-use lib.ListN.{length, getD, length-append}
+use lib.ListN.{length, getD, length-append, length-map}
 use Rattle.flow.specs.Flow.{Bytes, Entry, items}
 use Rattle.flow.specs.Grammar.{Phrase, Many, finished, another, Ended, ended, Preceded, alone, first}
 use Rattle.scalar.specs.declared.Sort.{Sort}
@@ -15,13 +15,14 @@ use Rattle.scalar.specs.Grammar.{Spelt, a-number, a-string, Text}
 use Rattle.scalar.specs.NumberLaws.{number-some}
 use Rattle.scalar.specs.TextLaws.{string-some}
 use Rattle.scalar.specs.Bits.{number-bits, content-length, units-few}
-use Rattle.record.specs.Records.{Leaf, Item, Val, FieldName, Known, start, opened, typed, defined, Ceilings, row, itemRow, rows}
+use Rattle.record.specs.Records.{Leaf, Item, Val, FieldName, Known, start, opened, typed, defined, Ceilings, row, itemRow, rowsFrom, rows}
 use Rattle.record.specs.Grammar.{NameForm, a-name, TypeForm, type-name, type-number, PairForm, a-pair, DefinitionForm, a-definition, PlainForm, a-leaf, a-few, a-counted, an-open, a-few-typed, a-counted-typed, an-open-typed, a-map, a-typed-map, a-few-object, an-object, a-reference, ValueForm}
 use Rattle.record.specs.Shorthands.{Nowhere}
 use Rattle.record.specs.RowLaws.{item-moved}
 use Rattle.record.specs.Meaning.{reads-derived}
-use Rattle.record.specs.Extent.{scalar-some}
-use Rattle.record.specs.Places.{EntriesOpen, OutcomeOpens, places}
+use Rattle.record.specs.Extent.{scalar-some, rows-few}
+use Rattle.record.specs.Places.{EntriesOpen, places}
+use Rattle.record.specs.Spans.{Nested, own-nested}
 use Rattle.record.specs.Terms.{Accepts}
 use Rattle.record.specs.TableLaws.{Fits, All}
 use Rattle.record.specs.Writing.{judged-done, own-reads}
@@ -53,7 +54,7 @@ define-within {c = c} l a = record { references = omega arith; types = omega ari
 
 -- ---- an item whose row has 64 bits, whatever its place
 abbrev Narrow : Item → Type 0
-Narrow i = Fits (itemRow 0 i)
+Narrow i = Fits (itemRow 0 0 i)
 
 abbrev Each : List Item → Type 0
 Each [] = Unit {0}
@@ -63,8 +64,8 @@ each-append : (is js : List Item) → Each is → Each js → Each (is ++ js)
 each-append [] js p q = q
 each-append (i ∷ is) js p q = (p .0, each-append is js (p .1) q)
 
-fits : {k a b : ℕ} → k < 2 ^ 64 → a < 2 ^ 64 → b < 2 ^ 64 → Fits (row k 0 a b)
-fits h i j = record { kind = h; place = omega arith; first = i; second = j }
+fits : {k a b : ℕ} → k < 2 ^ 64 → a < 2 ^ 64 → b < 2 ^ 64 → Fits (row k 0 a b 0)
+fits h i j = record { kind = h; place = omega arith; first = i; second = j; after = omega arith }
 
 sort-few : (s : Sort) → sortKind s < 2 ^ 64
 sort-few sort.Null = omega arith
@@ -75,7 +76,7 @@ sort-few sort.Long = omega arith
 sort-few sort.Double = omega arith
 sort-few sort.Date = omega arith
 
-text-fits : {k : ℕ} {w cs : List ℕ} → k < 2 ^ 64 → Text w cs → length w < 2 ^ 63 → Fits (row k 0 (units Utf8 cs) (length cs))
+text-fits : {k : ℕ} {w cs : List ℕ} → k < 2 ^ 64 → Text w cs → length w < 2 ^ 63 → Fits (row k 0 (units Utf8 cs) (length cs) 0)
 text-fits {cs = cs} h x l = fits h (omega (arith, content-length x, units-few Utf8 cs)) (omega (arith, content-length x))
 
 scalar-narrow : {w : List ℕ} {x : Scalar} → Spelt w x → length w < 2 ^ 63 → Narrow (Val (Leaf x))
@@ -189,17 +190,21 @@ module _ (ℓ : Ceilings) where
   value-bounds zero N c w is c′ x a l = preceded-bounds false Nowhere (λ N c w is c′ x. absurd x) x N a l
   value-bounds (suc d) N c w is c′ x a l = preceded-bounds true (ValueForm ℓ d) (value-bounds d) x N a l
 
--- ---- the rows
-entries-fit : (m : List ℕ) (bytes : Bytes m) → length m < 2 ^ 63 → (es : List (Entry Item)) → EntriesOpen m bytes es → Each (items es) → All Fits (rows es)
-entries-fit m bytes l [] h k = tt
-entries-fit m bytes l (e ∷ es) h k =
-    let s = k .0 in
-    (subst Fits (sym (item-moved 0 (e .place) (e .item))) (record { kind = s .kind; place = omega (arith, h .0); first = s .first; second = s .second }), entries-fit m bytes l es (h .2) (k .1))
+-- ---- the rows, numbered from k
+entries-fit : (m : List ℕ) → length m < 2 ^ 63 → (k : ℕ) (es : List (Entry Item)) → k + length es < 2 ^ 63 → EntriesOpen m es → Nested es → Each (items es) → All Fits (rowsFrom k es)
+entries-fit m l k [] f h n i = tt
+entries-fit m l k (e ∷ es) f h n i =
+    let s = i .0 in (
+      subst Fits (sym (item-moved 0 0 (e .place) (k + e .span) (e .item))) (record { kind = s .kind; place = omega (arith, h .0); first = s .first; second = s .second; after = omega (arith, n .0) }),
+      entries-fit m l (suc k) es (omega arith) (h .2) (n .1) (i .1),
+    )
 
 -- of a message of fewer than 2 ^ 63 bytes
 pub rows-fit : (ℓ : Ceilings) (d longest : ℕ) (m : List ℕ) → Bytes m → length m < 2 ^ 63 → (r : List Item) (x : Accepts ℓ d longest m r) → All Fits (rows (x .entries))
 rows-fit ℓ d longest m b l r x =
     let e = judged-done ℓ d longest m (length m) (x .entries) (x .known) (x .done) .1 in
-    let y = reads-derived ℓ d m (items (x .entries)) (own-reads ℓ d m b (length m) (x .entries) (x .known) e) in
+    let reads = own-reads ℓ d m b (length m) (x .entries) (x .known) e in
+    let y = reads-derived ℓ d m (items (x .entries)) reads in
     let nothing : Within 0 start = record { references = omega arith; types = omega arith; classes = omega arith; fields = λ k. omega arith } in
-    entries-fit m b l (x .entries) (subst (OutcomeOpens m b) e (places m b ℓ d)) (value-bounds ℓ d 0 start m (items (x .entries)) (y .known) (y .derived) nothing (omega arith) .narrow)
+    entries-fit m l 0 (x .entries) (omega (arith, rows-few ℓ d m (items (x .entries)) reads, length-map (x .entries) (λ (e : Entry Item). e .item))) (places ℓ d m b (length m) (x .entries) (x .known) e)
+    (own-nested ℓ d m b (length m) (x .entries) (x .known) e) (value-bounds ℓ d 0 start m (items (x .entries)) (y .known) (y .derived) nothing (omega arith) .narrow)

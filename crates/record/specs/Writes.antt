@@ -13,7 +13,8 @@ use Rattle.scalar.specs.Scalars.{Scalar, shortestScalar, shortestInt}
 use Rattle.record.specs.Records.{Value, Leaf, UntypedList, TypedList, UntypedMap, TypedMap, Object, Reference, Item, Val, Known, opened, Ceilings}
 use Rattle.record.specs.Answers.{Put, putThen, putMany, putBytes, putCode, putIf, value?, putOpen, putList, objectCode, putContainer, putType, putPlainBy}
 use Rattle.record.specs.Shorthands.{codeThen, putPlain}
-use Rattle.record.specs.Walked.{At, End, at-within, Walked, Over, Stuck, walk, behind, onOver, behind-behind, Drops, walk-then, walk-bytes, walk-none, walk-if, walk-unless, walk-if-none, walk-item, walk-other, walk-over, walk-same, walk-first, walk-first-none}
+use Rattle.record.specs.Takes.{Drops}
+use Rattle.record.specs.Walked.{holding, At, End, at-within, Walked, Over, Stuck, walk, behind, onOver, behind-behind, walk-then, walk-bytes, walk-none, walk-if, walk-unless, walk-if-none, walk-item, walk-other, walk-over, walk-same, walk-first, walk-first-none}
 
 -- ---- a list of n elements: its type, if it has one, takes the bytes w and goes on at e
 module _ (openFrom few counted opening n : ℕ) (q body : Put) (drops : Drops q) (c : Known) (is : List Item) (k : ℕ) (l : k ≤ length is) where
@@ -88,13 +89,7 @@ object-many j s o r = ap (λ (t : Bool). cond t (some ((0x60 + j) ∷ [])) (code
 
 -- ---- a list, map or object
 abbrev pub holds : Value → Bool
-holds (Leaf x) = false
-holds (UntypedList n) = true
-holds (TypedList n t) = true
-holds (UntypedMap n) = true
-holds (TypedMap n t) = true
-holds (Object j n) = true
-holds (Reference j) = false
+holds v = holding v
 
 -- the end of an open form
 abbrev pub ended : Walked → Walked

@@ -1,9 +1,9 @@
 -- The theorems over rows: what the writer makes of the rows that it is handed, and of a message's own rows.
-use mathlib.Core.Path.{_≡_, refl, sym, _∙_, ap, subst}
+use mathlib.Core.Path.{_≡_, refl, sym, _∙_, ap, ap₂, subst}
 use mathlib.Core.Logic.{_↔_}
 use mathlib.Core.List.{List, [], _∷_, _++_}
 use mathlib.Core.Option.{Option, none, some}
-use Prim.Native.Nat.{ℕ, _≤_, min}
+use Prim.Native.Nat.{ℕ, suc, _+_, _≤_, min}
 use native.Mathlib.Omega.{arith}
 use lib.Dec.{ltb}
 use lib.ListN.{length, drop}
@@ -17,13 +17,15 @@ use Rattle.scalar.specs.declared.Kind.the-variants.{Utf8, Binary}
 use Rattle.scalar.specs.Scalars.{stringFrom, stringAt, Num, Str}
 use Rattle.scalar.specs.Grammar.{String, Spelt, a-string}
 use Rattle.scalar.specs.TextLaws.{string-makes}
-use Rattle.record.specs.Records.{Leaf, UntypedList, TypedList, UntypedMap, TypedMap, Object, Reference, Item, Val, Definition, ClassName, FieldName, TypeName, TypeNumber, Known, start, Ceilings, message, Row, itemRow, rows, contentOf, told, contentAt, ClaimAll, no-rows, a-row}
+use Rattle.record.specs.Records.{Leaf, UntypedList, TypedList, UntypedMap, TypedMap, Object, Reference, Item, Val, Definition, ClassName, FieldName, TypeName, TypeNumber, Known, start, Ceilings, message, Row, itemRow, rowsFrom, rows, contentOf, told, contentAt, ClaimItems, no-rows, a-row, ClaimAll}
 use Rattle.record.specs.RowLaws.{item-moved}
 use Rattle.record.specs.Answers.{spell, judged, shortestOf, Wrote}
 use Rattle.record.specs.Terms.{write, Has, Accepted, Reads}
 use Rattle.record.specs.Meaning.{message-all}
 use Rattle.record.specs.ItemTheorems.{no-longer, reads-back}
-use Rattle.record.specs.Places.{Stands, Opens, EntriesOpen, OutcomeOpens, places}
+use Rattle.record.specs.Forest.{Stands, Opens}
+use Rattle.record.specs.Places.{EntriesOpen, places}
+use Rattle.record.specs.Spans.{own-fifths}
 use Rattle.record.specs.Claimed.{onSome, recordOf, all-claimed, claims-exactly}
 
 -- ---- the writer, of any rows
@@ -65,42 +67,43 @@ spelt-string k cs s x = (x .0, x .1, x .2, go (x .3))
     go : {w : List ℕ} → Spelt w (Str k cs) → String k w cs
     go (a-string y) = y
 
-content-is : (m : List ℕ) (p : ℕ) (i : Item) → Opens (drop p m) i → contentAt m (itemRow p i .kind) p ≡ some (contentOf i)
+content-is : (m : List ℕ) (p e : ℕ) (i : Item) → Opens (drop p m) i → contentAt m (itemRow p e i .kind) p ≡ some (contentOf i)
 unfolding contentAt pick
-content-is m p (Val (Leaf (Num sort.Null v))) h = refl
-content-is m p (Val (Leaf (Num sort.False v))) h = refl
-content-is m p (Val (Leaf (Num sort.True v))) h = refl
-content-is m p (Val (Leaf (Num sort.Int v))) h = refl
-content-is m p (Val (Leaf (Num sort.Long v))) h = refl
-content-is m p (Val (Leaf (Num sort.Double v))) h = refl
-content-is m p (Val (Leaf (Num sort.Date v))) h = refl
-content-is m p (Val (Leaf (Str Utf8 cs))) h = string-at Utf8 m p cs (spelt-string Utf8 cs (drop p m) h)
-content-is m p (Val (Leaf (Str Binary cs))) h = string-at Binary m p cs (spelt-string Binary cs (drop p m) h)
-content-is m p (Val (UntypedList n)) h = refl
-content-is m p (Val (TypedList n t)) h = refl
-content-is m p (Val (UntypedMap n)) h = refl
-content-is m p (Val (TypedMap n t)) h = refl
-content-is m p (Val (Object k n)) h = refl
-content-is m p (Val (Reference k)) h = refl
-content-is m p (Definition n) h = refl
-content-is m p (ClassName cs) h = string-at Utf8 m p cs h
-content-is m p (FieldName cs) h = string-at Utf8 m p cs h
-content-is m p (TypeName cs) h = string-at Utf8 m p cs h
-content-is m p (TypeNumber k) h = refl
+content-is m p e (Val (Leaf (Num sort.Null v))) h = refl
+content-is m p e (Val (Leaf (Num sort.False v))) h = refl
+content-is m p e (Val (Leaf (Num sort.True v))) h = refl
+content-is m p e (Val (Leaf (Num sort.Int v))) h = refl
+content-is m p e (Val (Leaf (Num sort.Long v))) h = refl
+content-is m p e (Val (Leaf (Num sort.Double v))) h = refl
+content-is m p e (Val (Leaf (Num sort.Date v))) h = refl
+content-is m p e (Val (Leaf (Str Utf8 cs))) h = string-at Utf8 m p cs (spelt-string Utf8 cs (drop p m) h)
+content-is m p e (Val (Leaf (Str Binary cs))) h = string-at Binary m p cs (spelt-string Binary cs (drop p m) h)
+content-is m p e (Val (UntypedList n)) h = refl
+content-is m p e (Val (TypedList n t)) h = refl
+content-is m p e (Val (UntypedMap n)) h = refl
+content-is m p e (Val (TypedMap n t)) h = refl
+content-is m p e (Val (Object k n)) h = refl
+content-is m p e (Val (Reference k)) h = refl
+content-is m p e (Definition n) h = refl
+content-is m p e (ClassName cs) h = string-at Utf8 m p cs h
+content-is m p e (FieldName cs) h = string-at Utf8 m p cs h
+content-is m p e (TypeName cs) h = string-at Utf8 m p cs h
+content-is m p e (TypeNumber k) h = refl
 
-entries-claim : (m : List ℕ) (bytes : Bytes m) (es : List (Entry Item)) → EntriesOpen m bytes es → ClaimAll m (rows es) (items es)
-entries-claim m bytes [] h = no-rows
-entries-claim m bytes (e ∷ es) h =
-    let q = ap (λ (x : Row). x .place) (item-moved (e .place) (e .place) (e .item)) in
+entries-claim : (m : List ℕ) (k : ℕ) (es : List (Entry Item)) → EntriesOpen m es → ClaimItems m (rowsFrom k es) (items es)
+entries-claim m k [] h = no-rows
+entries-claim m k (e ∷ es) h =
+    let s = item-moved (e .place) (k + e .span) (e .place) (k + e .span) (e .item) in
+    let q = ap (λ (x : Row). x .place) s in
     a-row (record {
-      agrees = ap (λ (p : ℕ). itemRow p (e .item)) q;
-      content = ap (λ (p : ℕ). contentAt m (itemRow (e .place) (e .item) .kind) p) q ∙ content-is m (e .place) (e .item) (h .1);
-    }) (entries-claim m bytes es (h .2))
+      agrees = ap₂ (λ (p f : ℕ). itemRow p f (e .item)) q (ap (λ (x : Row). x .after) s);
+      content = ap (λ (p : ℕ). contentAt m (itemRow (e .place) (k + e .span) (e .item) .kind) p) q ∙ content-is m (e .place) (k + e .span) (e .item) (h .1);
+    }) (entries-claim m (suc k) es (h .2))
 
 -- a message's own rows claim the record that it reads as
 module _ (ℓ : Ceilings) (d : ℕ) (m : List ℕ) (bytes : Bytes m) (n : ℕ) (es : List (Entry Item)) (c : Known) (e : message ℓ d start 0 m ≡ Done n tt es c) where
   pub own-rows : ClaimAll m (rows es) (items es)
-  own-rows = entries-claim m bytes es (subst (OutcomeOpens m bytes) e (places m bytes ℓ d))
+  own-rows = record { each = entries-claim m 0 es (places ℓ d m bytes n es c e); fifths = own-fifths ℓ d m bytes n es c e }
 
   pub own-record : recordOf m (rows es) ≡ some (items es)
   own-record = all-claimed m own-rows

@@ -12,8 +12,8 @@ use Rattle.scalar.specs.Scalars.{shortestInt, shortestText}
 use Rattle.record.specs.Records.{Item, Val, Definition, ClassName, FieldName, TypeName, TypeNumber, Known, typed, defined, Ceilings}
 use Rattle.record.specs.Answers.{Put, putThen, putMany, putBytes, putIf, definition?, className?, fieldName?, putName, putType, putDefinition}
 use Rattle.record.specs.Shorthands.{putDefined}
-use Rattle.record.specs.Walked.{At, End, at-within, Walked, Over, Stuck, walked, walk, behind, onOver, behind-behind, many-drops, walk-then, walk-bytes, walk-none, walk-both, walk-unless-one, walk-unless-other, walk-if-none, walk-item, walk-other, walk-over, walk-same, walk-within, walk-first, walk-first-none}
-use Rattle.record.specs.Drops.{name-drops, namesOf, countOf, bodyOf, definable, definitionBy}
+use Rattle.record.specs.Walked.{At, End, at-within, Walked, Over, Stuck, walked, walk, behind, onOver, behind-behind, walk-then, walk-bytes, walk-none, walk-both, walk-unless-one, walk-unless-other, walk-if-none, walk-item, walk-other, walk-over, walk-same, walk-within, walk-first, walk-first-none}
+use Rattle.record.specs.Takes.{takes-drops, many-takes, class-takes, field-takes, namesOf, countOf, bodyOf, definable, definitionBy}
 use Rattle.record.specs.declared.Contents.the-variants.{Elements}
 use Rattle.record.specs.Contents.{left, walk-elements, left-stop, left-over, left-stuck}
 
@@ -130,17 +130,17 @@ module _ (n j : ℕ) (c : Known) (is : List Item) (k : ℕ) where
   Names-here = walk (namesLeft n j) c is k
 
   pub names-stop : j ≡ n → k ≤ length is → Names-here ≡ Over [] k c
-  names-stop e l = left-stop (putName fieldName?) (name-drops fieldName?) is (Elements n) j (eq-eqb j n e) c k l
+  names-stop e l = left-stop (putName fieldName?) (takes-drops field-takes) is (Elements n) j (eq-eqb j n e) c k l
 
   module _ (h : j < n) where
     names-more : eqb j n ≡ false
     names-more = ne-eqb j n (λ e. omega arith)
 
     pub names-over : (w : List ℕ) → walk (putName fieldName?) c is k ≡ Over w (suc k) c → Names-here ≡ behind w (walk (namesLeft n (j + 1)) c is (suc k))
-    names-over w x = left-over (putName fieldName?) (name-drops fieldName?) is (Elements n) j names-more (omega arith) c k w (suc k) c x
+    names-over w x = left-over (putName fieldName?) (takes-drops field-takes) is (Elements n) j names-more (omega arith) c k w (suc k) c x
 
     pub names-stuck : walk (putName fieldName?) c is k ≡ Stuck → Names-here ≡ Stuck
-    names-stuck x = left-stuck (putName fieldName?) (name-drops fieldName?) is (Elements n) j names-more (omega arith) c k x
+    names-stuck x = left-stuck (putName fieldName?) (takes-drops field-takes) is (Elements n) j names-more (omega arith) c k x
 
 -- ---- a class definition: its item at k, its name after it, and then its field names
 module _ (ℓ : Ceilings) (c : Known) (is : List Item) (k : ℕ) where
@@ -177,7 +177,7 @@ module _ (ℓ : Ceilings) (c : Known) (is : List Item) (k : ℕ) where
           ∙ walk-both c is (suc k) (bodyOf ℓ n) (ltb (length (c .classes)) (ℓ .classes)) (ltb n (2 ^ 63) && leb n (ℓ .fields)) (lt-ltb (length (c .classes)) (ℓ .classes) s)
           (ap (λ (b : Bool). b && leb n (ℓ .fields)) (lt-ltb n (2 ^ 63) small) ∙ le-leb n (ℓ .fields) fits)
           ∙ walk-first c is (suc k) (0x43 ∷ []) (putThen (putName className?) (countOf ℓ n)) (at-within is k (Definition n) e)
-          ∙ ap (behind (0x43 ∷ [])) (walk-then c is (suc k) (putName className?) (countOf ℓ n) (name-drops className?))
+          ∙ ap (behind (0x43 ∷ [])) (walk-then c is (suc k) (putName className?) (countOf ℓ n) (takes-drops class-takes))
           ∙ ap (λ (o : Walked). behind (0x43 ∷ []) (onOver o (λ p c′. walk (countOf ℓ n) c′ is p))) h
 
       pub definition-unnamed : walk (putName className?) c is (suc k) ≡ Stuck → Definition-here ≡ Stuck
@@ -204,7 +204,7 @@ module _ (ℓ : Ceilings) (c : Known) (is : List Item) (k : ℕ) where
           names-in o z =
               counted (some v) y
               ∙ ap (behind (0x43 ∷ w)) (walk-first c is (suc (suc k)) v (namesOf ℓ n) (walk-within c is (suc k) (putName className?) w (suc (suc k)) c h))
-              ∙ ap (λ (o : Walked). behind (0x43 ∷ w) (behind v o)) (walk-then c is (suc (suc k)) (putMany (putName fieldName?) n) (putDefined n) (many-drops (putName fieldName?) (name-drops fieldName?) n)
+              ∙ ap (λ (o : Walked). behind (0x43 ∷ w) (behind v o)) (walk-then c is (suc (suc k)) (putMany (putName fieldName?) n) (putDefined n) (takes-drops (many-takes field-takes n))
               ∙ walk-same c is (suc (suc k)) (putMany (putName fieldName?) n) _ _ given
               ∙ ap (λ (o : Walked). onOver o (λ p c′. Over [] p (defined n c′))) (walk-elements (putName fieldName?) n c is (suc (suc k)) ∙ z))
 

@@ -5,11 +5,14 @@ use mathlib.Core.Option.{Option, none, some}
 use Prim.Native.Nat.{ℕ, zero, suc, _+_, _-_, _≤_, _<_}
 use native.Mathlib.Omega.{arith}
 use lib.ListN.{length, drop, length-drop, drop-of-length-le}
-use Rattle.record.specs.Records.{Item, Definition, Known, Ceilings}
-use Rattle.record.specs.Answers.{Put, putThen, definition?, putDefinition, putPreceded, putValue}
+use Rattle.record.specs.Records.{Value, Item, Val, Definition, Known, Ceilings, span}
+use Rattle.record.specs.Answers.{Put, putThen, value?, definition?, putDefinition, putPreceded}
+use Rattle.record.specs.Answers.{putPlainBy, putValue}
 use Rattle.record.specs.Shorthands.{putPrecededBy, putPlain}
-use Rattle.record.specs.Walked.{At, End, at-within, at-or-end, Walked, Over, Stuck, walked, walk, behind, onOver, walk-then, walk-item, walk-same, walk-forward}
-use Rattle.record.specs.Drops.{definitionBy, defining-drops, definition-drops}
+use Rattle.record.specs.Walked.{At, End, at-within, at-or-end, Walked, Over, Stuck, walked, walk, behind, onOver, walk-then, walk-item, walk-same, walk-taken, walk-forward}
+use Rattle.record.specs.Forest.{forest-span}
+use Rattle.record.specs.Takes.{takes-drops, definitionBy, defining-takes, definition-drops}
+use Rattle.record.specs.Takes.{BelowTakes, by-takes, value-takes}
 use Rattle.record.specs.Writes.{plain-end}
 
 -- ---- class definitions before another
@@ -44,7 +47,7 @@ module _ (ℓ : Ceilings) (g : Put) (is : List Item) where
       forward : (w : List ℕ) (p : ℕ) (c′ : Known) → walk (putDefinition ℓ) c is k ≡ Over w p c′ → suc k ≤ p
       unfolding putDefinition
       forward w p c′ x =
-          walk-forward c is (suc k) (definitionBy ℓ n) (defining-drops ℓ n) (at-within is k i e) w p c′
+          walk-forward c is (suc k) (definitionBy ℓ n) (takes-drops (defining-takes ℓ n)) (at-within is k i e) w p c′
           (sym (walk-item c is k definition? (definitionBy ℓ) i n e h) ∙ x)
 
   -- with enough to bound the recursion, by how much does not matter
@@ -139,3 +142,19 @@ module _ (ℓ : Ceilings) (openFrom : ℕ) where
 
       pub value-undefined : walk (putDefinition ℓ) c is k ≡ Stuck → Value-here ≡ Stuck
       value-undefined x = value-by ∙ preceded-one ℓ (putPlain ℓ openFrom (below d)) is c k (Definition n) e n refl Stuck x
+
+  -- ---- a value that is written up to e has the span up to there
+  below-takes : (d : ℕ) → BelowTakes (below d)
+  unfolding below
+  below-takes zero = tt
+  below-takes (suc d) = value-takes ℓ openFrom d
+
+  pub written-span : (d : ℕ) (c : Known) (is : List Item) (k : ℕ) (v : Value) → At is k (Val v)
+      → (w : List ℕ) (e : ℕ) (c′ : Known) → walk (putPlain ℓ openFrom (below d)) c is k ≡ Over w e c′
+      → k + span (Val v) (drop (suc k) is) ≡ e
+  written-span d c is k v a w e c′ h =
+      let f = putPlainBy ℓ openFrom (below d) in
+      let i = sym (walk-item c is k value? f (Val v) v a refl) ∙ h in
+      let y = by-takes ℓ openFrom (below d) (below-takes d) v in
+      let (t, p, n, x) = walk-taken c is (suc k) (f v) (y .takes) (at-within is k (Val v) a) w e c′ i in
+      omega (arith, ap (span (Val v)) p ∙ forest-span (Val v) refl x (drop e is))

@@ -16,3 +16,19 @@ pub enum Contents {
     Elements(u64),
     Couples(u64),
 }
+
+// A row of a table. `after` is the number of the row just after the value, definition or single item that the row
+// opens.
+pub struct Row {
+    pub kind: u64,
+    pub place: u64,
+    pub first: u64,
+    pub second: u64,
+    pub after: u64,
+}
+
+// So many numbers has a row in a table of numbers.
+pub const ROW_NUMBERS: usize = 5;
+
+// So many bytes has a row in a table of bytes.
+pub const ROW_BYTES: usize = 40;

@@ -9,6 +9,7 @@
 use libc::STDIN_FILENO;
 use libc::STDOUT_FILENO;
 use reader::ReadAnswer;
+use record::ROW_NUMBERS;
 use vectors::Scanned;
 use vectors::Step;
 
@@ -116,7 +117,7 @@ fn answer(message: &[u8], table: &mut [u64]) {
         ReadAnswer::Accepted { rows, length } => {
             say_answer(0, rows, length);
             if rows <= MOST {
-                say_table(table, rows * 4);
+                say_table(table, rows * ROW_NUMBERS);
             }
         }
         ReadAnswer::Refused { number, place } => {

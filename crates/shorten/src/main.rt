@@ -5,10 +5,14 @@ use libc::STDERR_FILENO;
 use libc::STDIN_FILENO;
 use libc::STDOUT_FILENO;
 use reader::ReadAnswer;
+use record::ROW_NUMBERS;
 use writer::WriteAnswer;
 
 // The most bytes of a message. Each row has a byte of its own, so there are no more rows, and the shortest message is no longer.
 const MOST: usize = 60_000;
+
+// The numbers of as many rows as bytes, which a message never needs more than.
+const ROOM: usize = MOST * ROW_NUMBERS;
 
 fn say(text: &[u8]) {
     io::write_all(STDERR_FILENO, text);
@@ -41,7 +45,7 @@ fn write_shortest(message: &[u8], table: &[u64], rows: usize, output: &mut [u8])
 }
 
 fn shorten(message: &[u8]) {
-    let mut table = [0u64; 240_000];
+    let mut table = [0u64; ROOM];
     let mut output = [0u8; MOST];
     match reader::read(message, &mut table) {
         ReadAnswer::Accepted { rows, length: _ } => {

@@ -1,10 +1,14 @@
 -- Numbers as bytes, the highest byte first.
 use mathlib.Core.List.{List, [], _∷_, _++_}
 use Prim.Native.Nat.{ℕ, zero, suc, _+_, _*_, _/_, _%_}
+use lib.ListN.{take, drop}
 
 abbrev pub joined : ℕ → List ℕ → ℕ  -- the number that the bytes s go on with, where those before them are u
 joined u [] = u
 joined u (b ∷ s) = joined (256 * u + b) s
+
+abbrev pub eightAt : List ℕ → ℕ → ℕ  -- the number of the eight bytes from the index i on
+eightAt s i = joined 0 (take 8 (drop i s))
 
 abbrev pub be : ℕ → ℕ → List ℕ  -- the k lowest bytes of u
 be zero u = []

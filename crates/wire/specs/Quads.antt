@@ -4,19 +4,15 @@ use mathlib.Core.List.{List}
 use Prim.Native.Nat.{ℕ, _+_, _-_, _≤_, _<_}
 use native.Mathlib.Omega.{arith}
 use lib.Dec.{leb}
-use lib.ListN.{length, take, drop}
+use lib.ListN.{length}
 use borrow.Author.Tests.{le-leb, lt-leb}
 use Rattle.flow.specs.Flow.{pick}
 use Rattle.flow.specs.Tests.{pick-true, pick-false}
 use Rattle.wire.specs.declared.Quad.{Quad}
-use Rattle.wire.specs.BigEndian.{joined}
+use Rattle.wire.specs.BigEndian.{eightAt}
 
 abbrev pub quadOf : ℕ → ℕ → ℕ → ℕ → Quad
 quadOf a b c d = record { first = a; second = b; third = c; fourth = d }
-
--- the number of the eight bytes from the index at on
-abbrev pub eightAt : List ℕ → ℕ → ℕ
-eightAt l at = joined 0 (take 8 (drop at l))
 
 -- four of them, where all these bytes are there, and else four zeros
 unfoldable pub quadAt : List ℕ → ℕ → Quad

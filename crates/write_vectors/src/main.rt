@@ -1,14 +1,15 @@
 // Writes tables of rows from standard input, and prints a line for each.
 //
 // A case is a line: how many bytes of output are lent and how many rows are claimed, in decimal; the source in groups, as
-// vectors::groups takes them; ` ;`; and the rows of the table, a space before each. A row is four decimals with commas between; `*` and
-// a number after them say how often it is there.
+// vectors::groups takes them; ` ;`; and the rows of the table, a space before each. A row is five decimals with commas between, the
+// fifth counted from the row's own number; `*` and a number after them say how often it is there.
 //
 // The line printed has the answer: number, count and place; the checksum of the lent output as it then is; and `ok` where all past what
 // is written, or the whole output after a refusal, is as it was. What is no case is `bad`.
 // vectors.py writes the cases, stdin, and what is to be printed, stdout.
 use libc::STDIN_FILENO;
 use libc::STDOUT_FILENO;
+use record::ROW_NUMBERS;
 use vectors::Scanned;
 use vectors::Step;
 use writer::WriteAnswer;
@@ -17,7 +18,7 @@ use writer::WriteAnswer;
 const LARGEST: usize = 270_000;
 
 // The most numbers in a table.
-const MOST: usize = 8_000;
+const MOST: usize = 10_000;
 
 // The most bytes of cases.
 const MOST_INPUT: usize = 400_000;
@@ -36,10 +37,10 @@ enum Case {
 // ---- cases
 
 // The row after the space at `at`.
-fn take_row(line: &[u8], at: usize, row: &mut [u64; 4]) -> Step {
+fn take_row(line: &[u8], at: usize, row: &mut [u64; ROW_NUMBERS]) -> Step {
     let mut here = at;
     let mut i = 0;
-    while i < 4 {
+    while i < ROW_NUMBERS {
         let mark: u8 = if i == 0 { b' ' } else { b',' };
         if !vectors::stands(line, here, mark) {
             return Step::Stuck;
@@ -57,12 +58,26 @@ fn take_row(line: &[u8], at: usize, row: &mut [u64; 4]) -> Step {
     }
     Step::On {
         next: here,
-        size: 4,
+        size: ROW_NUMBERS,
     }
 }
 
-// A row that often in the table from the number `from` on. `next` is where the line goes on.
-fn store_rows(table: &mut [u64], from: usize, row: &[u64; 4], times: u64, next: usize) -> Step {
+// The number i of a row, as the number k of a table: the fifth is counted from its own row.
+fn number_in(n: u64, i: usize, k: usize) -> u64 {
+    if i == 4 {
+        return std::num::wrapping_add_u64(n, (k / ROW_NUMBERS) as u64);
+    }
+    n
+}
+
+// A row that often in the table from the number `from` on, its fifth number counted from its own row. `next` is where the line goes on.
+fn store_rows(
+    table: &mut [u64],
+    from: usize,
+    row: &[u64; ROW_NUMBERS],
+    times: u64,
+    next: usize,
+) -> Step {
     let mut k = from;
     let mut i = 0;
     let mut left = times;
@@ -70,10 +85,10 @@ fn store_rows(table: &mut [u64], from: usize, row: &[u64; 4], times: u64, next: 
         if table.len() <= k {
             return Step::Stuck;
         }
-        table[k] = row[i];
+        table[k] = number_in(row[i], i, k);
         k += 1;
         i += 1;
-        if i == 4 {
+        if i == ROW_NUMBERS {
             i = 0;
             left -= 1;
         }
@@ -83,7 +98,7 @@ fn store_rows(table: &mut [u64], from: usize, row: &[u64; 4], times: u64, next: 
 
 // The row after the space at `at`, as often as it is there, in the table from the number `from` on.
 fn take_rows(line: &[u8], at: usize, table: &mut [u64], from: usize) -> Step {
-    let mut row = [0u64; 4];
+    let mut row = [0u64; ROW_NUMBERS];
     match take_row(line, at, &mut row) {
         Step::Stuck => Step::Stuck,
         Step::On { next, size: _ } => match vectors::times(line, next) {

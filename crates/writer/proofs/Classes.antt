@@ -10,7 +10,7 @@ use lib.ListN.{length, getD}
 use borrow.Author.Tests.{eqb-true, eqb-false}
 use mir.Syntax.{w64}
 use mir.Val.{Fits}
-use Rattle.flow.specs.Tests.{by-cases}
+use Rattle.flow.specs.Tests.{by-cases, split}
 use Rattle.scalar.specs.declared.Kind.the-variants.{Utf8}
 use Rattle.scalar.specs.Scalars.{shortestInt}
 use Rattle.record.specs.Records.{Item, Val, Definition, ClassName, FieldName, TypeName, TypeNumber, Known, start, itemRow}
@@ -21,8 +21,9 @@ use Rattle.record.specs.Walked.{At, End, at-within, Walked, Over, walk, behind,
 use Rattle.record.specs.WrittenNames.{name-end, name-other, name-got, name-none, namesLeft, names-stop, names-over, names-stuck, definition-end, definition-full, definition-wide, definition-unnamed, definition-uncounted, definition-names-stuck, definition-got}
 use Rattle.record.specs.Writes.{plain-end}
 use Rattle.record.specs.WrittenValues.{below, value-end, value-plain, value-defined, value-undefined}
+use Rattle.record.specs.Bare.{NoneIn, definition-none}
 use Rattle.record.specs.KnownArray.{knownIn, Kept, definedIn, defined-room, classes-counted, one-class, known-defined, kept-defined, references-stay}
-use Rattle.writer.specs.declared.rows.RowRead.{RowRead}
+use Rattle.record.specs.declared.Row as code
 use Rattle.writer.specs.declared.rows.Fetched.{Fetched}
 use Rattle.writer.specs.declared.rows.Fetched.the-variants as fetched
 use Rattle.writer.specs.declared.puts.Put.{Put}
@@ -30,7 +31,8 @@ use Rattle.writer.specs.declared.puts.Put.the-variants as put
 use Rattle.writer.specs.declared.puts.Step.{Step}
 use Rattle.writer.specs.declared.puts.Step.the-variants as step
 use Rattle.writer.specs.declared.definitions.Found.the-variants as found
-use Rattle.writer.specs.Inside.{itemsIn, rowOf, Stands, FetchMet, Puts, PutSays, PutMet, StringMet, WalkSays, Naming, class-name, field-name, NameMet, NamesMet, Ready, Went, StepSays, StepMet, ClassSays, ClassMet, FoundMet}
+use Rattle.record.specs.RowLaws.{rowOf}
+use Rattle.writer.specs.Inside.{rowsIn, itemsIn, Stands, FetchMet, Puts, PutSays, PutMet, StringMet, WalkSays, Naming, class-name, field-name, NameMet, NamesMet, Ready, Went, StepSays, StepMet, ClassSays, ClassMet, FoundMet}
 use Rattle.writer.proofs.Putting.{puts-none, puts-on}
 use Rattle.writer.proofs.Rowed.{fetched-end, fetched-inside, fetched-stands, stands-either}
 use Rattle.writer.proofs.Texted.{text-put, text-not}
@@ -42,19 +44,19 @@ naming-text class-name = ((λ cs. ClassName cs), kinds.class-name, (λ cs. refl)
 naming-text field-name = ((λ cs. FieldName cs), kinds.field-name, (λ cs. refl))
 
 -- an item of another kind is no such name
-naming-other : {kind : ℕ} {part : Item → Option (List ℕ)} → Naming kind part → (p : ℕ) (i : Item) → (itemRow p i .kind ≡ kind → ⊥) → part i ≡ none
-naming-other class-name p (Val v) d = refl
-naming-other class-name p (Definition n) d = refl
-naming-other class-name p (ClassName cs) d = absurd (d refl)
-naming-other class-name p (FieldName cs) d = refl
-naming-other class-name p (TypeName cs) d = refl
-naming-other class-name p (TypeNumber j) d = refl
-naming-other field-name p (Val v) d = refl
-naming-other field-name p (Definition n) d = refl
-naming-other field-name p (ClassName cs) d = refl
-naming-other field-name p (FieldName cs) d = absurd (d refl)
-naming-other field-name p (TypeName cs) d = refl
-naming-other field-name p (TypeNumber j) d = refl
+naming-other : {kind : ℕ} {part : Item → Option (List ℕ)} → Naming kind part → (p e : ℕ) (i : Item) → (itemRow p e i .kind ≡ kind → ⊥) → part i ≡ none
+naming-other class-name p e (Val v) d = refl
+naming-other class-name p e (Definition n) d = refl
+naming-other class-name p e (ClassName cs) d = absurd (d refl)
+naming-other class-name p e (FieldName cs) d = refl
+naming-other class-name p e (TypeName cs) d = refl
+naming-other class-name p e (TypeNumber j) d = refl
+naming-other field-name p e (Val v) d = refl
+naming-other field-name p e (Definition n) d = refl
+naming-other field-name p e (ClassName cs) d = refl
+naming-other field-name p e (FieldName cs) d = absurd (d refl)
+naming-other field-name p e (TypeName cs) d = refl
+naming-other field-name p e (TypeNumber j) d = refl
 
 module _ (source t b : List ℕ) (n k : ℕ) (l : k ≤ length (itemsIn source t b n)) (x : Fetched) (h : FetchMet t b n k x) (kind : ℕ) (out : List ℕ) (s : ℕ) where
   abbrev Items : List Item
@@ -63,14 +65,14 @@ module _ (source t b : List ℕ) (n k : ℕ) (l : k ≤ length (itemsIn source t
   pub name-past : {out′ : List ℕ} → x ≡ fetched.End → NameMet kind Items k out s put.NoRecord out′
   name-past e = record { says = λ part n c. record { says = name-end part c Items k (fetched-end source l h e) } }
 
-  module _ (r : RowRead) (e : x ≡ fetched.Row r) where
+  module _ (r : code.Row) (e : x ≡ fetched.Row r) where
     here : Stands source r Items k
     here = fetched-stands source l h e
 
     pub name-unlike : {out′ : List ℕ} → (r .kind ≡ kind → ⊥) → NameMet kind Items k out s put.NoRecord out′
     name-unlike d = record {
       says = λ part n c. record {
-        says = stands-either here (λ i q e. name-other part c Items k i e (naming-other n (r .place) i (λ z. d (sym q ∙ z)))) (λ e. name-end part c Items k e);
+        says = stands-either here (λ i q e. name-other part c Items k i e (naming-other n (r .place) (r .after) i (λ z. d (sym q ∙ z)))) (λ e. name-end part c Items k e);
       };
     }
 
@@ -184,7 +186,7 @@ module _ (is : List Item) (k n : ℕ) (out : List ℕ) (s : ℕ) (o₁ : List �
         go put.NoRecord z = λ c i l f. let w = named c (put.Done s₂) e in definition-uncounted base c is k n i l (omega arith) f (w .0) (w .1) z
 
 -- ---- a class definition, whose row r stands at k
-module _ (source : List ℕ) (is : List Item) (ks : List ℕ) (k s : ℕ) (v : Ready is ks k s) (r : RowRead) (x : Stands source r is k) (h : r .kind ≡ 15) where
+module _ (source : List ℕ) (is : List Item) (ks : List ℕ) (k s : ℕ) (v : Ready is ks k s) (r : code.Row) (x : Stands source r is k) (h : r .kind ≡ 15) where
   abbrev Defined : Walked
   Defined = walk (putDefinition base) (knownIn ks) is k
 
@@ -272,6 +274,7 @@ pub record Defining (is : List Item) (k size : ℕ) (ks₀ out₀ ks out : List 
   pub puts : Puts out₀ size written out s
   pub ready : Ready is ks p s
   pub onward : k ≤ p
+  pub bare : NoneIn is k p
 
 pub defining-start : (is : List Item) (k size : ℕ) (ks out : List ℕ) → Ready is ks k size → Defining is k size ks out ks out k size
 defining-start is k size ks out v = record {
@@ -280,45 +283,51 @@ defining-start is k size ks out v = record {
   puts = puts-none out size (v .size-few);
   ready = v;
   onward = omega arith;
+  bare = λ j a b w x. omega arith;
 }
 
+none-on : {is : List Item} {k p q : ℕ} → NoneIn is k p → NoneIn is p q → NoneIn is k q
+none-on {p = p} h g j a b v x = split j p (λ l. h j a l v x) (λ l. g j l b v x)
+
 -- no definition, by the kind
-undefining : (p : ℕ) (i : Item) → (itemRow p i .kind ≡ 15 → ⊥) → definition? i ≡ none
-undefining p (Val v) d = refl
-undefining p (Definition n) d = absurd (d refl)
-undefining p (ClassName cs) d = refl
-undefining p (FieldName cs) d = refl
-undefining p (TypeName cs) d = refl
-undefining p (TypeNumber j) d = refl
+undefining : (p e : ℕ) (i : Item) → (itemRow p e i .kind ≡ 15 → ⊥) → definition? i ≡ none
+undefining p e (Val v) d = refl
+undefining p e (Definition n) d = absurd (d refl)
+undefining p e (ClassName cs) d = refl
+undefining p e (FieldName cs) d = refl
+undefining p e (TypeName cs) d = refl
+undefining p e (TypeNumber j) d = refl
 
 module _ (source t b : List ℕ) (n k size : ℕ) (ks₀ out₀ ks out : List ℕ) (p s : ℕ) (R : Defining (itemsIn source t b n) k size ks₀ out₀ ks out p s) (x : Fetched) (h : FetchMet t b n p x) where
   abbrev All : List Item
   All = itemsIn source t b n
 
-  pub defining-end : x ≡ fetched.End → FoundMet source All n k size ks₀ out₀ found.NoRecord ks out
+  pub defining-end : x ≡ fetched.End → FoundMet source (rowsIn t b n) All n k size ks₀ out₀ found.NoRecord ks out
   defining-end e = record {
     says = λ openFrom d. R .left openFrom d ∙ ap (behind (R .written)) (value-end base openFrom d (knownIn ks) All p (fetched-end source (R .ready .within) h e));
   }
 
-  module _ (r : RowRead) (e : x ≡ fetched.Row r) where
+  module _ (r : code.Row) (e : x ≡ fetched.Row r) where
     pub defining-inside : p < n
     defining-inside = fetched-inside source (R .ready .within) h e
 
     pub defining-stands : Stands source r All p
     defining-stands = fetched-stands source (R .ready .within) h e
 
-    pub defining-value : (r .kind ≡ 15 → ⊥) → FoundMet source All n k size ks₀ out₀ (found.Value p s r) ks out
+    pub defining-value : (r .kind ≡ 15 → ⊥) → FoundMet source (rowsIn t b n) All n k size ks₀ out₀ (found.Value p s r) ks out
     defining-value d = record {
       says = record {
         written = R .written;
         says = λ openFrom m. R .left openFrom m ∙ ap (behind (R .written)) (stands-either defining-stands
-            (λ i q a. value-plain base openFrom m (knownIn ks) All p i a (undefining (r .place) i (λ z. d (sym q ∙ z))))
+            (λ i q a. value-plain base openFrom m (knownIn ks) All p i a (undefining (r .place) (r .after) i (λ z. d (sym q ∙ z))))
             (λ a. value-end base openFrom m (knownIn ks) All p a ∙ sym (plain-end base openFrom (below base openFrom m) (knownIn ks) All p a)));
         puts = R .puts;
         ready = R .ready;
         onward = R .onward;
         inside = defining-inside;
         stands = defining-stands;
+        row-is = h .row-is r e;
+        bare = R .bare;
       };
     }
 
@@ -329,7 +338,7 @@ module _ (source t b : List ℕ) (n k size : ℕ) (ks₀ out₀ ks out : List �
           (λ z. f (r .first) (defining-stands .item _ (first-item source kinds.a-definition (rowOf r) i (eqb-true (r .second) 0 z))))
           (λ z. g (defining-stands .lost (first-none source kinds.a-definition (rowOf r) i (eqb-false (r .second) 0 z))))
 
-      pub defining-lost : q ≡ step.NoRecord → FoundMet source All n k size ks₀ out₀ found.NoRecord ks₁ out₁
+      pub defining-lost : q ≡ step.NoRecord → FoundMet source (rowsIn t b n) All n k size ks₀ out₀ found.NoRecord ks₁ out₁
       defining-lost f =
           let u = subst (λ (q : Step). StepSays (walk (putDefinition base) (knownIn ks) All p) All (p + 1) s out q ks₁ out₁) f (y .says) in
           record {
@@ -357,4 +366,5 @@ module _ (source t b : List ℕ) (n k size : ℕ) (ks₀ out₀ ks out : List �
           puts = puts-on (R .puts) (went .puts);
           ready = went .ready;
           onward = omega (arith, R .onward, went .onward);
+          bare = none-on (R .bare) (definition-none base (knownIn ks) All p (went .written) p′ (knownIn ks₁) (went .says));
         }

@@ -18,19 +18,21 @@ use Rattle.record.specs.Answers.{Put, putThen, putMany, putBytes, objectCode, b
 use Rattle.record.specs.Shorthands.{codeThen}
 use Rattle.record.specs.Claimed.{itemAt}
 use Rattle.record.specs.RowItems.{untyped-list, untyped-map, typed-list, typed-map, an-object, first-item, first-none, both-item}
-use Rattle.record.specs.Walked.{At, at-within, Walked, Stuck, walk, behind, Drops, many-drops, then-drops, walk-both, walk-unless-one, walk-unless-other, walk-first, walk-first-none}
-use Rattle.record.specs.Drops.{nothing-drops, type-drops}
+use Rattle.record.specs.Takes.{Drops, takes-drops, bytes-takes, then-takes, many-takes, type-takes}
+use Rattle.record.specs.Walked.{At, at-within, Walked, Over, Stuck, walk, behind, walk-bytes, walk-both, walk-unless-one, walk-unless-other, walk-first, walk-first-none}
 use Rattle.record.specs.Writes.{ended, list-few, list-counted, list-uncounted, list-open, list-stuck, open-body, open-stuck, object-few, object-many, plain-end, plain-list, plain-typed-list, plain-map, plain-typed-map, plain-object}
 use Rattle.record.specs.Contents.{walk-elements, walk-couples}
 use Rattle.record.specs.KnownArray.{knownIn, Kept, classes-counted, references-more, known-opened, kept-opened}
-use Rattle.writer.specs.declared.rows.RowRead.{RowRead}
+use Rattle.record.specs.declared.Row as code
 use Rattle.writer.specs.declared.puts.Put.the-variants as put
 use Rattle.writer.specs.declared.puts.Put as puts
 use Rattle.writer.specs.declared.puts.Step.{Step}
 use Rattle.writer.specs.declared.puts.Step.the-variants as step
 use Rattle.writer.specs.declared.holders.Begun.{Begun}
 use Rattle.writer.specs.declared.holders.Begun.the-variants as begun
-use Rattle.writer.specs.Inside.{rowOf, Stands, Puts, PutMet, Ready, Went, StepMet, typeBy, OpensMet, Holder, fewCode, countedCode, openCode, mapCode, listCode, listBy, mapBy, objectBy, plainBy, ObjectMet}
+use Rattle.record.specs.Bare.{NoneIn, type-none}
+use Rattle.record.specs.RowLaws.{rowOf}
+use Rattle.writer.specs.Inside.{Stands, Puts, PutMet, Ready, Went, StepMet, typeBy, OpensMet, HolderMet, Holder, fewCode, countedCode, openCode, mapCode, listCode, listBy, mapBy, objectBy, plainBy, ObjectMet}
 use Rattle.writer.proofs.Putting.{puts-on}
 
 -- ---- a code before a form
@@ -59,6 +61,7 @@ module _ (j n : ℕ) (ks : List ℕ) (w : Kept ks) (k s : ℕ) (out : List ℕ) 
   object-ungiven l out′ = record {
     says = λ is z. record {
       says = λ g d. walk-unless-other (knownIn ks) is k (coded g) (eqb (getD (knownIn ks .classes) j 0) n) (ltb j (length (knownIn ks .classes))) (le-ltb j (length (knownIn ks .classes)) (omega (arith, classes-counted w)));
+      bare = tt;
     };
   }
 
@@ -67,6 +70,7 @@ module _ (j n : ℕ) (ks : List ℕ) (w : Kept ks) (k s : ℕ) (out : List ℕ) 
     object-misfit x out′ = record {
       says = λ is z. record {
         says = λ g d. walk-unless-one (knownIn ks) is k (coded g) (eqb (getD (knownIn ks .classes) j 0) n) (ltb j (length (knownIn ks .classes))) (ne-eqb (getD (knownIn ks .classes) j 0) n (λ e. x (sym (given l) ∙ e)));
+        bare = tt;
       };
     }
 
@@ -79,7 +83,7 @@ module _ (j n : ℕ) (ks : List ℕ) (w : Kept ks) (k s : ℕ) (out : List ℕ) 
       module _ (r : puts.Put) (out′ : List ℕ) (h : PutMet (objectCode j) out s r out′) where
         pub object-uncoded : r ≡ put.NoRecord → ObjectMet j n ks k s out begun.NoRecord out′
         object-uncoded x = let y : PutMet (objectCode j) out s put.NoRecord out′ = rw x at h in
-            record { says = λ is z. record { says = λ g d. by-code is g none (y .says) ∙ walk-first-none (knownIn ks) is k (putMany g n) } }
+            record { says = λ is z. record { says = λ g d. by-code is g none (y .says) ∙ walk-first-none (knownIn ks) is k (putMany g n); bare = tt } }
 
         pub object-opens : (s′ : ℕ) → r ≡ put.Done s′ → ObjectMet j n ks k s out (begun.Within (Elements n) false k s′) out′
         object-opens s′ x = let y : PutMet (objectCode j) out s (put.Done s′) out′ = rw x at h in
@@ -93,13 +97,18 @@ module _ (j n : ℕ) (ks : List ℕ) (w : Kept ks) (k s : ℕ) (out : List ℕ) 
                   ready = record { kept = z .kept; within = z .within; references-few = z .references-few; size-few = omega (arith, y .says .2 .grows) };
                   onward = omega arith;
                 };
+                bare = λ j a b v x. omega arith;
               };
             }
 
 -- ---- a type, or none
 by-drops : (typed : Bool) (t : ℕ) → Drops (typeBy typed t)
-by-drops true t = type-drops base t
-by-drops false t = nothing-drops
+by-drops true t = takes-drops (type-takes base t)
+by-drops false t = bytes-takes (some [])
+
+bare-by : (typed : Bool) (t : ℕ) (c : Known) (is : List Item) (k : ℕ) → k ≤ length is → (w : List ℕ) (p : ℕ) (c′ : Known) → walk (typeBy typed t) c is k ≡ Over w p c′ → NoneIn is k p
+bare-by true t c is k l w p c′ e = type-none base c is k w p c′ t e
+bare-by false t c is k l w p c′ e = let f = walk-bytes c is k [] l in let q : k ≡ p = cc in λ j a b v x. omega arith
 
 -- a code b, and then a type, by what was answered of it
 module _ (typed : Bool) (t : ℕ) (ks : List ℕ) (is : List Item) (k s : ℕ) (z : Ready is ks k s) (out : List ℕ) (b : ℕ) (o₁ : List ℕ) (s₁ : ℕ) (y : Puts out s (b ∷ []) o₁ s₁) (r : Step) (ks′ o₂ : List ℕ) (h : StepMet (walk (typeBy typed t) (knownIn ks) is k) is k s₁ o₁ r ks′ o₂) where
@@ -109,6 +118,10 @@ module _ (typed : Bool) (t : ℕ) (ks : List ℕ) (is : List Item) (k s : ℕ) (
   went : (p s₂ : ℕ) → r ≡ step.Done p s₂ → Went (walk (typeBy typed t) (knownIn ks) is k) is k s₁ o₁ p s₂ ks′ o₂
   went p s₂ e = let q : StepMet (walk (typeBy typed t) (knownIn ks) is k) is k s₁ o₁ (step.Done p s₂) ks′ o₂ = rw e at h in q .says
 
+  -- no value stands among the items of a type
+  typed-bare : (p s₂ : ℕ) → r ≡ step.Done p s₂ → NoneIn is k p
+  typed-bare p s₂ e = let w = went p s₂ e in bare-by typed t (knownIn ks) is k (z .within) (w .written) p (knownIn ks′) (w .says)
+
   pub type-few : (p s₂ : ℕ) → r ≡ step.Done p s₂ → s₂ ≤ 262_145
   type-few p s₂ e = went p s₂ e .ready .size-few
 
@@ -117,6 +130,7 @@ module _ (typed : Bool) (t : ℕ) (ks : List ℕ) (is : List Item) (k s : ℕ) (
     pub list-untyped : r ≡ step.NoRecord → (out′ : List ℕ) → OpensMet (listBy typed t f n (knownIn ks) is k) is k s out begun.NoRecord ks′ out′
     list-untyped e out′ = record {
       says = λ g d. list-stuck f (fewCode typed) (countedCode typed) (openCode typed) n (typeBy typed t) (putMany g n) (by-drops typed t) (knownIn ks) is k (z .within) (lost e);
+      bare = tt;
     }
 
     module _ (p s₂ : ℕ) (e : r ≡ step.Done p s₂) where
@@ -138,6 +152,7 @@ module _ (typed : Bool) (t : ℕ) (ks : List ℕ) (is : List Item) (k s : ℕ) (
           ready = typed-as .ready;
           onward = typed-as .onward;
         };
+        bare = typed-bare p s₂ e;
       }
 
       module _ (l : 8 ≤ n) where
@@ -146,18 +161,20 @@ module _ (typed : Bool) (t : ℕ) (ks : List ℕ) (is : List Item) (k s : ℕ) (
           says = record {
             written = openCode typed ∷ typed-as .written;
             says = λ g d.
-                list-open f (fewCode typed) (countedCode typed) (openCode typed) n (typeBy typed t) (putMany g n) (by-drops typed t) (knownIn ks) is k (z .within) (typed-as .written) p (knownIn ks′) (typed-as .says) (typed-as .ready .within) l m (many-drops g d n)
+                list-open f (fewCode typed) (countedCode typed) (openCode typed) n (typeBy typed t) (putMany g n) (by-drops typed t) (knownIn ks) is k (z .within) (typed-as .written) p (knownIn ks′) (typed-as .says) (typed-as .ready .within) l m (takes-drops (many-takes d n))
                 ∙ ap (λ (o : Walked). behind (openCode typed ∷ typed-as .written) (ended o)) (walk-elements g n (knownIn ks′) is p);
             puts = coded-as (openCode typed) (i ∙ pick-false _ _ (le-ltb n 8 l) ∙ pick-false _ _ (le-ltb n f m));
             ready = typed-as .ready;
             onward = typed-as .onward;
           };
+          bare = typed-bare p s₂ e;
         }
 
         module _ (m : n < f) (x : puts.Put) (out′ : List ℕ) (u : PutMet (shortestInt n) o₂ s₂ x out′) where
           pub list-countless : x ≡ put.NoRecord → OpensMet (listBy typed t f n (knownIn ks) is k) is k s out begun.NoRecord ks′ out′
           list-countless j = let v : PutMet (shortestInt n) o₂ s₂ put.NoRecord out′ = rw j at u in record {
             says = λ g d. list-uncounted f (fewCode typed) (countedCode typed) (openCode typed) n (typeBy typed t) (putMany g n) (by-drops typed t) (knownIn ks) is k (z .within) (typed-as .written) p (knownIn ks′) (typed-as .says) (typed-as .ready .within) l m (v .says);
+            bare = tt;
           }
 
           pub list-of-count : (s′ : ℕ) → x ≡ put.Done s′ → OpensMet (listBy typed t f n (knownIn ks) is k) is k s out (begun.Within (Elements n) false p s′) ks′ out′
@@ -171,6 +188,7 @@ module _ (typed : Bool) (t : ℕ) (ks : List ℕ) (is : List Item) (k s : ℕ) (
               ready = record { kept = typed-as .ready .kept; within = typed-as .ready .within; references-few = typed-as .ready .references-few; size-few = omega (arith, v .says .2 .grows) };
               onward = typed-as .onward;
             };
+            bare = typed-bare p s₂ e;
           }
 
   -- ---- a map of n pairs
@@ -178,6 +196,7 @@ module _ (typed : Bool) (t : ℕ) (ks : List ℕ) (is : List Item) (k s : ℕ) (
     pub map-untyped : r ≡ step.NoRecord → (out′ : List ℕ) → OpensMet (mapBy typed t n (knownIn ks) is k) is k s out begun.NoRecord ks′ out′
     map-untyped e out′ = record {
       says = λ g d. open-stuck 0 0 0 0 n (typeBy typed t) (putMany (putThen g g) n) (by-drops typed t) (knownIn ks) is k (z .within) (lost e) (mapCode typed);
+      bare = tt;
     }
 
     pub map-opens : (p s₂ : ℕ) → r ≡ step.Done p s₂ → OpensMet (mapBy typed t n (knownIn ks) is k) is k s out (begun.Within (Couples n) true p s₂) ks′ o₂
@@ -185,21 +204,27 @@ module _ (typed : Bool) (t : ℕ) (ks : List ℕ) (is : List Item) (k s : ℕ) (
       says = record {
         written = mapCode typed ∷ w .written;
         says = λ g d.
-            open-body 0 0 0 0 n (typeBy typed t) (putMany (putThen g g) n) (by-drops typed t) (knownIn ks) is k (z .within) (w .written) p (knownIn ks′) (w .says) (w .ready .within) (mapCode typed) (many-drops (putThen g g) (then-drops g g d d) n)
+            open-body 0 0 0 0 n (typeBy typed t) (putMany (putThen g g) n) (by-drops typed t) (knownIn ks) is k (z .within) (w .written) p (knownIn ks′) (w .says) (w .ready .within) (mapCode typed) (takes-drops (many-takes (then-takes d d) n))
             ∙ ap (λ (o : Walked). behind (mapCode typed ∷ w .written) (ended o)) (walk-couples g n (knownIn ks′) is p);
         puts = rw (← i) (puts-on y (w .puts));
         ready = w .ready;
         onward = w .onward;
       };
+      bare = typed-bare p s₂ e;
     }
 
 -- ---- the value of the row r, which stands at k
 -- what is written is the same by another name
 opens-as : {o o′ : Put → Walked} {is : List Item} {from s : ℕ} {out : List ℕ} (r : Begun) {ks′ out′ : List ℕ} → ((g : Put) → o′ g ≡ o g) → OpensMet o is from s out r ks′ out′ → OpensMet o′ is from s out r ks′ out′
-opens-as (begun.Past p s′) e h = record { says = h .says }
+opens-as (begun.Past p s′) e h = record { says = h .says; bare = tt }
 opens-as (begun.Within x t p s′) e h = let z = h .says in
-    record { says = record { written = z .written; says = λ g d. e g ∙ z .says g d; puts = z .puts; ready = z .ready; onward = z .onward } }
-opens-as begun.NoRecord e h = record { says = λ g d. e g ∙ h .says g d }
+    record { says = record { written = z .written; says = λ g d. e g ∙ z .says g d; puts = z .puts; ready = z .ready; onward = z .onward }; bare = h .bare }
+opens-as begun.NoRecord e h = record { says = λ g d. e g ∙ h .says g d; bare = tt }
+
+holder-met : (f : ℕ) (ks : List ℕ) (is : List Item) (k s : ℕ) (out : List ℕ) (r : Begun) (ks′ out′ : List ℕ) (v : Value) → At is k (Val v) → OpensMet (plainBy f (knownIn ks) is k) is (k + 1) s out r ks′ out′ → HolderMet f ks is k s out r ks′ out′
+holder-met f ks is k s out (begun.Past p s′) ks′ out′ v a h = record { opens = h; at = tt }
+holder-met f ks is k s out (begun.Within x t p s′) ks′ out′ v a h = record { opens = h; at = (v, a) }
+holder-met f ks is k s out begun.NoRecord ks′ out′ v a h = record { opens = h; at = tt }
 
 abbrev listOf : Bool → ℕ → ℕ → Value
 listOf true n t = TypedList n t
@@ -226,11 +251,11 @@ module _ (f : ℕ) (c : Known) (is : List Item) (k : ℕ) (g : Put) where
   object-is j n e = plain-object base f (some g) c is k (Val (Object j n)) e (Object j n) refl g refl j n refl
 
 -- a list or map has a type, or no second number
-pub data Fitting (r : RowRead) : Type 0 where
+pub data Fitting (r : code.Row) : Type 0 where
   has-type : (r .kind % 2 ≡ 1 → ⊥) → Fitting r
   no-second : r .second ≡ 0 → Fitting r
 
-module _ (source : List ℕ) (r : RowRead) (is : List Item) (k : ℕ) (z : Stands source r is k) where
+module _ (source : List ℕ) (r : code.Row) (is : List Item) (k : ℕ) (z : Stands source r is k) where
   module _ (u : Fitting r) where
     second-is : r .kind % 2 ≡ 1 → r .second ≡ 0
     second-is e = go u
@@ -254,8 +279,8 @@ module _ (source : List ℕ) (r : RowRead) (is : List Item) (k : ℕ) (z : Stand
         go false e = let q = eqb-false (r .kind % 2) 0 e in z .item _ (first-item source untyped-map (rowOf r) (omega arith) (second-is (omega arith)))
 
   -- no list, map or object at all
-  pub held-lost : Holder (r .kind) → (r .kind ≡ 13 → ⊥) → r .kind % 2 ≡ 1 → (r .second ≡ 0 → ⊥) → (f s : ℕ) (ks out ks′ out′ : List ℕ) → OpensMet (plainBy f (knownIn ks) is k) is (k + 1) s out begun.NoRecord ks′ out′
-  held-lost h a b d f s ks out ks′ out′ = record { says = λ g y. plain-end base f (some g) (knownIn ks) is k (z .lost none-there) }
+  pub held-lost : Holder (r .kind) → (r .kind ≡ 13 → ⊥) → r .kind % 2 ≡ 1 → (r .second ≡ 0 → ⊥) → (f s : ℕ) (ks out ks′ out′ : List ℕ) → HolderMet f ks is k s out begun.NoRecord ks′ out′
+  held-lost h a b d f s ks out ks′ out′ = record { opens = record { says = λ g y. plain-end base f (some g) (knownIn ks) is k (z .lost none-there); bare = tt }; at = tt }
     where
       none-there : itemAt source (rowOf r) ≡ none
       none-there = split (r .kind) 10
@@ -282,18 +307,18 @@ module _ (source : List ℕ) (r : RowRead) (is : List Item) (k : ℕ) (z : Stand
 
     module _ (f : ℕ) (out : List ℕ) (p : Begun) where
       pub object-held : r .kind ≡ 13 → (out′ : List ℕ) → ObjectMet (r .first) (r .second) (more ks) (k + 1) s out p out′
-          → OpensMet (plainBy f (knownIn ks) is k) is (k + 1) s out p (more ks) out′
+          → HolderMet f ks is k s out p (more ks) out′
       object-held e out′ h =
           let a = z .item (Val (Object (r .first) (r .second))) (both-item source an-object (rowOf r) e) in
-          opens-as p (λ g. object-is f (knownIn ks) is k g (r .first) (r .second) a ∙ known-as (λ c k. objectBy (r .first) (r .second) c is k g)) (h .says is (ready-past _ a))
+          holder-met f ks is k s out p (more ks) out′ (Object (r .first) (r .second)) a (opens-as p (λ g. object-is f (knownIn ks) is k g (r .first) (r .second) a ∙ known-as (λ c k. objectBy (r .first) (r .second) c is k g)) (h .says is (ready-past _ a)))
 
       module _ (t : Holder (r .kind)) (u : Fitting r) (ks′ out′ : List ℕ) where
         pub list-held : r .kind < 11 → OpensMet (listBy (eqb (r .kind % 2) 0) (r .second) f (r .first) (knownIn (more ks)) is (k + 1)) is (k + 1) s out p ks′ out′
-            → OpensMet (plainBy f (knownIn ks) is k) is (k + 1) s out p ks′ out′
-        list-held l h = opens-as p (λ g. list-is f (knownIn ks) is k g (eqb (r .kind % 2) 0) (r .first) (r .second) (list-at u (t .from) l)
-            ∙ known-as (λ c k. listBy (eqb (r .kind % 2) 0) (r .second) f (r .first) c is k g)) h
+            → HolderMet f ks is k s out p ks′ out′
+        list-held l h = holder-met f ks is k s out p ks′ out′ (listOf (eqb (r .kind % 2) 0) (r .first) (r .second)) (list-at u (t .from) l) (opens-as p (λ g. list-is f (knownIn ks) is k g (eqb (r .kind % 2) 0) (r .first) (r .second) (list-at u (t .from) l)
+            ∙ known-as (λ c k. listBy (eqb (r .kind % 2) 0) (r .second) f (r .first) c is k g)) h)
 
         pub map-held : 11 ≤ r .kind → (r .kind ≡ 13 → ⊥) → OpensMet (mapBy (eqb (r .kind % 2) 0) (r .second) (r .first) (knownIn (more ks)) is (k + 1)) is (k + 1) s out p ks′ out′
-            → OpensMet (plainBy f (knownIn ks) is k) is (k + 1) s out p ks′ out′
-        map-held l d h = opens-as p (λ g. map-is f (knownIn ks) is k g (eqb (r .kind % 2) 0) (r .first) (r .second) (map-at u l (omega (arith, t .to)))
-            ∙ known-as (λ c k. mapBy (eqb (r .kind % 2) 0) (r .second) (r .first) c is k g)) h
+            → HolderMet f ks is k s out p ks′ out′
+        map-held l d h = holder-met f ks is k s out p ks′ out′ (mapOf (eqb (r .kind % 2) 0) (r .first) (r .second)) (map-at u l (omega (arith, t .to))) (opens-as p (λ g. map-is f (knownIn ks) is k g (eqb (r .kind % 2) 0) (r .first) (r .second) (map-at u l (omega (arith, t .to)))
+            ∙ known-as (λ c k. mapBy (eqb (r .kind % 2) 0) (r .second) (r .first) c is k g)) h)

@@ -18,15 +18,16 @@ use Rattle.record.specs.Answers.{value?, base}
 use Rattle.record.specs.Claimed.{itemAt, claims-back}
 use Rattle.record.specs.RowItems.{a-number, a-reference, a-text, first-item, first-none, string-lost, string-item, string-other-length, string-other-second}
 use Rattle.record.specs.Writes.{plain-end, plain-other, plain-leaf, plain-no-leaf, plain-reference, plain-far, plain-ungiven}
-use Rattle.writer.specs.declared.rows.RowRead.{RowRead}
+use Rattle.record.specs.declared.Row as code
 use Rattle.writer.specs.declared.puts.Put.{Put}
 use Rattle.writer.specs.declared.puts.Put.the-variants as put
-use Rattle.writer.specs.Inside.{rowOf, Puts, PutMet, StringMet, NoHolder, LeafMet, NumberMet, ContentMet, ReferenceMet}
+use Rattle.record.specs.RowLaws.{rowOf}
+use Rattle.writer.specs.Inside.{Puts, PutMet, StringMet, NoHolder, LeafMet, NumberMet, ContentMet, ReferenceMet}
 use Rattle.writer.proofs.Putting.{puts-on}
 use Rattle.writer.proofs.Texted.{text-put, text-not}
 
 -- ---- by what the row claims
-module _ (source : List ℕ) (r : RowRead) (references : ℕ) (out : List ℕ) (s : ℕ) where
+module _ (source : List ℕ) (r : code.Row) (references : ℕ) (out : List ℕ) (s : ℕ) where
   -- nothing
   leaf-lost : (out′ : List ℕ) → itemAt source (rowOf r) ≡ none → LeafMet source r references out s put.NoRecord out′
   leaf-lost out′ e = record { says = λ f b c is k z q. record { says = plain-end base f b c is k (z .lost e) } }
@@ -53,25 +54,25 @@ module _ (source : List ℕ) (r : RowRead) (references : ℕ) (out : List ℕ) (
       above : 14 < r .kind
       above = ⊎-elim (λ l. absurd (omega arith)) (λ l. omega arith) (n .other)
 
-      value-kind : (p : ℕ) (v : Value) → itemRow p (Val v) .kind ≤ 14
-      value-kind p (Leaf (Num sort.Null v)) = omega arith
-      value-kind p (Leaf (Num sort.False v)) = omega arith
-      value-kind p (Leaf (Num sort.True v)) = omega arith
-      value-kind p (Leaf (Num sort.Int v)) = omega arith
-      value-kind p (Leaf (Num sort.Long v)) = omega arith
-      value-kind p (Leaf (Num sort.Double v)) = omega arith
-      value-kind p (Leaf (Num sort.Date v)) = omega arith
-      value-kind p (Leaf (Str Utf8 cs)) = omega arith
-      value-kind p (Leaf (Str Binary cs)) = omega arith
-      value-kind p (UntypedList n) = omega arith
-      value-kind p (TypedList n t) = omega arith
-      value-kind p (UntypedMap n) = omega arith
-      value-kind p (TypedMap n t) = omega arith
-      value-kind p (Object j n) = omega arith
-      value-kind p (Reference j) = omega arith
+      value-kind : (p e : ℕ) (v : Value) → itemRow p e (Val v) .kind ≤ 14
+      value-kind p e (Leaf (Num sort.Null v)) = omega arith
+      value-kind p e (Leaf (Num sort.False v)) = omega arith
+      value-kind p e (Leaf (Num sort.True v)) = omega arith
+      value-kind p e (Leaf (Num sort.Int v)) = omega arith
+      value-kind p e (Leaf (Num sort.Long v)) = omega arith
+      value-kind p e (Leaf (Num sort.Double v)) = omega arith
+      value-kind p e (Leaf (Num sort.Date v)) = omega arith
+      value-kind p e (Leaf (Str Utf8 cs)) = omega arith
+      value-kind p e (Leaf (Str Binary cs)) = omega arith
+      value-kind p e (UntypedList n) = omega arith
+      value-kind p e (TypedList n t) = omega arith
+      value-kind p e (UntypedMap n) = omega arith
+      value-kind p e (TypedMap n t) = omega arith
+      value-kind p e (Object j n) = omega arith
+      value-kind p e (Reference j) = omega arith
 
-      by-item : (i : Item) → itemRow (r .place) i ≡ rowOf r → value? i ≡ none
-      by-item (Val v) e = absurd (omega (arith, above, value-kind (r .place) v, ap (λ (y : Row). y .kind) e))
+      by-item : (i : Item) → itemRow (r .place) (r .after) i ≡ rowOf r → value? i ≡ none
+      by-item (Val v) e = absurd (omega (arith, above, value-kind (r .place) (r .after) v, ap (λ (y : Row). y .kind) e))
       by-item (Definition n) e = refl
       by-item (ClassName cs) e = refl
       by-item (FieldName cs) e = refl
@@ -83,16 +84,16 @@ module _ (source : List ℕ) (r : RowRead) (references : ℕ) (out : List ℕ) (
       go (some i) e = leaf-other out′ i e (by-item i (claims-back source (rowOf r) i e .agrees))
 
 -- ---- a number
-module _ (x : Sort) (r : RowRead) (out : List ℕ) (s : ℕ) (p : Put) (out′ : List ℕ) where
+module _ (x : Sort) (r : code.Row) (out : List ℕ) (s : ℕ) (p : Put) (out′ : List ℕ) where
   pub number-put : r .second ≡ 0 → PutMet (shortest (formsOf x) (r .first)) out s p out′ → NumberMet x r out s p out′
   unfolding shortestScalar
   number-put z h = record { says = λ source references e. leaf-put source r references out s (Num x (r .first)) (first-item source (a-number x) (rowOf r) e z) p out′ h }
 
-pub number-lost : (x : Sort) (r : RowRead) (out : List ℕ) (s : ℕ) (out′ : List ℕ) → (r .second ≡ 0 → ⊥) → NumberMet x r out s put.NoRecord out′
+pub number-lost : (x : Sort) (r : code.Row) (out : List ℕ) (s : ℕ) (out′ : List ℕ) → (r .second ≡ 0 → ⊥) → NumberMet x r out s put.NoRecord out′
 number-lost x r out s out′ z = record { says = λ source references e. leaf-lost source r references out s out′ (first-none source (a-number x) (rowOf r) e z) }
 
 -- ---- a reference
-module _ (r : RowRead) (references : ℕ) (out : List ℕ) (s : ℕ) where
+module _ (r : code.Row) (references : ℕ) (out : List ℕ) (s : ℕ) where
   pub reference-lost : (out′ : List ℕ) → (r .second ≡ 0 → ⊥) → ReferenceMet r references out s put.NoRecord out′
   reference-lost out′ z = record { says = λ source e. leaf-lost source r references out s out′ (first-none source a-reference (rowOf r) e z) }
 
@@ -131,7 +132,7 @@ module _ (r : RowRead) (references : ℕ) (out : List ℕ) (s : ℕ) where
     }
 
 -- ---- a text
-pub leaf-text : (source : List ℕ) (r : RowRead) (references : ℕ) (out : List ℕ) (s : ℕ) → r .kind ≡ 7 → (p : Put) (out′ : List ℕ) → StringMet Utf8 source (r .place) (r .first) (r .second) out s p out′ → LeafMet source r references out s p out′
+pub leaf-text : (source : List ℕ) (r : code.Row) (references : ℕ) (out : List ℕ) (s : ℕ) → r .kind ≡ 7 → (p : Put) (out′ : List ℕ) → StringMet Utf8 source (r .place) (r .first) (r .second) out s p out′ → LeafMet source r references out s p out′
 unfolding shortestScalar
 leaf-text source r references out s e (put.Done n) out′ y =
     let z = text-put a-text source r e y n refl in
@@ -146,7 +147,7 @@ bytes-units : (cs : List ℕ) → units Binary cs ≡ length cs
 bytes-units [] = refl
 bytes-units (b ∷ cs) = omega (arith, bytes-units cs)
 
-module _ (source : List ℕ) (r : RowRead) (out : List ℕ) (s : ℕ) where
+module _ (source : List ℕ) (r : code.Row) (out : List ℕ) (s : ℕ) where
   pub content-lost : (r .second ≡ 0 → ⊥) → (out′ : List ℕ) → ContentMet source r out s put.NoRecord out′
   content-lost d out′ = record { says = λ references e. leaf-lost source r references out s out′ (go e (told (stringAt Binary source (r .place))) refl) }
     where
@@ -170,7 +171,7 @@ module _ (source : List ℕ) (r : RowRead) (out : List ℕ) (s : ℕ) where
           (λ t. leaf-lost source r references out s out′ (string-other-length source (rowOf r) e cs h (eqb-false (r .first) (length cs) t)))
 
 -- ---- by the row's kind
-module _ (source : List ℕ) (r : RowRead) (references : ℕ) (out : List ℕ) (s : ℕ) (p : Put) (out′ : List ℕ) where
+module _ (source : List ℕ) (r : code.Row) (references : ℕ) (out : List ℕ) (s : ℕ) (p : Put) (out′ : List ℕ) where
   pub leaf-number : (x : Sort) → r .kind ≡ sortKind x → NumberMet x r out s p out′ → LeafMet source r references out s p out′
   leaf-number x e h = h .says source references e
 

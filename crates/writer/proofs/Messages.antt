@@ -2,6 +2,7 @@
 use mathlib.Core.Path.{_≡_, refl, sym, ap, subst, _∙_}
 use mathlib.Core.Bool.{Bool, true, false}
 use mathlib.Core.List.{List, []}
+use mathlib.Core.Logic.{⊎-elim}
 use mathlib.Core.Option.{Option, none, some}
 use Prim.Native.Nat.{ℕ, zero, suc, _/_, _≤_, _<_}
 use native.Mathlib.Omega.{arith}
@@ -14,13 +15,13 @@ use Rattle.flow.specs.Flow as slices
 use Rattle.scalar.specs.Answers.{reported}
 use Rattle.record.specs.declared.Contents.the-variants.{Elements}
 use Rattle.record.specs.Records.{Item, Known, start, Row}
-use Rattle.record.specs.Answers.{putValue, WriteAnswer, Wrote, Refused, base, shortestOf, answeredTo, asNumbers, asBytes, rowsOf, reportWritten, written, writeReport, writeOutput}
+use Rattle.record.specs.Answers.{putValue, WriteAnswer, Wrote, Refused, base, shortestOf, answeredTo, asNumbers, asBytes, lentRows, rowsOf, reportWritten, written, writeReport, writeOutput}
 use Rattle.record.specs.Shorthands.{outputWritten}
 use Rattle.record.specs.Shorthands as shorthands
+use Rattle.record.specs.Takes.{value-drops}
 use Rattle.record.specs.Walked.{claimed-few, Walked, Over, Stuck, walk}
-use Rattle.record.specs.Drops.{value-drops}
 use Rattle.record.specs.Contents.{left, one-value}
-use Rattle.record.specs.WrittenWhole.{whole-written, whole-short, whole-stuck}
+use Rattle.record.specs.WrittenWhole.{Rights, whole-written, whole-short, whole-stuck, whole-wrong}
 use Rattle.record.specs.KnownArray.{knownIn}
 use Rattle.writer.specs.declared.puts.Put.{Put}
 use Rattle.writer.specs.declared.puts.Put.the-variants as put
@@ -29,7 +30,7 @@ use Rattle.writer.specs.declared.puts.Step.the-variants as step
 use Rattle.writer.specs.declared.WriteAnswer as answer
 use Rattle.writer.specs.declared.WriteAnswer.the-variants as answers
 use Rattle.writer.specs.Answers.{report}
-use Rattle.writer.specs.Inside.{lentIn, rowsIn, itemsIn, Ready, Went, StepSays, StepMet, PutSays, PutMet, WritesInto, writtenFrom, WritesFrom}
+use Rattle.writer.specs.Inside.{lentIn, rowsIn, itemsIn, Ready, Went, ValuesSay, ValuesMet, PutSays, PutMet, WritesInto, writtenFrom, WritesFrom}
 use Rattle.writer.proofs.Rowed.{rows-counted}
 
 -- ---- before the first row nothing is known
@@ -57,25 +58,25 @@ module _ (openFrom : ℕ) (source t b : List ℕ) (n : ℕ) where
   whole o h = one-value (putValue base openFrom 32) (value-drops base openFrom 32) (itemsIn source t b n) start 0 o h
 
   -- all rows are written, up to q
-  written-all : (w : List ℕ) (q : ℕ) (c : Known) → All ≡ Over w q c → n ≤ q → q ≤ length (itemsIn source t b n) → Shortest ≡ some w
-  written-all w q c h l i = whole-written base openFrom 32 source (rowsIn t b n) w q c (whole (Over w q c) h) (omega (arith, rows-counted t b n, claimed-few source (rowsIn t b n)))
+  written-all : (w : List ℕ) (q : ℕ) (c : Known) → All ≡ Over w q c → n ≤ q → q ≤ length (itemsIn source t b n) → Rights source (rowsIn t b n) (itemsIn source t b n) 0 q → Shortest ≡ some w
+  written-all w q c h l i f = whole-written base openFrom 32 source (rowsIn t b n) w q c (whole (Over w q c) h) (omega (arith, rows-counted t b n, claimed-few source (rowsIn t b n))) f
 
-  module _ (out : List ℕ) (z : Step) (ks′ out′ : List ℕ) (m : StepMet All (itemsIn source t b n) 0 0 out z ks′ out′) where
-    said : (y : Step) → z ≡ y → StepSays All (itemsIn source t b n) 0 0 out y ks′ out′
-    said y e = subst (λ (y : Step). StepSays All (itemsIn source t b n) 0 0 out y ks′ out′) e (m .says)
+  module _ (out : List ℕ) (z : Step) (ks′ out′ : List ℕ) (m : ValuesMet source (rowsIn t b n) All (itemsIn source t b n) 0 0 out z ks′ out′) where
+    said : (y : Step) → z ≡ y → ValuesSay source (rowsIn t b n) All (itemsIn source t b n) 0 0 out y ks′ out′
+    said y e = subst (λ (y : Step). ValuesSay source (rowsIn t b n) All (itemsIn source t b n) 0 0 out y ks′ out′) e (m .says)
 
     pub put-none : z ≡ step.NoRecord → PutMet Shortest out 0 put.NoRecord out′
-    put-none e = record { says = whole-stuck base openFrom 32 source (rowsIn t b n) (whole Stuck (said step.NoRecord e)) }
+    put-none e = record { says = ⊎-elim (λ h. whole-stuck base openFrom 32 source (rowsIn t b n) (whole Stuck h)) (λ h. whole-wrong base openFrom 32 source (rowsIn t b n) h) (said step.NoRecord e) }
 
     module _ (q s : ℕ) (e : z ≡ step.Done q s) where
       went : Went All (itemsIn source t b n) 0 0 out q s ks′ out′
-      went = said (step.Done q s) e
+      went = said (step.Done q s) e .0
 
       pub put-short : q < n → PutMet Shortest out 0 put.NoRecord out′
       put-short l = record { says = whole-short base openFrom 32 source (rowsIn t b n) (went .written) q (knownIn ks′) (whole (Over (went .written) q (knownIn ks′)) (went .says)) (omega (arith, rows-counted t b n)) }
 
       pub put-done : n ≤ q → PutMet Shortest out 0 (put.Done s) out′
-      put-done l = record { says = (went .written, written-all (went .written) q (knownIn ks′) (went .says) l (went .ready .within), went .puts) }
+      put-done l = record { says = (went .written, written-all (went .written) q (knownIn ks′) (went .says) l (went .ready .within) (said (step.Done q s) e .1), went .puts) }
 
 -- ---- what is answered and stored, where the shortest message is o
 module _ (o : Option (List ℕ)) (out : List ℕ) where
@@ -143,10 +144,10 @@ module _ (openFrom : ℕ) (source t b : List ℕ) (n : ℕ) (out : List ℕ) whe
           from (shorthands.stored 262_144 (length out) (Shortest openFrom source t b n)) (answered (Shortest openFrom source t b n) (pick-false _ _ (le-ltb (lentIn t b) n (omega arith)))) r (m .says) out′ (m .holds)
 
 -- ---- one table
-lent-numbers : (t : List ℕ) → lentIn t [] ≡ length t / 4
+lent-numbers : (t : List ℕ) → lentIn t [] ≡ lentRows asNumbers t
 lent-numbers t = pick-true _ _ refl
 
-pub lent-of-numbers : (t : List ℕ) → length t / 4 ≡ lentIn t []
+pub lent-of-numbers : (t : List ℕ) → lentRows asNumbers t ≡ lentIn t []
 lent-of-numbers t = sym (lent-numbers t)
 
 from-numbers : (openFrom : ℕ) (source t : List ℕ) (n lent : ℕ) → writtenFrom openFrom source t [] n lent ≡ written base openFrom 32 262_144 asNumbers source t n lent
@@ -157,33 +158,33 @@ from-numbers openFrom source t n lent =
     λ i. answeredTo 262_144 lent source (pick (ltb (a i) n) none (shortestOf base openFrom 32 source (c i)))
 
 -- of bytes, an empty one too
-lent-bytes : (b : List ℕ) → lentIn [] b ≡ length b / 32
+lent-bytes : (b : List ℕ) → lentIn [] b ≡ lentRows asBytes b
 lent-bytes b = go (eqb (length b) 0) refl
   where
-    go : (e : Bool) → eqb (length b) 0 ≡ e → lentIn [] b ≡ length b / 32
+    go : (e : Bool) → eqb (length b) 0 ≡ e → lentIn [] b ≡ lentRows asBytes b
     go true h = pick-true _ _ h ∙ omega (arith, eqb-true (length b) 0 h)
     go false h = pick-false _ _ h
 
-pub lent-of-bytes : (b : List ℕ) → length b / 32 ≡ lentIn [] b
+pub lent-of-bytes : (b : List ℕ) → lentRows asBytes b ≡ lentIn [] b
 lent-of-bytes b = sym (lent-bytes b)
 
 from-bytes : (openFrom : ℕ) (source b : List ℕ) (n lent : ℕ) → writtenFrom openFrom source [] b n lent ≡ written base openFrom 32 262_144 asBytes source b n lent
 unfolding written rowsOf
 from-bytes openFrom source b n lent = (λ i. answeredTo 262_144 lent source (pick (ltb (lent-bytes b i) n) none (shortestOf base openFrom 32 source (rowsIn [] b n)))) ∙ ap (answeredTo 262_144 lent source) (go n)
   where
-    go : (n : ℕ) → pick (ltb (length b / 32) n) none (shortestOf base openFrom 32 source (rowsIn [] b n)) ≡ pick (ltb (length b / 32) n) none (shortestOf base openFrom 32 source (rowsOf asBytes n b))
-    go zero = ap (λ (r : List Row). pick (ltb (length b / 32) 0) none (shortestOf base openFrom 32 source r)) (both (eqb (length b) 0))
+    go : (n : ℕ) → pick (ltb (lentRows asBytes b) n) none (shortestOf base openFrom 32 source (rowsIn [] b n)) ≡ pick (ltb (lentRows asBytes b) n) none (shortestOf base openFrom 32 source (rowsOf asBytes n b))
+    go zero = ap (λ (r : List Row). pick (ltb (lentRows asBytes b) 0) none (shortestOf base openFrom 32 source r)) (both (eqb (length b) 0))
       where
         both : (e : Bool) → pick e (rowsOf asNumbers 0 []) (rowsOf asBytes 0 b) ≡ rowsOf asBytes 0 b
         both true = pick-true _ _ refl
         both false = pick-false _ _ refl
     go (suc n) = some-rows (eqb (length b) 0) refl
       where
-        some-rows : (e : Bool) → eqb (length b) 0 ≡ e → pick (ltb (length b / 32) (suc n)) none (shortestOf base openFrom 32 source (rowsIn [] b (suc n))) ≡ pick (ltb (length b / 32) (suc n)) none (shortestOf base openFrom 32 source (rowsOf asBytes (suc n) b))
+        some-rows : (e : Bool) → eqb (length b) 0 ≡ e → pick (ltb (lentRows asBytes b) (suc n)) none (shortestOf base openFrom 32 source (rowsIn [] b (suc n))) ≡ pick (ltb (lentRows asBytes b) (suc n)) none (shortestOf base openFrom 32 source (rowsOf asBytes (suc n) b))
         some-rows true h =
-            let l : ltb (length b / 32) (suc n) ≡ true = lt-ltb (length b / 32) (suc n) (omega (arith, eqb-true (length b) 0 h)) in
+            let l : ltb (lentRows asBytes b) (suc n) ≡ true = lt-ltb (lentRows asBytes b) (suc n) (omega (arith, eqb-true (length b) 0 h)) in
             pick-true _ _ l ∙ sym (pick-true _ _ l)
-        some-rows false h = ap (λ (r : List Row). pick (ltb (length b / 32) (suc n)) none (shortestOf base openFrom 32 source r)) (pick-false _ _ h)
+        some-rows false h = ap (λ (r : List Row). pick (ltb (lentRows asBytes b) (suc n)) none (shortestOf base openFrom 32 source r)) (pick-false _ _ h)
 
 module _ (source : List ℕ) (n : ℕ) (out : List ℕ) (r : answer.WriteAnswer) (out′ : List ℕ) where
   pub numbers-written : (t : List ℕ) → WritesFrom 48 source t [] n out r out′

@@ -12,20 +12,21 @@ use Rattle.scalar.specs.Scalars.{units, stringAt, shortestText}
 use Rattle.record.specs.Records.{Item, told}
 use Rattle.record.specs.Claimed.{itemAt}
 use Rattle.record.specs.RowItems.{OfText, text-lost, text-item, text-other-units, text-other-length}
-use Rattle.writer.specs.declared.rows.RowRead.{RowRead}
+use Rattle.record.specs.declared.Row as code
 use Rattle.writer.specs.declared.puts.Put.{Put}
 use Rattle.writer.specs.declared.puts.Put.the-variants as put
-use Rattle.writer.specs.Inside.{rowOf, Puts, Opened, StringSays, StringMet}
+use Rattle.record.specs.RowLaws.{rowOf}
+use Rattle.writer.specs.Inside.{Puts, Opened, StringSays, StringMet}
 
 -- the row claims the item f of a content, whose shortest form is put
-pub record TextPut (f : List ℕ → Item) (source : List ℕ) (r : RowRead) (out : List ℕ) (s : ℕ) (out′ : List ℕ) (s′ : ℕ) : Type 0 where
+pub record TextPut (f : List ℕ → Item) (source : List ℕ) (r : code.Row) (out : List ℕ) (s : ℕ) (out′ : List ℕ) (s′ : ℕ) : Type 0 where
   pub content : List ℕ
   pub written : List ℕ
   pub item : itemAt source (rowOf r) ≡ some (f content)
   pub form : shortestText content ≡ some written
   pub puts : Puts out s written out′ s′
 
-module _ {kind : ℕ} {f : List ℕ → Item} (t : OfText kind f) (source : List ℕ) (r : RowRead) (h : r .kind ≡ kind) where
+module _ {kind : ℕ} {f : List ℕ → Item} (t : OfText kind f) (source : List ℕ) (r : code.Row) (h : r .kind ≡ kind) where
   abbrev Opens : List ℕ → Type 0
   Opens cs = Opened Utf8 source (r .place) (r .first) (r .second) cs
 

@@ -15,19 +15,20 @@ use Rattle.record.specs.Walked.{At, Over, Stuck, walk, walk-bytes, walk-within}
 use Rattle.record.specs.WrittenNames.{isType, type-end, type-other, type-name-other, type-name-full, type-name-none, type-number-other, type-number-ungiven, type-number-none}
 use Rattle.record.specs.WrittenNames as types
 use Rattle.record.specs.KnownArray.{knownIn, Kept, known-typed, kept-typed, references-same}
-use Rattle.writer.specs.declared.rows.RowRead.{RowRead}
+use Rattle.record.specs.declared.Row as code
 use Rattle.writer.specs.declared.rows.Fetched.{Fetched}
 use Rattle.writer.specs.declared.rows.Fetched.the-variants as fetched
 use Rattle.writer.specs.declared.puts.Put.{Put}
 use Rattle.writer.specs.declared.puts.Put.the-variants as put
 use Rattle.writer.specs.declared.puts.Step.the-variants as step
-use Rattle.writer.specs.Inside.{itemsIn, rowOf, Stands, FetchMet, Puts, PutSays, PutMet, StringMet, WalkSays, Ready, StepMet, typeBy, TypeRowMet, TypeNumberMet}
+use Rattle.record.specs.RowLaws.{rowOf}
+use Rattle.writer.specs.Inside.{itemsIn, Stands, FetchMet, Puts, PutSays, PutMet, StringMet, WalkSays, Ready, StepMet, typeBy, TypeRowMet, TypeNumberMet}
 use Rattle.writer.proofs.Putting.{puts-none}
 use Rattle.writer.proofs.Rowed.{fetched-end, fetched-stands, stands-either}
 use Rattle.writer.proofs.Texted.{text-either, text-put, text-not}
 
 -- ---- the row names the type
-module _ (source : List ℕ) (r : RowRead) (t : ℕ) (ks : List ℕ) (w : Kept ks) (out : List ℕ) (s : ℕ) where
+module _ (source : List ℕ) (r : code.Row) (t : ℕ) (ks : List ℕ) (w : Kept ks) (out : List ℕ) (s : ℕ) where
   -- no record, where what is known is left as it is
   unnamed : {out′ : List ℕ} → ((is : List Item) (k : ℕ) → Stands source r is k → walk (putType base t) (knownIn ks) is k ≡ Stuck) → TypeRowMet source r t ks out s put.NoRecord ks out′
   unnamed f = record { says = λ is k x. record { says = f is k x }; kept = w; references = refl }
@@ -81,7 +82,7 @@ module _ (source : List ℕ) (r : RowRead) (t : ℕ) (ks : List ℕ) (w : Kept k
   pub type-unlike : {out′ : List ℕ} → (r .kind ≡ 18 → ⊥) → (r .kind ≡ 19 → ⊥) → TypeRowMet source r t ks out s put.NoRecord ks out′
   type-unlike d f = unnamed (λ is k x. stands-either x (λ i q e. type-other base t (knownIn ks) is k i e (go i (λ z. d (sym q ∙ z)) (λ z. f (sym q ∙ z)))) (λ e. type-end base t (knownIn ks) is k e))
     where
-      go : (i : Item) → (itemRow (r .place) i .kind ≡ 18 → ⊥) → (itemRow (r .place) i .kind ≡ 19 → ⊥) → isType i ≡ false
+      go : (i : Item) → (itemRow (r .place) (r .after) i .kind ≡ 18 → ⊥) → (itemRow (r .place) (r .after) i .kind ≡ 19 → ⊥) → isType i ≡ false
       go (Val v) d f = refl
       go (Definition n) d f = refl
       go (ClassName cs) d f = refl
@@ -89,7 +90,7 @@ module _ (source : List ℕ) (r : RowRead) (t : ℕ) (ks : List ℕ) (w : Kept k
       go (TypeName cs) d f = absurd (d refl)
       go (TypeNumber j) d f = absurd (f refl)
 
-pub type-of-number : {source : List ℕ} {r : RowRead} {t : ℕ} {ks out : List ℕ} {s : ℕ} {p : Put} {out′ : List ℕ} → TypeNumberMet r t ks out s p out′ → TypeRowMet source r t ks out s p ks out′
+pub type-of-number : {source : List ℕ} {r : code.Row} {t : ℕ} {ks out : List ℕ} {s : ℕ} {p : Put} {out′ : List ℕ} → TypeNumberMet r t ks out s p out′ → TypeRowMet source r t ks out s p ks out′
 type-of-number {source} h = h .says source
 
 -- ---- where a type stands
@@ -115,7 +116,7 @@ module _ (typed : Bool) (number : ℕ) (source t b : List ℕ) (n : ℕ) (ks : L
     pub type-past : {ks′ out′ : List ℕ} → x ≡ fetched.End → StepMet (walk (typeBy typed number) (knownIn ks) Items k) Items k s out step.NoRecord ks′ out′
     type-past e = record { says = typing ∙ type-end base number (knownIn ks) Items k (fetched-end source (v .within) h e) }
 
-    module _ (r : RowRead) (e : x ≡ fetched.Row r) (p : Put) (ks′ out′ : List ℕ) (y : TypeRowMet source r number ks out s p ks′ out′) where
+    module _ (r : code.Row) (e : x ≡ fetched.Row r) (p : Put) (ks′ out′ : List ℕ) (y : TypeRowMet source r number ks out s p ks′ out′) where
       by-row : (q : Put) → p ≡ q → WalkSays (walk (putType base number) (knownIn ks) Items k) (suc k) (knownIn ks′) out s q out′
       by-row q f = subst (λ (p : Put). WalkSays (walk (putType base number) (knownIn ks) Items k) (suc k) (knownIn ks′) out s p out′) f (y .says Items k (fetched-stands source (v .within) h e) .says)
 

@@ -1,14 +1,15 @@
 -- What the contracts of values.rt ask at each of their ways out.
 use mathlib.Core.Path.{_≡_, refl, sym, ap, subst, _∙_}
 use mathlib.Core.Bool.{Bool, true, false}
-use mathlib.Core.Logic.{_⊎_, inl, inr}
+use mathlib.Core.Logic.{_⊎_, inl, inr, ⊎-elim}
 use mathlib.Core.List.{List, [], _∷_, _++_}
 use mathlib.Core.Option.{Option, none, some}
 use Prim.Native.Nat.{ℕ, suc, _+_, _-_, _/_, _%_, _^_, _≤_, _<_}
 use native.Mathlib.Numerals.{add-one}
 use native.Mathlib.Omega.{arith}
 use lib.Dec.{eqb}
-use lib.ListN.{length, getD}
+use lib.ListN.{length, drop, getD}
+use Rattle.flow.specs.Tests.{split}
 use mir.Syntax.{w64}
 use mir.Val.{Fits}
 use borrow.Author.Tests.{eq-eqb, ne-eqb}
@@ -17,18 +18,20 @@ use Rattle.scalar.specs.declared.Kind.the-variants.{Utf8, Binary}
 use Rattle.scalar.specs.Scalars.{Num, Str}
 use Rattle.record.specs.declared.Contents.{Contents}
 use Rattle.record.specs.declared.Contents.the-variants.{Elements, Couples}
-use Rattle.record.specs.Records.{Value, Leaf, UntypedList, TypedList, UntypedMap, TypedMap, Object, Reference, Item, Val, Definition, ClassName, FieldName, TypeName, TypeNumber, Known, Row, itemRow}
+use Rattle.record.specs.Records.{Value, Leaf, UntypedList, TypedList, UntypedMap, TypedMap, Object, Reference, Item, Val, Definition, ClassName, FieldName, TypeName, TypeNumber, Known, Row, itemRow, span}
 use Rattle.record.specs.Answers.{putValue, base}
 use Rattle.record.specs.Shorthands.{putPlain}
 use Rattle.record.specs.Answers as spelling
 use Rattle.record.specs.Claimed.{itemAt, claims-back}
-use Rattle.record.specs.Walked.{Walked, Over, Stuck, walk, behind, behind-none, behind-behind, walk-within}
-use Rattle.record.specs.Drops.{value-drops}
+use Rattle.record.specs.Takes.{value-drops}
+use Rattle.record.specs.Walked.{holding, rowAt, At, Walked, Over, Stuck, walk, behind, behind-none, behind-behind, walk-within}
 use Rattle.record.specs.Writes.{holds, ended, plain-end, plain-full}
 use Rattle.record.specs.Contents.{left, done, Room, room-first, room-next, left-stop, left-over, left-stuck}
-use Rattle.record.specs.WrittenValues.{below, below-none, below-some}
+use Rattle.record.specs.WrittenValues.{below, below-none, below-some, written-span}
+use Rattle.record.specs.Bare.{NoneIn}
+use Rattle.record.specs.WrittenWhole.{Rights, Wrong}
 use Rattle.record.specs.KnownArray.{knownIn}
-use Rattle.writer.specs.declared.rows.RowRead.{RowRead}
+use Rattle.record.specs.declared.Row as code
 use Rattle.writer.specs.declared.puts.Put.{Put}
 use Rattle.writer.specs.declared.puts.Put.the-variants as put
 use Rattle.writer.specs.declared.puts.Step.{Step}
@@ -37,8 +40,12 @@ use Rattle.writer.specs.declared.definitions.Found.{Found}
 use Rattle.writer.specs.declared.definitions.Found.the-variants as found
 use Rattle.writer.specs.declared.holders.Begun.{Begun}
 use Rattle.writer.specs.declared.holders.Begun.the-variants as begun
-use Rattle.writer.specs.Inside.{rowOf, Stands, Puts, WalkSays, WalkMet, NoHolder, Holder, LeafMet, Ready, Went, StepSays, StepMet, Reached, FoundSays, FoundMet, closed, closing, Opens, OpensSays, OpensMet, Inner, BeginSays, BeginMet}
+use Rattle.writer.specs.declared.values.Entered.{Entered}
+use Rattle.writer.specs.declared.values.Entered.the-variants as entered
+use Rattle.record.specs.RowLaws.{rowOf}
+use Rattle.writer.specs.Inside.{Stands, Puts, WalkSays, WalkMet, NoHolder, Holder, LeafMet, Ready, Went, StepSays, StepMet, Reached, FoundSays, FoundMet, closed, closing, Opens, OpensSays, OpensMet, Inner, BeginSays, BeginMet, BareIn, HolderAt, HolderMet, HeldIn, RowMet, Holds, EnterSays, EnterMet, ValuesSay, ValuesMet}
 use Rattle.writer.proofs.Putting.{puts-none, puts-on}
+use Rattle.writer.proofs.Rowed.{stands-either}
 
 -- ---- whether no value is left
 module _ (x : Contents) (i n : ℕ) where
@@ -60,6 +67,19 @@ module _ (b : Bool) (out : List ℕ) (s : ℕ) where
   pub closing-none : b ≡ false → s ≤ 262_145 → Puts out s (closing b) out s
   closing-none e l = rw e (puts-none out s l)
 
+rights-on : (source : List ℕ) (rs : List Row) {is : List Item} {k p q : ℕ} → Rights source rs is k p → Rights source rs is p q → Rights source rs is k q
+rights-on source rs {p = p} h g j a b v x t = split j p (λ l. h j a l v x t) (λ l. g j l b v x t)
+
+-- a list, map or object has a kind of its own
+holding-kind : (p e : ℕ) (v : Value) → holding v ≡ true → (9 ≤ itemRow p e (Val v) .kind) × (itemRow p e (Val v) .kind ≤ 13)
+holding-kind p e (Leaf x) t = let z : _≡_ {A = ℕ} 0 1 = cc in absurd (omega arith)
+holding-kind p e (UntypedList n) t = (omega arith, omega arith)
+holding-kind p e (TypedList n u) t = (omega arith, omega arith)
+holding-kind p e (UntypedMap n) t = (omega arith, omega arith)
+holding-kind p e (TypedMap n u) t = (omega arith, omega arith)
+holding-kind p e (Object k n) t = (omega arith, omega arith)
+holding-kind p e (Reference k) t = let z : _≡_ {A = ℕ} 0 1 = cc in absurd (omega arith)
+
 -- ---- the row of a value
 pub no-holder-low : (k : ℕ) → k < 9 → NoHolder k
 no-holder-low k h = record { other = inl h }
@@ -68,29 +88,29 @@ pub no-holder-high : (k : ℕ) → 13 < k → NoHolder k
 no-holder-high k h = record { other = inr h }
 
 -- a row of a list, map or object claims one
-holder-holds : (p : ℕ) (i : Item) → 9 ≤ itemRow p i .kind → itemRow p i .kind ≤ 13 → (v : Value) × (i ≡ Val v) × (holds v ≡ true)
-holder-holds p (Val (Leaf (Num sort.Null v))) l h = absurd (omega arith)
-holder-holds p (Val (Leaf (Num sort.False v))) l h = absurd (omega arith)
-holder-holds p (Val (Leaf (Num sort.True v))) l h = absurd (omega arith)
-holder-holds p (Val (Leaf (Num sort.Int v))) l h = absurd (omega arith)
-holder-holds p (Val (Leaf (Num sort.Long v))) l h = absurd (omega arith)
-holder-holds p (Val (Leaf (Num sort.Double v))) l h = absurd (omega arith)
-holder-holds p (Val (Leaf (Num sort.Date v))) l h = absurd (omega arith)
-holder-holds p (Val (Leaf (Str Utf8 cs))) l h = absurd (omega arith)
-holder-holds p (Val (Leaf (Str Binary cs))) l h = absurd (omega arith)
-holder-holds p (Val (UntypedList n)) l h = (UntypedList n, refl, refl)
-holder-holds p (Val (TypedList n t)) l h = (TypedList n t, refl, refl)
-holder-holds p (Val (UntypedMap n)) l h = (UntypedMap n, refl, refl)
-holder-holds p (Val (TypedMap n t)) l h = (TypedMap n t, refl, refl)
-holder-holds p (Val (Object k n)) l h = (Object k n, refl, refl)
-holder-holds p (Val (Reference k)) l h = absurd (omega arith)
-holder-holds p (Definition n) l h = absurd (omega arith)
-holder-holds p (ClassName cs) l h = absurd (omega arith)
-holder-holds p (FieldName cs) l h = absurd (omega arith)
-holder-holds p (TypeName cs) l h = absurd (omega arith)
-holder-holds p (TypeNumber k) l h = absurd (omega arith)
+holder-holds : (p e : ℕ) (i : Item) → 9 ≤ itemRow p e i .kind → itemRow p e i .kind ≤ 13 → (v : Value) × (i ≡ Val v) × (holds v ≡ true)
+holder-holds p e (Val (Leaf (Num sort.Null v))) l h = absurd (omega arith)
+holder-holds p e (Val (Leaf (Num sort.False v))) l h = absurd (omega arith)
+holder-holds p e (Val (Leaf (Num sort.True v))) l h = absurd (omega arith)
+holder-holds p e (Val (Leaf (Num sort.Int v))) l h = absurd (omega arith)
+holder-holds p e (Val (Leaf (Num sort.Long v))) l h = absurd (omega arith)
+holder-holds p e (Val (Leaf (Num sort.Double v))) l h = absurd (omega arith)
+holder-holds p e (Val (Leaf (Num sort.Date v))) l h = absurd (omega arith)
+holder-holds p e (Val (Leaf (Str Utf8 cs))) l h = absurd (omega arith)
+holder-holds p e (Val (Leaf (Str Binary cs))) l h = absurd (omega arith)
+holder-holds p e (Val (UntypedList n)) l h = (UntypedList n, refl, refl)
+holder-holds p e (Val (TypedList n t)) l h = (TypedList n t, refl, refl)
+holder-holds p e (Val (UntypedMap n)) l h = (UntypedMap n, refl, refl)
+holder-holds p e (Val (TypedMap n t)) l h = (TypedMap n t, refl, refl)
+holder-holds p e (Val (Object k n)) l h = (Object k n, refl, refl)
+holder-holds p e (Val (Reference k)) l h = absurd (omega arith)
+holder-holds p e (Definition n) l h = absurd (omega arith)
+holder-holds p e (ClassName cs) l h = absurd (omega arith)
+holder-holds p e (FieldName cs) l h = absurd (omega arith)
+holder-holds p e (TypeName cs) l h = absurd (omega arith)
+holder-holds p e (TypeNumber k) l h = absurd (omega arith)
 
-module _ (openFrom d : ℕ) (source : List ℕ) (is : List Item) (ks out : List ℕ) (k s : ℕ) (r : RowRead) (ready : Ready is ks k s) (stands : Stands source r is k) where
+module _ (openFrom d : ℕ) (source : List ℕ) (is : List Item) (ks out : List ℕ) (k s : ℕ) (r : code.Row) (ready : Ready is ks k s) (stands : Stands source r is k) where
   -- what is written of the value of this row
   abbrev Row-here : Walked
   Row-here = walk (putPlain base openFrom (below base openFrom d)) (knownIn ks) is k
@@ -99,41 +119,54 @@ module _ (openFrom d : ℕ) (source : List ℕ) (is : List Item) (ks out : List 
     leaf-says : WalkMet Row-here (suc k) (knownIn ks) out s p out′
     leaf-says = m .says openFrom (below base openFrom d) (knownIn ks) is k stands refl
 
-    pub row-no-leaf : p ≡ put.NoRecord → BeginMet Row-here openFrom d is (k + 1) s out begun.NoRecord ks out′
-    row-no-leaf e = record { says = subst (λ (p : Put). WalkSays Row-here (suc k) (knownIn ks) out s p out′) e (leaf-says .says) }
+    pub row-no-leaf : p ≡ put.NoRecord → RowMet openFrom d is ks k s out begun.NoRecord ks out′
+    row-no-leaf e = record { met = record { says = subst (λ (p : Put). WalkSays Row-here (suc k) (knownIn ks) out s p out′) e (leaf-says .says) }; held = tt }
 
-    pub row-leaf : (s′ : ℕ) → p ≡ put.Done s′ → BeginMet Row-here openFrom d is (k + 1) s out (begun.Past (k + 1) s′) ks out′
-    row-leaf s′ e =
+    pub row-leaf : NoHolder (r .kind) → (s′ : ℕ) → p ≡ put.Done s′ → RowMet openFrom d is ks k s out (begun.Past (k + 1) s′) ks out′
+    row-leaf n s′ e =
         let g : WalkSays Row-here (suc k) (knownIn ks) out s (put.Done s′) out′ = subst (λ (p : Put). WalkSays Row-here (suc k) (knownIn ks) out s p out′) e (leaf-says .says) in
         let w = g .0 in
         let o : Row-here ≡ Over w (k + 1) (knownIn ks) = g .1 ∙ ap (λ (e : ℕ). Over w e (knownIn ks)) (sym (add-one k)) in
         let l = walk-within (knownIn ks) is k (putPlain base openFrom (below base openFrom d)) w (k + 1) (knownIn ks) o in
         record {
-          says = record {
-            written = w;
-            says = o;
-            puts = g .2;
-            ready = record { kept = ready .kept; within = l; references-few = omega (arith, ready .references-few); size-few = omega (arith, g .2 .grows) };
-            onward = omega arith;
+          met = record {
+            says = record {
+              written = w;
+              says = o;
+              puts = g .2;
+              ready = record { kept = ready .kept; within = l; references-few = omega (arith, ready .references-few); size-few = omega (arith, g .2 .grows) };
+              onward = omega arith;
+            };
           };
+          held = (refl, λ v a t. no-holder n v a t);
         }
+      where
+        no-holder : NoHolder (r .kind) → (v : Value) → At is k (Val v) → holding v ≡ true → ⊥
+        no-holder n v a t = stands-either stands
+            (λ i q b. let x : Val v ≡ i = cc in ⊎-elim (λ l. omega (arith, holding-kind (r .place) (r .after) v t, ap (λ (j : Item). itemRow (r .place) (r .after) j .kind) x))
+            (λ l. omega (arith, holding-kind (r .place) (r .after) v t, ap (λ (j : Item). itemRow (r .place) (r .after) j .kind) x)) (n .other))
+            (λ b. let z : _≡_ {A = ℕ} 0 1 = cc in omega arith)
 
   -- no more may open
-  pub row-full : 9 ≤ r .kind → r .kind ≤ 13 → d ≡ 0 → BeginMet Row-here openFrom d is (k + 1) s out begun.NoRecord ks out
-  row-full l h e = record { says = go (itemAt source (rowOf r)) refl }
+  pub row-full : 9 ≤ r .kind → r .kind ≤ 13 → d ≡ 0 → RowMet openFrom d is ks k s out begun.NoRecord ks out
+  row-full l h e = record { met = record { says = go (itemAt source (rowOf r)) refl }; held = tt }
     where
       go : (o : Option Item) → itemAt source (rowOf r) ≡ o → Row-here ≡ Stuck
       go none q = plain-end base openFrom (below base openFrom d) (knownIn ks) is k (stands .lost q)
       go (some i) q =
-          let z : itemRow (r .place) i .kind ≡ r .kind = ap (λ (y : Row). y .kind) (claims-back source (rowOf r) i q .agrees) in
-          let v = holder-holds (r .place) i (omega arith) (omega arith) in
+          let z : itemRow (r .place) (r .after) i .kind ≡ r .kind = ap (λ (y : Row). y .kind) (claims-back source (rowOf r) i q .agrees) in
+          let v = holder-holds (r .place) (r .after) i (omega arith) (omega arith) in
           plain-full base openFrom (below base openFrom d) (knownIn ks) is k i (stands .item i q) (v .0) (v .1) (below-none base openFrom d e) (v .2)
 
   -- a list, map or object
-  pub row-holder : (d ≡ 0 → ⊥) → (b : Begun) (ks′ out′ : List ℕ) → OpensMet (λ g. walk (putPlain base openFrom (some g)) (knownIn ks) is k) is (k + 1) s out b ks′ out′
-      → BeginMet Row-here openFrom d is (k + 1) s out b ks′ out′
-  row-holder z b ks′ out′ m = record { says = go b (m .says) }
+  pub row-holder : (d ≡ 0 → ⊥) → (b : Begun) (ks′ out′ : List ℕ) → HolderMet openFrom ks is k s out b ks′ out′ → RowMet openFrom d is ks k s out b ks′ out′
+  row-holder z b ks′ out′ m = record { met = record { says = go b (m .opens .says) }; held = held b (m .opens .says) (m .opens .bare) (m .at) }
     where
+      held : (b : Begun) → OpensSays (λ g. walk (putPlain base openFrom (some g)) (knownIn ks) is k) is (k + 1) s out b ks′ out′ → BareIn is (k + 1) b → HolderAt is k b → HeldIn is k b
+      held (begun.Past p s′) o n a = absurd o
+      held (begun.Within x c p s′) o n a = (a, n)
+      held begun.NoRecord o n a = tt
+
       l : 0 < d
       l = omega arith
 
@@ -148,17 +181,21 @@ module _ (openFrom d : ℕ) (source : List ℕ) (is : List Item) (ks out : List 
       go (begun.Within x c p s′) z = record { written = z .written; says = here ∙ z .says inner (value-drops base openFrom (d - 1)); puts = z .puts; ready = z .ready; onward = z .onward; open-one = l }
       go begun.NoRecord z = here ∙ z inner (value-drops base openFrom (d - 1))
 
+closed-over : (c : Bool) (w : List ℕ) (e : ℕ) (a : Known) → closed c (Over w e a) ≡ Over (w ++ closing c) e a
+closed-over true w e a = refl
+closed-over false w e a = ap (λ (l : List ℕ). Over l e a) (sym (mathlib.Core.List.append-nil w))
+
 -- ---- definitions, and then the row of a value
-module _ (openFrom d : ℕ) (source : List ℕ) (is : List Item) (n k s : ℕ) (ks out : List ℕ) (f : Found) (ks₁ out₁ : List ℕ) (m : FoundMet source is n k s ks out f ks₁ out₁) where
+module _ (openFrom d : ℕ) (source : List ℕ) (rs : List Row) (is : List Item) (n k s : ℕ) (ks out : List ℕ) (f : Found) (ks₁ out₁ : List ℕ) (m : FoundMet source rs is n k s ks out f ks₁ out₁) where
   abbrev Value-here : Walked
   Value-here = walk (putValue base openFrom d) (knownIn ks) is k
 
-  pub begin-none : f ≡ found.NoRecord → BeginMet Value-here openFrom d is (k + 1) s out begun.NoRecord ks₁ out₁
-  begin-none e = record { says = subst (λ (f : Found). FoundSays source is n k s ks out f ks₁ out₁) e (m .says) openFrom d }
+  pub begin-none : f ≡ found.NoRecord → EnterMet source rs Value-here openFrom d is k s out entered.NoRecord ks₁ out₁
+  begin-none e = record { says = subst (λ (f : Found). FoundSays source rs is n k s ks out f ks₁ out₁) e (m .says) openFrom d }
 
-  module _ (p s₁ : ℕ) (r : RowRead) (e : f ≡ found.Value p s₁ r) where
-    reached : Reached source is n k s ks out p s₁ r ks₁ out₁
-    reached = subst (λ (f : Found). FoundSays source is n k s ks out f ks₁ out₁) e (m .says)
+  module _ (p s₁ : ℕ) (r : code.Row) (e : f ≡ found.Value p s₁ r) where
+    reached : Reached source rs is n k s ks out p s₁ r ks₁ out₁
+    reached = subst (λ (f : Found). FoundSays source rs is n k s ks out f ks₁ out₁) e (m .says)
 
     pub found-ready : Ready is ks₁ p s₁
     found-ready = reached .ready
@@ -169,46 +206,83 @@ module _ (openFrom d : ℕ) (source : List ℕ) (is : List Item) (n k s : ℕ) (
     pub found-stands : Stands source r is p
     found-stands = reached .stands
 
-    pub begin-row : (b : Begun) (ks₂ out₂ : List ℕ) → BeginMet (walk (putPlain base openFrom (below base openFrom d)) (knownIn ks₁) is p) openFrom d is (p + 1) s₁ out₁ b ks₂ out₂
-        → BeginMet Value-here openFrom d is (k + 1) s out b ks₂ out₂
-    begin-row b ks₂ out₂ z = record { says = go b (z .says) }
-      where
-        go : (b : Begun) → BeginSays (walk (putPlain base openFrom (below base openFrom d)) (knownIn ks₁) is p) openFrom d is (p + 1) s₁ out₁ b ks₂ out₂ → BeginSays Value-here openFrom d is (k + 1) s out b ks₂ out₂
-        go (begun.Past q s₂) g = record {
-          written = reached .written ++ g .written;
-          says = reached .says openFrom d ∙ ap (behind (reached .written)) (g .says);
-          puts = puts-on (reached .puts) (g .puts);
-          ready = g .ready;
-          onward = omega (arith, reached .onward, g .onward);
-        }
-        go (begun.Within x c q s₂) g = record {
-          written = reached .written ++ g .written;
-          says = reached .says openFrom d ∙ ap (behind (reached .written)) (g .says) ∙ behind-behind (reached .written) (g .written) (closed c (walk (left (putValue base openFrom (d - 1)) x 0) (knownIn ks₂) is q));
-          puts = puts-on (reached .puts) (g .puts);
-          ready = g .ready;
-          onward = omega (arith, reached .onward, g .onward);
-          open-one = g .open-one;
-        }
-        go begun.NoRecord g = reached .says openFrom d ∙ ap (behind (reached .written)) g
+    -- what is written of the value of this row
+    abbrev There : Walked
+    There = walk (putPlain base openFrom (below base openFrom d)) (knownIn ks₁) is p
+
+    module _ (b : Begun) (ks₂ out₂ : List ℕ) (z : RowMet openFrom d is ks₁ p s₁ out₁ b ks₂ out₂) where
+      said : (y : Begun) → b ≡ y → BeginSays There openFrom d is (p + 1) s₁ out₁ y ks₂ out₂
+      said y q = subst (λ (y : Begun). BeginSays There openFrom d is (p + 1) s₁ out₁ y ks₂ out₂) q (z .met .says)
+
+      held-as : (y : Begun) → b ≡ y → HeldIn is p y
+      held-as y q = subst (HeldIn is p) q (z .held)
+
+      pub enter-none : b ≡ begun.NoRecord → EnterMet source rs Value-here openFrom d is k s out entered.NoRecord ks₂ out₂
+      enter-none q = record { says = reached .says openFrom d ∙ ap (behind (reached .written)) (said begun.NoRecord q) }
+
+      pub enter-past : (x s₂ : ℕ) → b ≡ begun.Past x s₂ → EnterMet source rs Value-here openFrom d is k s out (entered.Past x s₂) ks₂ out₂
+      enter-past x s₂ q =
+          let g = said (begun.Past x s₂) q in
+          let h = held-as (begun.Past x s₂) q in
+          record {
+            says = (
+              record {
+                written = reached .written ++ g .written;
+                says = reached .says openFrom d ∙ ap (behind (reached .written)) (g .says);
+                puts = puts-on (reached .puts) (g .puts);
+                ready = g .ready;
+                onward = omega (arith, reached .onward, g .onward);
+              },
+              λ j a l v c t. split j p (λ i. absurd (reached .bare j a i v c)) (λ i. let y : j ≡ p = omega (arith, h .0) in absurd (h .1 v (subst (λ (j : ℕ). At is j (Val v)) y c) t)),
+            );
+          }
+
+      pub enter-within : (x : Contents) (c : Bool) (q₁ s₂ : ℕ) → b ≡ begun.Within x c q₁ s₂ → EnterMet source rs Value-here openFrom d is k s out (entered.Within x c (r .after) q₁ s₂) ks₂ out₂
+      enter-within x c q₁ s₂ q =
+          let g = said (begun.Within x c q₁ s₂) q in
+          let h = held-as (begun.Within x c q₁ s₂) q in
+          record {
+            says = (
+              record {
+                written = reached .written ++ g .written;
+                says = reached .says openFrom d ∙ ap (behind (reached .written)) (g .says) ∙ behind-behind (reached .written) (g .written) (closed c (walk (left (putValue base openFrom (d - 1)) x 0) (knownIn ks₂) is q₁));
+                puts = puts-on (reached .puts) (g .puts);
+                ready = g .ready;
+                onward = omega (arith, reached .onward, g .onward);
+                open-one = g .open-one;
+              },
+              record {
+                row = p;
+                value = h .0 .0;
+                stands = h .0 .1;
+                last-is = ap (λ (y : Row). y .after) (sym (reached .row-is));
+                before = reached .bare;
+                between = h .1;
+                ends = λ w e′ c′ o. written-span base openFrom d (knownIn ks₁) is p (h .0 .0) (h .0 .1) (g .written ++ (w ++ closing c)) e′ c′
+                    (g .says ∙ ap (λ (o : Walked). behind (g .written) (closed c o)) o ∙ ap (behind (g .written)) (closed-over c w e′ c′));
+              },
+            );
+          }
 
 -- ---- the values of a list, map or object
 -- i of them are written, up to the index k: what is left, behind the bytes so far, is the whole
-pub record Running (n openFrom d : ℕ) (is : List Item) (x : Contents) (from s₀ : ℕ) (ks₀ out₀ ks out : List ℕ) (k s i : ℕ) : Type 0 where
+pub record Running (source : List ℕ) (rs : List Row) (n openFrom d : ℕ) (is : List Item) (x : Contents) (from s₀ : ℕ) (ks₀ out₀ ks out : List ℕ) (k s i : ℕ) : Type 0 where
   pub written : List ℕ
   pub says : behind written (walk (left (putValue base openFrom d) x i) (knownIn ks) is k) ≡ walk (left (putValue base openFrom d) x 0) (knownIn ks₀) is from
   pub puts : Puts out₀ s₀ written out s
   pub ready : Ready is ks k s
   pub room : Room x i
   pub steps : from + i ≤ k
+  pub rights : Rights source rs is from k
   pub rows : length is ≤ n
   pub rows-fit : n < 2 ^ 64
 
-module _ (n openFrom d : ℕ) (is : List Item) (x : Contents) (from s₀ : ℕ) (ks₀ out₀ : List ℕ) where
+module _ (source : List ℕ) (rs : List Row) (n openFrom d : ℕ) (is : List Item) (x : Contents) (from s₀ : ℕ) (ks₀ out₀ : List ℕ) where
   -- what is written of all of them
   abbrev All : Walked
   All = walk (left (putValue base openFrom d) x 0) (knownIn ks₀) is from
 
-  pub running-start : length is ≤ n → n < 2 ^ 64 → Ready is ks₀ from s₀ → Running n openFrom d is x from s₀ ks₀ out₀ ks₀ out₀ from s₀ 0
+  pub running-start : length is ≤ n → n < 2 ^ 64 → Ready is ks₀ from s₀ → Running source rs n openFrom d is x from s₀ ks₀ out₀ ks₀ out₀ from s₀ 0
   running-start l f h = record {
     written = [];
     says = behind-none All;
@@ -216,20 +290,24 @@ module _ (n openFrom d : ℕ) (is : List Item) (x : Contents) (from s₀ : ℕ) 
     ready = h;
     room = room-first x;
     steps = omega arith;
+    rights = λ j a b v y t. absurd (omega arith);
     rows = l;
     rows-fit = f;
   }
 
-  module _ (ks out : List ℕ) (k s i : ℕ) (R : Running n openFrom d is x from s₀ ks₀ out₀ ks out k s i) (b : Bool) (e : b ≡ done x i) where
-    pub values-stop : b ≡ true → StepMet All is from s₀ out₀ (step.Done k s) ks out
+  module _ (ks out : List ℕ) (k s i : ℕ) (R : Running source rs n openFrom d is x from s₀ ks₀ out₀ ks out k s i) (b : Bool) (e : b ≡ done x i) where
+    pub values-stop : b ≡ true → ValuesMet source rs All is from s₀ out₀ (step.Done k s) ks out
     values-stop t = record {
-      says = record {
-        written = R .written ++ [];
-        says = sym (R .says) ∙ ap (behind (R .written)) (left-stop (putValue base openFrom d) (value-drops base openFrom d) is x i (sym e ∙ t) (knownIn ks) k (R .ready .within));
-        puts = puts-on (R .puts) (puts-none out s (R .ready .size-few));
-        ready = R .ready;
-        onward = omega (arith, R .steps);
-      };
+      says = (
+        record {
+          written = R .written ++ [];
+          says = sym (R .says) ∙ ap (behind (R .written)) (left-stop (putValue base openFrom d) (value-drops base openFrom d) is x i (sym e ∙ t) (knownIn ks) k (R .ready .within));
+          puts = puts-on (R .puts) (puts-none out s (R .ready .size-few));
+          ready = R .ready;
+          onward = omega (arith, R .steps);
+        },
+        R .rights,
+      );
     }
 
     module _ (t : b ≡ false) where
@@ -244,8 +322,8 @@ module _ (n openFrom d : ℕ) (is : List Item) (x : Contents) (from s₀ : ℕ) 
       stuck h = sym (R .says) ∙ ap (behind (R .written)) (left-stuck (putValue base openFrom d) (value-drops base openFrom d) is x i more (R .room) (knownIn ks) k h)
 
       -- one more is written, up to p
-      next : (w : List ℕ) (p s′ : ℕ) (ks′ out′ : List ℕ) → Next ≡ Over w p (knownIn ks′) → Puts out s w out′ s′ → Ready is ks′ p s′ → k + 1 ≤ p → Running n openFrom d is x from s₀ ks₀ out₀ ks′ out′ p s′ (i + 1)
-      next w p s′ ks′ out′ h u y l = record {
+      next : (w : List ℕ) (p s′ : ℕ) (ks′ out′ : List ℕ) → Next ≡ Over w p (knownIn ks′) → Puts out s w out′ s′ → Ready is ks′ p s′ → k + 1 ≤ p → Rights source rs is k p → Running source rs n openFrom d is x from s₀ ks₀ out₀ ks′ out′ p s′ (i + 1)
+      next w p s′ ks′ out′ h u y l rights = record {
         written = R .written ++ w;
         says =
             sym (behind-behind (R .written) w (walk (left (putValue base openFrom d) x (i + 1)) (knownIn ks′) is p))
@@ -255,17 +333,21 @@ module _ (n openFrom d : ℕ) (is : List Item) (x : Contents) (from s₀ : ℕ) 
         ready = y;
         room = room-next x i more (R .room);
         steps = omega (arith, R .steps);
+        rights = rights-on source rs (R .rights) rights;
         rows = R .rows;
         rows-fit = R .rows-fit;
       }
 
-      module _ (g : Begun) (ks₁ out₁ : List ℕ) (m : BeginMet Next openFrom d is (k + 1) s out g ks₁ out₁) where
-        pub values-none : g ≡ begun.NoRecord → StepMet All is from s₀ out₀ step.NoRecord ks₁ out₁
-        values-none f = record { says = stuck (subst (λ (g : Begun). BeginSays Next openFrom d is (k + 1) s out g ks₁ out₁) f (m .says)) }
+      module _ (g : Entered) (ks₁ out₁ : List ℕ) (m : EnterMet source rs Next openFrom d is k s out g ks₁ out₁) where
+        entered-as : (y : Entered) → g ≡ y → EnterSays source rs Next openFrom d is k s out y ks₁ out₁
+        entered-as y f = subst (λ (g : Entered). EnterSays source rs Next openFrom d is k s out g ks₁ out₁) f (m .says)
 
-        module _ (p s₁ : ℕ) (f : g ≡ begun.Past p s₁) where
+        pub values-none : g ≡ entered.NoRecord → ValuesMet source rs All is from s₀ out₀ step.NoRecord ks₁ out₁
+        values-none f = record { says = inl (stuck (entered-as entered.NoRecord f)) }
+
+        module _ (p s₁ : ℕ) (f : g ≡ entered.Past p s₁) where
           went : Went Next is (k + 1) s out p s₁ ks₁ out₁
-          went = subst (λ (g : Begun). BeginSays Next openFrom d is (k + 1) s out g ks₁ out₁) f (m .says)
+          went = entered-as (entered.Past p s₁) f .0
 
           pub past-less : n - p < n - k
           past-less = omega (arith, went .onward, went .ready .within, R .rows)
@@ -273,12 +355,15 @@ module _ (n openFrom d : ℕ) (is : List Item) (x : Contents) (from s₀ : ℕ) 
           pub past-fits : Fits w64 (i + 1)
           past-fits = let h : i + 1 < 2 ^ 64 = omega (arith, went .onward, went .ready .within, R .rows, R .rows-fit, R .steps) in record { fits = h }
 
-          pub running-past : Running n openFrom d is x from s₀ ks₀ out₀ ks₁ out₁ p s₁ (i + 1)
-          running-past = next (went .written) p s₁ ks₁ out₁ (went .says) (went .puts) (went .ready) (went .onward)
+          pub running-past : Running source rs n openFrom d is x from s₀ ks₀ out₀ ks₁ out₁ p s₁ (i + 1)
+          running-past = next (went .written) p s₁ ks₁ out₁ (went .says) (went .puts) (went .ready) (went .onward) (entered-as (entered.Past p s₁) f .1)
 
-        module _ (y : Contents) (c : Bool) (p s₁ : ℕ) (f : g ≡ begun.Within y c p s₁) where
+        module _ (y : Contents) (c : Bool) (last p s₁ : ℕ) (f : g ≡ entered.Within y c last p s₁) where
           inner : Inner Next openFrom d is (k + 1) s out y c p s₁ ks₁ out₁
-          inner = subst (λ (g : Begun). BeginSays Next openFrom d is (k + 1) s out g ks₁ out₁) f (m .says)
+          inner = entered-as (entered.Within y c last p s₁) f .0
+
+          holder : Holds source rs is openFrom d k y last p (knownIn ks₁)
+          holder = entered-as (entered.Within y c last p s₁) f .1
 
           pub inner-ready : Ready is ks₁ p s₁
           inner-ready = inner .ready
@@ -293,11 +378,12 @@ module _ (n openFrom d : ℕ) (is : List Item) (x : Contents) (from s₀ : ℕ) 
           abbrev Inside-here : Walked
           Inside-here = walk (left (putValue base openFrom (d - 1)) y 0) (knownIn ks₁) is p
 
-          module _ (z : Step) (ks₂ out₂ : List ℕ) (v : StepMet Inside-here is p s₁ out₁ z ks₂ out₂) where
-            pub values-inner-none : z ≡ step.NoRecord → StepMet All is from s₀ out₀ step.NoRecord ks₂ out₂
-            values-inner-none u =
-                let h : Inside-here ≡ Stuck = subst (λ (z : Step). StepSays Inside-here is p s₁ out₁ z ks₂ out₂) u (v .says) in
-                record { says = stuck (inner .says ∙ ap (λ (o : Walked). behind (inner .written) (closed c o)) h ∙ go c) }
+          module _ (z : Step) (ks₂ out₂ : List ℕ) (v : ValuesMet source rs Inside-here is p s₁ out₁ z ks₂ out₂) where
+            values-said : (x : Step) → z ≡ x → ValuesSay source rs Inside-here is p s₁ out₁ x ks₂ out₂
+            values-said x u = subst (λ (z : Step). ValuesSay source rs Inside-here is p s₁ out₁ z ks₂ out₂) u (v .says)
+
+            pub values-inner-none : z ≡ step.NoRecord → ValuesMet source rs All is from s₀ out₀ step.NoRecord ks₂ out₂
+            values-inner-none u = record { says = ⊎-elim (λ h. inl (stuck (inner .says ∙ ap (λ (o : Walked). behind (inner .written) (closed c o)) h ∙ go c))) (λ h. inr h) (values-said step.NoRecord u) }
               where
                 go : (c : Bool) → behind (inner .written) (closed c Stuck) ≡ Stuck
                 go true = refl
@@ -305,7 +391,14 @@ module _ (n openFrom d : ℕ) (is : List Item) (x : Contents) (from s₀ : ℕ) 
 
             module _ (q s₂ : ℕ) (u : z ≡ step.Done q s₂) where
               inside : Went Inside-here is p s₁ out₁ q s₂ ks₂ out₂
-              inside = subst (λ (z : Step). StepSays Inside-here is p s₁ out₁ z ks₂ out₂) u (v .says)
+              inside = values-said (step.Done q s₂) u .0
+
+              -- where the list, map or object ends
+              ends-there : holder .row + span (Val (holder .value)) (drop (suc (holder .row)) is) ≡ q
+              ends-there = holder .ends (inside .written) q (knownIn ks₂) (inside .says)
+
+              pub values-wrong : (q ≡ last → ⊥) → (out₃ : List ℕ) → ValuesMet source rs All is from s₀ out₀ step.NoRecord ks₂ out₃
+              values-wrong w out₃ = record { says = inr (record { row = holder .row; value = holder .value; stands = holder .stands; other = λ e. w (sym ends-there ∙ sym e ∙ sym (holder .last-is)) }) }
 
               pub inside-size : s₂ ≤ 262_145
               inside-size = inside .ready .size-few
@@ -316,14 +409,18 @@ module _ (n openFrom d : ℕ) (is : List Item) (x : Contents) (from s₀ : ℕ) 
               pub within-fits : Fits w64 (i + 1)
               within-fits = let h : i + 1 < 2 ^ 64 = omega (arith, inner .onward, inside .onward, inside .ready .within, R .rows, R .rows-fit, R .steps) in record { fits = h }
 
-              closed-over : (c : Bool) (w : List ℕ) (e : ℕ) (a : Known) → closed c (Over w e a) ≡ Over (w ++ closing c) e a
-              closed-over true w e a = refl
-              closed-over false w e a = ap (λ (l : List ℕ). Over l e a) (sym (mathlib.Core.List.append-nil w))
-
-              pub running-within : (out₃ : List ℕ) (s₃ : ℕ) → Puts out₂ s₂ (closing c) out₃ s₃ → Running n openFrom d is x from s₀ ks₀ out₀ ks₂ out₃ q s₃ (i + 1)
-              running-within out₃ s₃ j =
+              pub running-within : q ≡ last → (out₃ : List ℕ) (s₃ : ℕ) → Puts out₂ s₂ (closing c) out₃ s₃ → Running source rs n openFrom d is x from s₀ ks₀ out₀ ks₂ out₃ q s₃ (i + 1)
+              running-within w out₃ s₃ j =
                   next (inner .written ++ (inside .written ++ closing c)) q s₃ ks₂ out₃
                   (inner .says ∙ ap (λ (o : Walked). behind (inner .written) (closed c o)) (inside .says) ∙ ap (behind (inner .written)) (closed-over c (inside .written) q (knownIn ks₂)))
                   (puts-on (inner .puts) (puts-on (inside .puts) j))
                   (record { kept = inside .ready .kept; within = inside .ready .within; references-few = inside .ready .references-few; size-few = omega (arith, j .grows) })
                   (omega (arith, inner .onward, inside .onward))
+                  (rights-on source rs {p = holder .row} (λ j a b v x t. absurd (holder .before j a b v x))
+                  (rights-on source rs {p = holder .row + 1} here (rights-on source rs {p = p} (λ j a b v x t. absurd (holder .between j a b v x)) (values-said (step.Done q s₂) u .1))))
+                where
+                  here : Rights source rs is (holder .row) (holder .row + 1)
+                  here j a b v x t =
+                      let e : j ≡ holder .row = omega arith in
+                      let o : Val v ≡ Val (holder .value) = let d = subst (λ (j : ℕ). At is j (Val v)) e x in let f = holder .stands in cc in
+                      ap (λ (j : ℕ). rowAt source rs j .after) e ∙ sym (holder .last-is) ∙ sym w ∙ sym ends-there ∙ (λ i. sym e i + span (sym o i) (drop (suc (sym e i)) is))

@@ -13,19 +13,23 @@ use Rattle.scalar.specs.declared.Rule.the-variants.{Exactly, Offset}
 use Rattle.scalar.specs.declared.Kind.{Kind}
 use Rattle.scalar.specs.Scalars.{units, stringAt, shortestString, shortestInt, sortKind, Form, form, formsOf}
 use Rattle.record.specs.declared.Contents.{Contents}
-use Rattle.record.specs.Records.{Item, Definition, Known, Row, row, told}
-use Rattle.record.specs.Answers.{putThen, putMany, putBytes, putIf, className?, fieldName?, putName, putOpen, putList, objectCode, putType, putDefinition, putValue, base, WriteAnswer, shortestOf, answeredTo, asNumbers, asBytes, rowsOf, reportWritten}
+use Rattle.record.specs.Records.{Value, Item, Val, Definition, Known, Row, row, span, told}
+use Rattle.record.specs.Answers.{putThen, putMany, putBytes, putIf, className?, fieldName?, putName, putOpen, putList, objectCode, putType, putDefinition, putValue, base, WriteAnswer, shortestOf, answeredTo, Layout, asNumbers, asBytes, lentRows, rowsOf, reportWritten}
 use Rattle.record.specs.Shorthands.{putPlain, outputWritten}
 use Rattle.record.specs.Answers as spelling
 use Rattle.record.specs.Shorthands as shorthands
+use Rattle.record.specs.RowLaws.{rowOf}
 use Rattle.record.specs.Claimed.{itemAt}
-use Rattle.record.specs.Walked.{claimed, At, End, Walked, Over, Stuck, walk, behind, Drops}
+use Rattle.record.specs.Takes.{Drops}
+use Rattle.record.specs.Walked.{holding, claimed, rowAt, At, End, Walked, Over, Stuck, walk, behind}
 use Rattle.record.specs.Writes.{ended}
 use Rattle.record.specs.Contents.{left}
 use Rattle.record.specs.WrittenNames.{namesLeft}
 use Rattle.record.specs.WrittenValues.{below}
+use Rattle.record.specs.Bare.{NoneIn}
+use Rattle.record.specs.WrittenWhole.{Rights, Wrong}
 use Rattle.record.specs.KnownArray.{knownIn, Kept}
-use Rattle.writer.specs.declared.rows.RowRead.{RowRead}
+use Rattle.record.specs.declared.Row as code
 use Rattle.writer.specs.declared.rows.Fetched.{Fetched}
 use Rattle.writer.specs.declared.rows.Fetched.the-variants as fetched
 use Rattle.writer.specs.declared.puts.Put.{Put}
@@ -36,15 +40,20 @@ use Rattle.writer.specs.declared.definitions.Found.{Found}
 use Rattle.writer.specs.declared.definitions.Found.the-variants as found
 use Rattle.writer.specs.declared.holders.Begun.{Begun}
 use Rattle.writer.specs.declared.holders.Begun.the-variants as begun
+use Rattle.writer.specs.declared.values.Entered.{Entered}
+use Rattle.writer.specs.declared.values.Entered.the-variants as entered
 use Rattle.writer.specs.declared.WriteAnswer as answer
 use Rattle.writer.specs.Answers.{report}
 
 -- ---- the rows of two tables, of which one is empty: of numbers, where that of bytes is empty
+abbrev pub rowFrom : Layout → List ℕ → ℕ → Row  -- the row k of a table
+rowFrom l t k = l .decode (take (l .width) (drop (k * l .width) t))
+
 abbrev pub lentIn : List ℕ → List ℕ → ℕ
-lentIn t b = pick (eqb (length b) 0) (length t / 4) (length b / 32)
+lentIn t b = pick (eqb (length b) 0) (lentRows asNumbers t) (lentRows asBytes b)
 
 abbrev pub rowIn : List ℕ → List ℕ → ℕ → Row
-rowIn t b k = pick (eqb (length b) 0) (asNumbers .decode (take 4 (drop (k * 4) t))) (asBytes .decode (take 32 (drop (k * 32) b)))
+rowIn t b k = pick (eqb (length b) 0) (rowFrom asNumbers t k) (rowFrom asBytes b k)
 
 abbrev pub rowsIn : List ℕ → List ℕ → ℕ → List Row
 rowsIn t b n = pick (eqb (length b) 0) (rowsOf asNumbers n t) (rowsOf asBytes n b)
@@ -53,11 +62,8 @@ rowsIn t b n = pick (eqb (length b) 0) (rowsOf asNumbers n t) (rowsOf asBytes n 
 abbrev pub itemsIn : List ℕ → List ℕ → List ℕ → ℕ → List Item
 itemsIn source t b n = claimed source (rowsIn t b n)
 
-abbrev pub rowOf : RowRead → Row
-rowOf r = row (r .kind) (r .place) (r .first) (r .second)
-
 -- the row r stands at k: the item that it claims; where it claims none, no more items are claimed
-pub record Stands (source : List ℕ) (r : RowRead) (is : List Item) (k : ℕ) : Type 0 where
+pub record Stands (source : List ℕ) (r : code.Row) (is : List Item) (k : ℕ) : Type 0 where
   pub item : (i : Item) → itemAt source (rowOf r) ≡ some i → At is k i
   pub lost : itemAt source (rowOf r) ≡ none → End is k
 
@@ -66,6 +72,7 @@ FetchSays source is n k (fetched.Row r) = (k < n) × Stands source r is k
 FetchSays source is n k fetched.End = End is k
 
 pub record FetchMet (t b : List ℕ) (n k : ℕ) (r : Fetched) : Type 0 where
+  pub row-is : (x : code.Row) → r ≡ fetched.Row x → getD (rowsIn t b n) k (row 0 0 0 0 0) ≡ rowOf x
   pub says : (source : List ℕ) → k ≤ length (itemsIn source t b n) → FetchSays source (itemsIn source t b n) n k r
 
 -- ---- the bytes w are put behind the first `size`: counted up to one more than the longest message, and stored where they fit
@@ -122,16 +129,16 @@ pub record WalkMet (o : Walked) (e : ℕ) (c : Known) (out : List ℕ) (s : ℕ)
 pub record NoHolder (kind : ℕ) : Type 0 where
   pub other : (kind < 9) ⊎ (13 < kind)
 
-pub record LeafMet (source : List ℕ) (r : RowRead) (references : ℕ) (out : List ℕ) (s : ℕ) (p : Put) (out′ : List ℕ) : Type 0 where
+pub record LeafMet (source : List ℕ) (r : code.Row) (references : ℕ) (out : List ℕ) (s : ℕ) (p : Put) (out′ : List ℕ) : Type 0 where
   pub says : (openFrom : ℕ) (inner : Option spelling.Put) (c : Known) (is : List Item) (k : ℕ) → Stands source r is k → c .references ≡ references → WalkMet (walk (putPlain base openFrom inner) c is k) (suc k) c out s p out′
 
-pub record NumberMet (x : Sort) (r : RowRead) (out : List ℕ) (s : ℕ) (p : Put) (out′ : List ℕ) : Type 0 where
+pub record NumberMet (x : Sort) (r : code.Row) (out : List ℕ) (s : ℕ) (p : Put) (out′ : List ℕ) : Type 0 where
   pub says : (source : List ℕ) (references : ℕ) → r .kind ≡ sortKind x → LeafMet source r references out s p out′
 
-pub record ContentMet (source : List ℕ) (r : RowRead) (out : List ℕ) (s : ℕ) (p : Put) (out′ : List ℕ) : Type 0 where
+pub record ContentMet (source : List ℕ) (r : code.Row) (out : List ℕ) (s : ℕ) (p : Put) (out′ : List ℕ) : Type 0 where
   pub says : (references : ℕ) → r .kind ≡ 8 → LeafMet source r references out s p out′
 
-pub record ReferenceMet (r : RowRead) (references : ℕ) (out : List ℕ) (s : ℕ) (p : Put) (out′ : List ℕ) : Type 0 where
+pub record ReferenceMet (r : code.Row) (references : ℕ) (out : List ℕ) (s : ℕ) (p : Put) (out′ : List ℕ) : Type 0 where
   pub says : (source : List ℕ) → r .kind ≡ 14 → LeafMet source r references out s p out′
 
 -- ---- names: 16 of a class, 17 of a field
@@ -175,13 +182,13 @@ typeBy true t = putType base t
 typeBy false t = putBytes (some [])
 
 -- the type that the row r gives
-pub record TypeRowMet (source : List ℕ) (r : RowRead) (t : ℕ) (ks out : List ℕ) (s : ℕ) (p : Put) (ks′ out′ : List ℕ) : Type 0 where
+pub record TypeRowMet (source : List ℕ) (r : code.Row) (t : ℕ) (ks out : List ℕ) (s : ℕ) (p : Put) (ks′ out′ : List ℕ) : Type 0 where
   pub says : (is : List Item) (k : ℕ) → Stands source r is k → WalkMet (walk (putType base t) (knownIn ks) is k) (suc k) (knownIn ks′) out s p out′
   pub kept : Kept ks′
   pub references : getD ks′ 258 0 ≡ getD ks 258 0
 
 -- the type that the row r names by number
-pub record TypeNumberMet (r : RowRead) (t : ℕ) (ks out : List ℕ) (s : ℕ) (p : Put) (out′ : List ℕ) : Type 0 where
+pub record TypeNumberMet (r : code.Row) (t : ℕ) (ks out : List ℕ) (s : ℕ) (p : Put) (out′ : List ℕ) : Type 0 where
   pub says : (source : List ℕ) → TypeRowMet source r t ks out s p ks out′
 
 -- ---- class definitions
@@ -196,7 +203,7 @@ pub record ClassMet (is : List Item) (k n : ℕ) (out : List ℕ) (s : ℕ) (r :
   pub says : ClassSays is k n out s r out′
 
 -- past the definitions at k the value's row r stands at p
-pub record Reached (source : List ℕ) (is : List Item) (n k s : ℕ) (ks out : List ℕ) (p s′ : ℕ) (r : RowRead) (ks′ out′ : List ℕ) : Type 0 where
+pub record Reached (source : List ℕ) (rs : List Row) (is : List Item) (n k s : ℕ) (ks out : List ℕ) (p s′ : ℕ) (r : code.Row) (ks′ out′ : List ℕ) : Type 0 where
   pub written : List ℕ
   pub says : (openFrom d : ℕ) → walk (putValue base openFrom d) (knownIn ks) is k ≡ behind written (walk (putPlain base openFrom (below base openFrom d)) (knownIn ks′) is p)
   pub puts : Puts out s written out′ s′
@@ -204,13 +211,15 @@ pub record Reached (source : List ℕ) (is : List Item) (n k s : ℕ) (ks out : 
   pub onward : k ≤ p
   pub inside : p < n
   pub stands : Stands source r is p
+  pub row-is : rowAt source rs p ≡ rowOf r
+  pub bare : NoneIn is k p
 
-abbrev pub FoundSays : List ℕ → List Item → ℕ → ℕ → ℕ → List ℕ → List ℕ → Found → List ℕ → List ℕ → Type 0
-FoundSays source is n k s ks out (found.Value p s′ r) ks′ out′ = Reached source is n k s ks out p s′ r ks′ out′
-FoundSays source is n k s ks out found.NoRecord ks′ out′ = (openFrom d : ℕ) → walk (putValue base openFrom d) (knownIn ks) is k ≡ Stuck
+abbrev pub FoundSays : List ℕ → List Row → List Item → ℕ → ℕ → ℕ → List ℕ → List ℕ → Found → List ℕ → List ℕ → Type 0
+FoundSays source rs is n k s ks out (found.Value p s′ r) ks′ out′ = Reached source rs is n k s ks out p s′ r ks′ out′
+FoundSays source rs is n k s ks out found.NoRecord ks′ out′ = (openFrom d : ℕ) → walk (putValue base openFrom d) (knownIn ks) is k ≡ Stuck
 
-pub record FoundMet (source : List ℕ) (is : List Item) (n k s : ℕ) (ks out : List ℕ) (r : Found) (ks′ out′ : List ℕ) : Type 0 where
-  pub says : FoundSays source is n k s ks out r ks′ out′
+pub record FoundMet (source : List ℕ) (rs : List Row) (is : List Item) (n k s : ℕ) (ks out : List ℕ) (r : Found) (ks′ out′ : List ℕ) : Type 0 where
+  pub says : FoundSays source rs is n k s ks out r ks′ out′
 
 -- ---- lists, maps and objects
 -- 5a after the values, or nothing
@@ -235,8 +244,15 @@ OpensSays o is from s out (begun.Past p s′) ks′ out′ = ⊥
 OpensSays o is from s out (begun.Within x closes p s′) ks′ out′ = Opens o is from s out x closes p s′ ks′ out′
 OpensSays o is from s out begun.NoRecord ks′ out′ = (g : spelling.Put) → Drops g → o g ≡ Stuck
 
+-- no value stands among the items up to those inside
+abbrev pub BareIn : List Item → ℕ → Begun → Type 0
+BareIn is from (begun.Past p s′) = Unit {0}
+BareIn is from (begun.Within x closes p s′) = NoneIn is from p
+BareIn is from begun.NoRecord = Unit {0}
+
 pub record OpensMet (o : spelling.Put → Walked) (is : List Item) (from s : ℕ) (out : List ℕ) (r : Begun) (ks′ out′ : List ℕ) : Type 0 where
   pub says : OpensSays o is from s out r ks′ out′
+  pub bare : BareIn is from r
 
 -- the codes of a list, typed or not: the lowest of one byte, the counted form, the open form; of a map
 abbrev pub fewCode : Bool → ℕ
@@ -299,6 +315,52 @@ BeginSays o openFrom d is from s out begun.NoRecord ks′ out′ = o ≡ Stuck
 
 pub record BeginMet (o : Walked) (openFrom d : ℕ) (is : List Item) (from s : ℕ) (out : List ℕ) (r : Begun) (ks′ out′ : List ℕ) : Type 0 where
   pub says : BeginSays o openFrom d is from s out r ks′ out′
+
+-- the item of a list, map or object
+abbrev pub HolderAt : List Item → ℕ → Begun → Type 0
+HolderAt is k (begun.Past p s′) = Unit {0}
+HolderAt is k (begun.Within x closes p s′) = (v : Value) × At is k (Val v)
+HolderAt is k begun.NoRecord = Unit {0}
+
+pub record HolderMet (openFrom : ℕ) (ks : List ℕ) (is : List Item) (k s : ℕ) (out : List ℕ) (r : Begun) (ks′ out′ : List ℕ) : Type 0 where
+  pub opens : OpensMet (plainBy openFrom (knownIn ks) is k) is (k + 1) s out r ks′ out′
+  pub at : HolderAt is k r
+
+-- the value of the row k: one that holds no others, or its item, and no value before those inside
+abbrev pub HeldIn : List Item → ℕ → Begun → Type 0
+HeldIn is k (begun.Past p s′) = (p ≡ k + 1) × ((v : Value) → At is k (Val v) → holding v ≡ true → ⊥)
+HeldIn is k (begun.Within x closes p s′) = ((v : Value) × At is k (Val v)) × NoneIn is (k + 1) p
+HeldIn is k begun.NoRecord = Unit {0}
+
+pub record RowMet (openFrom d : ℕ) (is : List Item) (ks : List ℕ) (k s : ℕ) (out : List ℕ) (r : Begun) (ks′ out′ : List ℕ) : Type 0 where
+  pub met : BeginMet (walk (putPlain base openFrom (below base openFrom d)) (knownIn ks) is k) openFrom d is (k + 1) s out r ks′ out′
+  pub held : HeldIn is k r
+
+-- the values from p on are those of the list, map or object of a row between k and p, whose fifth number is `last`
+pub record Holds (source : List ℕ) (rs : List Row) (is : List Item) (openFrom d k : ℕ) (x : Contents) (last p : ℕ) (c : Known) : Type 0 where
+  pub row : ℕ
+  pub value : Value
+  pub stands : At is row (Val value)
+  pub last-is : last ≡ rowAt source rs row .after
+  pub before : NoneIn is k row
+  pub between : NoneIn is (row + 1) p
+  pub ends : (w : List ℕ) (e : ℕ) (c′ : Known) → walk (left (putValue base openFrom (d - 1)) x 0) c is p ≡ Over w e c′ → row + span (Val value) (drop (suc row) is) ≡ e
+
+abbrev pub EnterSays : List ℕ → List Row → Walked → ℕ → ℕ → List Item → ℕ → ℕ → List ℕ → Entered → List ℕ → List ℕ → Type 0
+EnterSays source rs o openFrom d is k s out (entered.Past p s′) ks′ out′ = Went o is (k + 1) s out p s′ ks′ out′ × Rights source rs is k p
+EnterSays source rs o openFrom d is k s out (entered.Within x closes last p s′) ks′ out′ = Inner o openFrom d is (k + 1) s out x closes p s′ ks′ out′ × Holds source rs is openFrom d k x last p (knownIn ks′)
+EnterSays source rs o openFrom d is k s out entered.NoRecord ks′ out′ = o ≡ Stuck
+
+pub record EnterMet (source : List ℕ) (rs : List Row) (o : Walked) (openFrom d : ℕ) (is : List Item) (k s : ℕ) (out : List ℕ) (r : Entered) (ks′ out′ : List ℕ) : Type 0 where
+  pub says : EnterSays source rs o openFrom d is k s out r ks′ out′
+
+-- values, with the fifth numbers of the lists, maps and objects among them
+abbrev pub ValuesSay : List ℕ → List Row → Walked → List Item → ℕ → ℕ → List ℕ → Step → List ℕ → List ℕ → Type 0
+ValuesSay source rs o is from s out (step.Done p s′) ks′ out′ = Went o is from s out p s′ ks′ out′ × Rights source rs is from p
+ValuesSay source rs o is from s out step.NoRecord ks′ out′ = (o ≡ Stuck) ⊎ Wrong source rs is
+
+pub record ValuesMet (source : List ℕ) (rs : List Row) (o : Walked) (is : List Item) (from s : ℕ) (out : List ℕ) (r : Step) (ks′ out′ : List ℕ) : Type 0 where
+  pub says : ValuesSay source rs o is from s out r ks′ out′
 
 -- ---- messages
 -- the rows lent have the shortest message o, or none

@@ -2,22 +2,18 @@
 use crate::puts::Put;
 use crate::puts::Step;
 use crate::rows::Fetched;
-use crate::rows::RowRead;
+use record::Row;
 ghost use mathlib.Core.Path.{_≡_};
 ghost use Prim.Native.Nat.{_+_, _≤_, _<_};
 ghost use lib.ListN.{length};
 ghost use Rattle.record.specs.Answers.{base, putDefinition};
 ghost use Rattle.record.specs.Walked.{walk};
 ghost use Rattle.record.specs.KnownArray.{knownIn};
-ghost use Rattle.writer.specs.Inside.{lentIn, itemsIn, Stands, Ready, ClassMet, StepMet, FoundMet};
+ghost use Rattle.writer.specs.Inside.{lentIn, rowsIn, itemsIn, Stands, Ready, ClassMet, StepMet, FoundMet};
 
 // The row of the value past class definitions, where it stands, and how many bytes there are then; or there is no record.
 pub enum Found {
-    Value {
-        at: usize,
-        size: usize,
-        row: RowRead,
-    },
+    Value { at: usize, size: usize, row: Row },
     NoRecord,
 }
 
@@ -50,7 +46,7 @@ fn put_definition(
     n: usize,
     known: &mut [u64; 259],
     k: usize,
-    r: RowRead,
+    r: Row,
     out: &mut [u8],
     size: usize,
 ) -> Step
@@ -103,7 +99,7 @@ pub(crate) fn put_definitions(
     size: usize,
 ) -> Found
     requires { ⌜ (n ≤ lentIn (now numbers) (now bytes)) × Ready (itemsIn (now source) (now numbers) (now bytes) n) (now known) k size ⌝ }
-    ensures { λ r. ⌜ FoundMet (now (source .entry)) (itemsIn (now (source .entry)) (now (numbers .entry)) (now (bytes .entry)) n) n k size (now (known .entry)) (now (out .entry)) r (now (known .exit)) (now (out .exit)) ⌝ }
+    ensures { λ r. ⌜ FoundMet (now (source .entry)) (rowsIn (now (numbers .entry)) (now (bytes .entry)) n) (itemsIn (now (source .entry)) (now (numbers .entry)) (now (bytes .entry)) n) n k size (now (known .entry)) (now (out .entry)) r (now (known .exit)) (now (out .exit)) ⌝ }
 {
     let mut at = k;
     let mut s = size;

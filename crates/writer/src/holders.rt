@@ -1,13 +1,13 @@
 // Lists, maps and objects, up to the values inside. The laws of what is written of them are in record's specs/Writes.antt.
 use crate::puts::Put;
 use crate::puts::Step;
-use crate::rows::RowRead;
 use record::Contents;
+use record::Row;
 ghost use mathlib.Core.Path.{_≡_};
 ghost use Prim.Native.Nat.{_+_, _≤_, _<_};
 ghost use Rattle.record.specs.Answers.{objectCode};
 ghost use Rattle.record.specs.KnownArray.{knownIn, Kept};
-ghost use Rattle.writer.specs.Inside.{lentIn, itemsIn, Stands, Ready, Holder, listCode, mapCode, listBy, mapBy, plainBy, PutMet, ObjectMet, OpensMet};
+ghost use Rattle.writer.specs.Inside.{lentIn, itemsIn, Stands, Ready, Holder, listCode, mapCode, listBy, mapBy, PutMet, ObjectMet, OpensMet, HolderMet};
 
 // How a value begins: it is written; its values are to follow, from the row `next` on, with 5a after them where `closes`; or there is no
 // record.
@@ -183,13 +183,13 @@ pub(crate) fn put_holder(
     n: usize,
     known: &mut [u64; 259],
     k: usize,
-    r: RowRead,
+    r: Row,
     out: &mut [u8],
     size: usize,
     open_from: u64,
 ) -> Begun
     requires { ⌜ (n ≤ lentIn (now numbers) (now bytes)) × Ready (itemsIn (now source) (now numbers) (now bytes) n) (now known) k size × (k < n) × Holder (r .kind) × Stands (now source) r (itemsIn (now source) (now numbers) (now bytes) n) k ⌝ }
-    ensures { λ p. ⌜ OpensMet (plainBy open_from (knownIn (now (known .entry))) (itemsIn (now (source .entry)) (now (numbers .entry)) (now (bytes .entry)) n) k) (itemsIn (now (source .entry)) (now (numbers .entry)) (now (bytes .entry)) n) (k + 1) size (now (out .entry)) p (now (known .exit)) (now (out .exit)) ⌝ }
+    ensures { λ p. ⌜ HolderMet open_from (now (known .entry)) (itemsIn (now (source .entry)) (now (numbers .entry)) (now (bytes .entry)) n) k size (now (out .entry)) p (now (known .exit)) (now (out .exit)) ⌝ }
 {
     known[258] = known[258] + 1;
     if r.kind == 13 {

@@ -1,6 +1,6 @@
 // Values that hold no others: numbers, texts, byte strings and references.
 use crate::puts::Put;
-use crate::rows::RowRead;
+use record::Row;
 use scalar::Sort;
 ghost use mathlib.Core.Path.{_≡_};
 ghost use Prim.Native.Nat.{_≤_, _<_};
@@ -24,7 +24,7 @@ fn sort_of(kind: u64) -> Sort
 }
 
 // The number of this kind of the row r.
-fn put_value(sort: Sort, r: RowRead, out: &mut [u8], size: usize) -> Put
+fn put_value(sort: Sort, r: Row, out: &mut [u8], size: usize) -> Put
     requires { ⌜ size ≤ 262145 ⌝ }
     ensures { λ p. ⌜ NumberMet sort r (now (out .entry)) size p (now (out .exit)) ⌝ }
 {
@@ -35,7 +35,7 @@ fn put_value(sort: Sort, r: RowRead, out: &mut [u8], size: usize) -> Put
 }
 
 // The byte string of the row r.
-fn put_content(source: &[u8], r: RowRead, out: &mut [u8], size: usize) -> Put
+fn put_content(source: &[u8], r: Row, out: &mut [u8], size: usize) -> Put
     requires { ⌜ size ≤ 262145 ⌝ }
     ensures { λ p. ⌜ ContentMet (now (source .entry)) r (now (out .entry)) size p (now (out .exit)) ⌝ }
 {
@@ -46,7 +46,7 @@ fn put_content(source: &[u8], r: RowRead, out: &mut [u8], size: usize) -> Put
 }
 
 // The reference of the row r, where so many numbers are given.
-fn put_reference(r: RowRead, references: u64, out: &mut [u8], size: usize) -> Put
+fn put_reference(r: Row, references: u64, out: &mut [u8], size: usize) -> Put
     requires { ⌜ size ≤ 262145 ⌝ }
     ensures { λ p. ⌜ ReferenceMet r references (now (out .entry)) size p (now (out .exit)) ⌝ }
 {
@@ -61,13 +61,7 @@ fn put_reference(r: RowRead, references: u64, out: &mut [u8], size: usize) -> Pu
 }
 
 // The value of the row r, which is no list, map or object, where so many references are given.
-pub(crate) fn put_leaf(
-    source: &[u8],
-    r: RowRead,
-    references: u64,
-    out: &mut [u8],
-    size: usize,
-) -> Put
+pub(crate) fn put_leaf(source: &[u8], r: Row, references: u64, out: &mut [u8], size: usize) -> Put
     requires { ⌜ (size ≤ 262145) × NoHolder (r .kind) ⌝ }
     ensures { λ p. ⌜ LeafMet (now (source .entry)) r references (now (out .entry)) size p (now (out .exit)) ⌝ }
 {

@@ -12,6 +12,8 @@ pub mod values;
 use crate::puts::Put;
 use crate::puts::Step;
 use record::Contents;
+use record::ROW_BYTES;
+use record::ROW_NUMBERS;
 ghost use mathlib.Core.Path.{_≡_};
 ghost use Prim.Native.Nat.{_≤_};
 ghost use lib.ListN.{length};
@@ -125,20 +127,20 @@ fn write_from(
     write_rows(source, numbers, bytes, rows as usize, out, open_from)
 }
 
-// Writes the first `rows` rows of a table of four numbers a row.
+// Writes the first `rows` rows of a table of five numbers a row.
 pub fn write(source: &[u8], table: &[u64], rows: u64, output: &mut [u8]) -> WriteAnswer
     ensures { λ r. ⌜ (report r ≡ writeReport base 48 32 262144 asNumbers (now (source .entry)) (now (table .entry)) rows (now (output .entry))) × (now (output .exit) ≡ writeOutput base 48 32 262144 asNumbers (now (source .entry)) (now (table .entry)) rows (now (output .entry))) ⌝ }
 {
-    let lent = table.len() / 4;
+    let lent = table.len() / ROW_NUMBERS;
     let none: [u8; 0] = [];
     write_from(source, table, &none, lent, rows, output, OPEN_FROM)
 }
 
-// Writes the first `rows` rows of a table of 32 bytes a row, each number as eight bytes, the highest first.
+// Writes the first `rows` rows of a table of 40 bytes a row, each number as eight bytes, the highest first.
 pub fn write_bytes(source: &[u8], table: &[u8], rows: u64, output: &mut [u8]) -> WriteAnswer
     ensures { λ r. ⌜ (report r ≡ writeReport base 48 32 262144 asBytes (now (source .entry)) (now (table .entry)) rows (now (output .entry))) × (now (output .exit) ≡ writeOutput base 48 32 262144 asBytes (now (source .entry)) (now (table .entry)) rows (now (output .entry))) ⌝ }
 {
-    let lent = table.len() / 32;
+    let lent = table.len() / ROW_BYTES;
     let none: [u64; 0] = [];
     write_from(source, &none, table, lent, rows, output, OPEN_FROM)
 }

@@ -1,7 +1,7 @@
 // Texts and byte strings that rows name by a place of the source.
 use crate::puts::Put;
 use crate::rows::Fetched;
-use crate::rows::RowRead;
+use record::Row;
 use scalar::Kind;
 ghost use mathlib.Core.Path.{_≡_};
 ghost use Prim.Native.Nat.{_≤_};
@@ -9,7 +9,7 @@ ghost use lib.ListN.{length};
 ghost use Rattle.writer.specs.Inside.{lentIn, itemsIn, StringMet, NameMet, NamesMet};
 
 // The text of the row r in its shortest form, if its place opens one of the row's sizes.
-pub(crate) fn put_text(source: &[u8], r: RowRead, out: &mut [u8], size: usize) -> Put
+pub(crate) fn put_text(source: &[u8], r: Row, out: &mut [u8], size: usize) -> Put
     requires { ⌜ size ≤ 262145 ⌝ }
     ensures { λ p. ⌜ StringMet Kind.Utf8 (now (source .entry)) (r .place) (r .first) (r .second) (now (out .entry)) size p (now (out .exit)) ⌝ }
 {
@@ -20,7 +20,7 @@ pub(crate) fn put_text(source: &[u8], r: RowRead, out: &mut [u8], size: usize) -
 }
 
 // The bytes of the row r likewise.
-pub(crate) fn put_bytes(source: &[u8], r: RowRead, out: &mut [u8], size: usize) -> Put
+pub(crate) fn put_bytes(source: &[u8], r: Row, out: &mut [u8], size: usize) -> Put
     requires { ⌜ size ≤ 262145 ⌝ }
     ensures { λ p. ⌜ StringMet Kind.Binary (now (source .entry)) (r .place) (r .first) (r .first) (now (out .entry)) size p (now (out .exit)) ⌝ }
 {

@@ -1,46 +1,70 @@
 // The rows of a lent table: of numbers, or of C's bytes. A caller lends one and leaves the other empty.
+use record::ROW_BYTES;
+use record::ROW_NUMBERS;
+use record::Row;
 ghost use mathlib.Core.Path.{_≡_};
-ghost use Prim.Native.Nat.{_≤_, _<_};
-ghost use Rattle.writer.specs.Inside.{lentIn, rowIn, rowOf, FetchMet};
-
-// A row: kind, place, first and second number.
-pub struct RowRead {
-    pub kind: u64,
-    pub place: u64,
-    pub first: u64,
-    pub second: u64,
-}
+ghost use Prim.Native.Nat.{_+_, _^_, _≤_, _<_};
+ghost use Rattle.record.specs.RowLaws.{rowOf};
+ghost use Rattle.record.specs.Walked.{plainly};
+ghost use Rattle.writer.specs.Inside.{lentIn, rowIn, FetchMet};
 
 // The row at an index, if there is one.
 pub enum Fetched {
-    Row(RowRead),
+    Row(Row),
     End,
 }
 
 // The row k.
-fn row_at(numbers: &[u64], bytes: &[u8], k: usize) -> RowRead
+fn row_at(numbers: &[u64], bytes: &[u8], k: usize) -> Row
     requires { ⌜ k < lentIn (now numbers) (now bytes) ⌝ }
     ensures { λ r. ⌜ rowOf r ≡ rowIn (now (numbers .entry)) (now (bytes .entry)) k ⌝ }
 {
     if bytes.len() == 0 {
-        let i = k * 4;
-        return RowRead {
+        let i = k * ROW_NUMBERS;
+        return Row {
             kind: numbers[i],
             place: numbers[i + 1],
             first: numbers[i + 2],
             second: numbers[i + 3],
+            after: numbers[i + 4],
         };
     }
-    let q = wire::quad_at(bytes, k * 32);
-    RowRead {
+    let at = k * ROW_BYTES;
+    let q = wire::quad_at(bytes, at);
+    let e = wire::eight_at(bytes, at + 32);
+    Row {
         kind: q.first,
         place: q.second,
         first: q.third,
         second: q.fourth,
+        after: e,
     }
 }
 
-// The row k of the first n, if it is one of them.
+// Whether the fifth number of the row k is that of a definition or a single item; of a list, map or object it is judged
+// when its values are written.
+fn ends_plainly(r: Row, k: usize) -> bool
+    requires { ⌜ k + 1 < 2 ^ 64 ⌝ }
+    ensures { λ x. ⌜ x ≡ plainly k (rowOf r) ⌝ }
+{
+    let kind = r.kind;
+    let next = k as u64 + 1;
+    if kind < 9 {
+        return r.after == next;
+    }
+    if kind < 14 {
+        return true;
+    }
+    if kind == 15 {
+        if r.after <= next {
+            return false;
+        }
+        return r.after - next - 1 == r.first;
+    }
+    r.after == next
+}
+
+// The row k of the first n, if it is one of them and its fifth number may be right.
 pub(crate) fn fetch(numbers: &[u64], bytes: &[u8], n: usize, k: usize) -> Fetched
     requires { ⌜ n ≤ lentIn (now numbers) (now bytes) ⌝ }
     ensures { λ r. ⌜ FetchMet (now (numbers .entry)) (now (bytes .entry)) n k r ⌝ }
@@ -48,5 +72,9 @@ pub(crate) fn fetch(numbers: &[u64], bytes: &[u8], n: usize, k: usize) -> Fetche
     if n <= k {
         return Fetched::End;
     }
-    Fetched::Row(row_at(numbers, bytes, k))
+    let r = row_at(numbers, bytes, k);
+    if ends_plainly(r, k) {
+        return Fetched::Row(r);
+    }
+    Fetched::End
 }

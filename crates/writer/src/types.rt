@@ -2,7 +2,7 @@
 use crate::puts::Put;
 use crate::puts::Step;
 use crate::rows::Fetched;
-use crate::rows::RowRead;
+use record::Row;
 ghost use mathlib.Core.Path.{_≡_};
 ghost use Prim.Native.Nat.{_≤_};
 ghost use Rattle.record.specs.Walked.{walk};
@@ -13,7 +13,7 @@ ghost use Rattle.writer.specs.Inside.{lentIn, itemsIn, Ready, typeBy, Ty
 fn put_type_name(
     source: &[u8],
     known: &mut [u64; 259],
-    r: RowRead,
+    r: Row,
     number: u64,
     out: &mut [u8],
     size: usize,
@@ -33,7 +33,7 @@ fn put_type_name(
 }
 
 // The type of this number, which the row r names.
-fn put_type_number(known: &[u64; 259], r: RowRead, number: u64, out: &mut [u8], size: usize) -> Put
+fn put_type_number(known: &[u64; 259], r: Row, number: u64, out: &mut [u8], size: usize) -> Put
     requires { ⌜ (size ≤ 262145) × Kept (now known) × (r .kind ≡ 19) ⌝ }
     ensures { λ p. ⌜ TypeNumberMet r number (now (known .entry)) (now (out .entry)) size p (now (out .exit)) ⌝ }
 {
@@ -53,7 +53,7 @@ fn put_type_number(known: &[u64; 259], r: RowRead, number: u64, out: &mut [u8], 
 fn put_type_row(
     source: &[u8],
     known: &mut [u64; 259],
-    r: RowRead,
+    r: Row,
     number: u64,
     out: &mut [u8],
     size: usize,

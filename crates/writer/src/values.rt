@@ -4,17 +4,31 @@ use crate::definitions::Found;
 use crate::holders::Begun;
 use crate::puts::Put;
 use crate::puts::Step;
-use crate::rows::RowRead;
 use record::Contents;
+use record::Row;
 ghost use mathlib.Core.Path.{_≡_};
 ghost use Prim.Native.Nat.{_+_, _≤_, _<_};
 ghost use Rattle.record.specs.Answers.{base, putValue};
-ghost use Rattle.record.specs.Shorthands.{putPlain};
 ghost use Rattle.record.specs.Walked.{walk};
 ghost use Rattle.record.specs.Contents.{left, done};
-ghost use Rattle.record.specs.WrittenValues.{below};
 ghost use Rattle.record.specs.KnownArray.{knownIn};
-ghost use Rattle.writer.specs.Inside.{lentIn, itemsIn, Stands, Ready, Puts, closing, BeginMet, StepMet};
+ghost use Rattle.writer.specs.Inside.{lentIn, rowsIn, itemsIn, Stands, Ready, Puts, closing, RowMet, EnterMet, ValuesMet};
+
+// How a value begins, as in holders.rt; of a list, map or object also its fifth number.
+pub enum Entered {
+    Past {
+        next: usize,
+        size: usize,
+    },
+    Within {
+        contents: Contents,
+        closes: bool,
+        after: u64,
+        next: usize,
+        size: usize,
+    },
+    NoRecord,
+}
 
 // Whether no value is left after i of them.
 fn finished(contents: Contents, i: u64) -> bool
@@ -45,14 +59,14 @@ fn begin_row(
     n: usize,
     known: &mut [u64; 259],
     k: usize,
-    r: RowRead,
+    r: Row,
     out: &mut [u8],
     size: usize,
     allowed: usize,
     open_from: u64,
 ) -> Begun
     requires { ⌜ (n ≤ lentIn (now numbers) (now bytes)) × Ready (itemsIn (now source) (now numbers) (now bytes) n) (now known) k size × (k < n) × Stands (now source) r (itemsIn (now source) (now numbers) (now bytes) n) k ⌝ }
-    ensures { λ p. ⌜ BeginMet (walk (putPlain base open_from (below base open_from allowed)) (knownIn (now (known .entry))) (itemsIn (now (source .entry)) (now (numbers .entry)) (now (bytes .entry)) n) k) open_from allowed (itemsIn (now (source .entry)) (now (numbers .entry)) (now (bytes .entry)) n) (k + 1) size (now (out .entry)) p (now (known .exit)) (now (out .exit)) ⌝ }
+    ensures { λ p. ⌜ RowMet open_from allowed (itemsIn (now (source .entry)) (now (numbers .entry)) (now (bytes .entry)) n) (now (known .entry)) k size (now (out .entry)) p (now (known .exit)) (now (out .exit)) ⌝ }
 {
     let kind = r.kind;
     if kind < 9 || 13 < kind {
@@ -82,17 +96,17 @@ fn begin(
     size: usize,
     allowed: usize,
     open_from: u64,
-) -> Begun
+) -> Entered
     requires { ⌜ (n ≤ lentIn (now numbers) (now bytes)) × Ready (itemsIn (now source) (now numbers) (now bytes) n) (now known) k size ⌝ }
-    ensures { λ p. ⌜ BeginMet (walk (putValue base open_from allowed) (knownIn (now (known .entry))) (itemsIn (now (source .entry)) (now (numbers .entry)) (now (bytes .entry)) n) k) open_from allowed (itemsIn (now (source .entry)) (now (numbers .entry)) (now (bytes .entry)) n) (k + 1) size (now (out .entry)) p (now (known .exit)) (now (out .exit)) ⌝ }
+    ensures { λ p. ⌜ EnterMet (now (source .entry)) (rowsIn (now (numbers .entry)) (now (bytes .entry)) n) (walk (putValue base open_from allowed) (knownIn (now (known .entry))) (itemsIn (now (source .entry)) (now (numbers .entry)) (now (bytes .entry)) n) k) open_from allowed (itemsIn (now (source .entry)) (now (numbers .entry)) (now (bytes .entry)) n) k size (now (out .entry)) p (now (known .exit)) (now (out .exit)) ⌝ }
 {
     match crate::definitions::put_definitions(source, numbers, bytes, n, known, k, out, size) {
-        Found::NoRecord => Begun::NoRecord,
+        Found::NoRecord => Entered::NoRecord,
         Found::Value {
             at,
             size: s,
             row: r,
-        } => begin_row(
+        } => match begin_row(
             source,
             numbers,
             bytes,
@@ -104,7 +118,22 @@ fn begin(
             s,
             allowed,
             open_from,
-        ),
+        ) {
+            Begun::NoRecord => Entered::NoRecord,
+            Begun::Past { next, size: z } => Entered::Past { next, size: z },
+            Begun::Within {
+                contents,
+                closes,
+                next,
+                size: z,
+            } => Entered::Within {
+                contents,
+                closes,
+                after: r.after,
+                next,
+                size: z,
+            },
+        },
     }
 }
 
@@ -123,7 +152,7 @@ pub(crate) fn write_values(
     open_from: u64,
 ) -> Step
     requires { ⌜ (n ≤ lentIn (now numbers) (now bytes)) × Ready (itemsIn (now source) (now numbers) (now bytes) n) (now known) from size ⌝ }
-    ensures { λ p. ⌜ StepMet (walk (left (putValue base open_from allowed) contents 0) (knownIn (now (known .entry))) (itemsIn (now (source .entry)) (now (numbers .entry)) (now (bytes .entry)) n) from) (itemsIn (now (source .entry)) (now (numbers .entry)) (now (bytes .entry)) n) from size (now (out .entry)) p (now (known .exit)) (now (out .exit)) ⌝ }
+    ensures { λ p. ⌜ ValuesMet (now (source .entry)) (rowsIn (now (numbers .entry)) (now (bytes .entry)) n) (walk (left (putValue base open_from allowed) contents 0) (knownIn (now (known .entry))) (itemsIn (now (source .entry)) (now (numbers .entry)) (now (bytes .entry)) n) from) (itemsIn (now (source .entry)) (now (numbers .entry)) (now (bytes .entry)) n) from size (now (out .entry)) p (now (known .exit)) (now (out .exit)) ⌝ }
 {
     let mut k = from;
     let mut s = size;
@@ -144,17 +173,18 @@ pub(crate) fn write_values(
             allowed,
             open_from,
         ) {
-            Begun::NoRecord => {
+            Entered::NoRecord => {
                 return Step::NoRecord;
             }
-            Begun::Past { next, size: z } => {
+            Entered::Past { next, size: z } => {
                 k = next;
                 s = z;
                 i += 1;
             }
-            Begun::Within {
+            Entered::Within {
                 contents: inside,
                 closes,
+                after,
                 next,
                 size: z,
             } => {
@@ -175,6 +205,9 @@ pub(crate) fn write_values(
                         return Step::NoRecord;
                     }
                     Step::Done { next: end, size: y } => {
+                        if end as u64 != after {
+                            return Step::NoRecord;
+                        }
                         k = end;
                         s = close(closes, out, y);
                         i += 1;

@@ -8,7 +8,7 @@ use Rattle.print_rows.proofs.say_rows.Statement.{statement}
 use Rattle.print_rows.proofs.say_rows.Tie as tie
 
 abbrev Inv-loop : tie.InvT-loop
-Inv-loop table rows lent i₀ i = lent ≡ length table / 4
+Inv-loop table rows lent i₀ i = lent ≡ length table / 5
 
 abbrev μ-loop : tie.MeasureT-loop
 μ-loop table rows lent i₀ i = rows - i
@@ -19,6 +19,9 @@ say-rows-spec =
     (tie.spec
     Inv-loop
     μ-loop
+    (λ c. search needs)
+    (λ c. search needs)
+    (λ c. search needs)
     (λ c. search needs)
     (λ c. search needs)
     (λ c. search needs)

@@ -8,7 +8,7 @@ use Rattle.write_vectors.proofs.store_rows.Statement.{statement}
 use Rattle.write_vectors.proofs.store_rows.Tie as tie
 
 abbrev Inv-loop : tie.InvT-loop
-Inv-loop table₀ from row times next k₀ i₀ left₀ table k i left = (length table ≡ length table₀) × (i < 4)
+Inv-loop table₀ from row times next k₀ i₀ left₀ table k i left = (length table ≡ length table₀) × (i < 5)
 
 abbrev μ-loop : tie.MeasureT-loop
 μ-loop table₀ from row times next k₀ i₀ left₀ table k i left = length table₀ - k
@@ -24,6 +24,7 @@ store-rows-spec =
     (λ c. search needs)
     (λ c. search needs)
     (λ c. search needs)
+    (λ c κs. search needs)
     (λ c. search needs)
     (λ c. search needs)
     (λ c. search needs)

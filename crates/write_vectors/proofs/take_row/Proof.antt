@@ -9,10 +9,10 @@ use Rattle.write_vectors.proofs.take_row.Statement.{statement}
 use Rattle.write_vectors.proofs.take_row.Tie as tie
 
 abbrev Inv-loop : tie.InvT-loop
-Inv-loop line at row₀ here₀ i₀ row here i = i ≤ 4
+Inv-loop line at row₀ here₀ i₀ row here i = i ≤ 5
 
 abbrev μ-loop : tie.MeasureT-loop
-μ-loop line at row₀ here₀ i₀ row here i = 4 - i
+μ-loop line at row₀ here₀ i₀ row here i = 5 - i
 
 add-decimal : tie.Need-add-decimal Inv-loop μ-loop
 add-decimal c = omega (arith, stands-says (c .before .before .before .before .before .before .args .line .now) (c .before .before .before .before .loop .here) (c .before .before .if1 .mark) (c .before .stands .ensures) (not-false _ (c .if2 .left)))

@@ -15,15 +15,9 @@ define-requires c κs =
     let h = c .before .before .before .before .before .before .before .before .before .before .before .before .before .before .before .before .before .before .before .before .before .before .before .before .before .before in
     class-fits (h .before .before .class-head .ensures) (h .before .before .before .before .before .before .before .pre .1) (h .units .given .1)
 
-add-t32 : tie.Need-add-t32
-add-t32 c =
-    let h = c .before .before .before .before .before .before .before .before .before .before .before .before .before .before .before .before .before .before .before .before .before .before .before .before .before .before .before in
-    let a = h .before .before .before .before .before .before .before in
-    omega (arith, names-fit (h .before .before .class-head .ensures) (a .pre .1) (h .units .given .1) (omega arith) .1)
-
-add-t31 : tie.Need-add-t31
-add-t31 c =
-    let h = c .before .before .before .before .before .before .before .before .before .before .before .before .before .before .before .before .before .before .before .before .before .before .before .before .before .before .before in
+add-after-2 : tie.Need-add-after-2
+add-after-2 c =
+    let h = c .before .before .before .before .before .before .before .before .before .before .before in
     let a = h .before .before .before .before .before .before .before in
     omega (arith, names-fit (h .before .before .class-head .ensures) (a .pre .1) (h .units .given .1) (omega arith) .1)
 
@@ -52,12 +46,13 @@ definition-spec =
     (λ c. search needs)
     (λ c. search needs)
     (λ c. search needs)
+    add-after-2
+    (λ c. search needs)
+    (λ c. search needs)
     (λ c. search needs)
     (λ c κs. search needs)
     (λ c κs. search needs)
     define-requires
-    add-t32
-    add-t31
     returns
     (λ c. search needs)
     (λ c. search needs)

@@ -42,6 +42,8 @@ field-names-spec =
     returns
     (λ c. search needs)
     (λ c. search needs)
+    (λ c. search needs)
+    (λ c. search needs)
     (λ c κs. search needs)
     add-here
     (λ c. search needs)

@@ -9,7 +9,8 @@ returns : tie.Need-returns
 returns c =
     let d = c .before .before .before .before .before .before in
     let e = d .before .before .before .before in
-    bytes-in _ _ _ _ _ _ (omega arith) (e .before .before .before .before .put-number .ensures) (e .put-number2 .ensures) (d .put-number3 .ensures) (c .before .before .put-number4 .ensures)
+    let f = e .before .before .before .before in
+    bytes-in _ _ _ _ _ _ _ (omega arith) (f .before .before .before .before .put-number .ensures) (f .put-number2 .ensures) (e .put-number3 .ensures) (d .put-number4 .ensures) (c .before .before .put-number5 .ensures)
 
 returns-2 : tie.Need-returns-2
 returns-2 c = search (bytes-out, needs)
@@ -18,6 +19,8 @@ pub put-bytes-spec : {M : Type 1} → statement M
 put-bytes-spec =
     tie.close
     (tie.spec
+    (λ c. search needs)
+    (λ c κs. search needs)
     (λ c. search needs)
     (λ c κs. search needs)
     (λ c. search needs)

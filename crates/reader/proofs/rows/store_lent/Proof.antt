@@ -1,11 +1,11 @@
 -- A row that fits neither table changes none.
 use borrow.Author.Needs.{needs}
-use Rattle.reader.proofs.Stores.{laid-out}
+use Rattle.reader.proofs.Stores.{stored-none}
 use Rattle.reader.proofs.rows.store_lent.Statement.{statement}
 use Rattle.reader.proofs.rows.store_lent.Tie as tie
 
 returns-2 : tie.Need-returns-2
-returns-2 c = search (laid-out, needs)
+returns-2 c = search (stored-none, needs)
 
 pub store-lent-spec : {M : Type 1} → statement M
 store-lent-spec =

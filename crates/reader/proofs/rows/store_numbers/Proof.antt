@@ -15,8 +15,11 @@ slice-write-table-3 c = simp length-set (omega arith)
 slice-write-table-4 : tie.Need-slice-write-table-4
 slice-write-table-4 c = simp length-set (omega arith)
 
+slice-write-table-5 : tie.Need-slice-write-table-5
+slice-write-table-5 c = simp length-set (omega arith)
+
 returns : tie.Need-returns
-returns c = numbers-in _ _ _ _ _ _ (omega arith)
+returns c = numbers-in _ _ _ _ _ _ _ (omega arith)
 
 returns-2 : tie.Need-returns-2
 returns-2 c = numbers-out _ _ _ (omega arith)
@@ -37,6 +40,9 @@ store-numbers-spec =
     (λ c. search needs)
     (λ c. search needs)
     slice-write-table-4
+    (λ c. search needs)
+    (λ c. search needs)
+    slice-write-table-5
     (λ c. search needs)
     returns
     returns-2)

@@ -5,6 +5,7 @@ use native.Mathlib.Omega.{arith}
 use borrow.Author.Needs.{needs}
 use lib.ListN.{length}
 use Rattle.reader.specs.Inside.{groupOf}
+use Rattle.reader.proofs.Groups.{stored-row}
 use Rattle.reader.proofs.Walk.{Running, running-start, values-stop, values-fault, past-forward, running-past, inner-open, inner-ready, values-inner-fault, within-forward, running-within}
 use Prim.Native.Nat.{ℕ, _-_, _<_}
 use borrow.Fn.Kinds.{In}
@@ -12,10 +13,11 @@ use borrow.Fn.PlainCycle.{Measures, is, falls, and}
 use Rattle.reader.proofs.values.read_values.Reads as read-values
 use Rattle.reader.proofs.values.read_values.Kinds as read-values-kinds
 use Rattle.reader.proofs.values.+read_values.Lts-read_values as read-values-lts
+use Rattle.reader.proofs.rows.store_lent.Reads as store-lent-reads
 use Rattle.reader.proofs.values.begin.Reads as begin-reads
+use Rattle.reader.proofs.values.holder_row.Reads as holder-row-reads
 use Rattle.reader.proofs.values.passed.Reads as passed-reads
 use Rattle.reader.proofs.values.stop.Reads as stop-reads
-use Rattle.reader.proofs.values.store_holder.Reads as store-holder-reads
 use Rattle.reader.proofs.values.+read_values.{statement}
 use Rattle.reader.proofs.values.+read_values.Tie.{close}
 
@@ -32,7 +34,7 @@ read-values-below t =
 
 -- what each callee asks and ensures
 abbrev calls : ℕ → read-values-lts.Claims
-calls t = (stop-reads.Asked, stop-reads.Learnt, passed-reads.Asked, passed-reads.Learnt, begin-reads.Asked, begin-reads.Learnt, read-values-below t, read-values.Post, store-holder-reads.Asked, store-holder-reads.Learnt)
+calls t = (stop-reads.Asked, stop-reads.Learnt, passed-reads.Asked, passed-reads.Learnt, begin-reads.Asked, begin-reads.Learnt, read-values-below t, read-values.Post, holder-row-reads.Asked, holder-row-reads.Learnt, store-lent-reads.Asked, store-lent-reads.Learnt)
 
 abbrev read-values-Inv-loop : read-values-lts.InvT-loop
 read-values-Inv-loop message numbers₀ bytes₀ known₀ from row plan allowed at₀ rows₀ i₀ numbers bytes known at rows i = Running allowed message (groupOf plan) from row known₀ numbers₀ bytes₀ known numbers bytes at rows i
@@ -109,17 +111,46 @@ read-values-returns-3 t c = values-inner-fault _ _ _ _ _ _ _ _ _ _ _ _ _ _ (c .b
 read-values-enum-known-end : (t : ℕ) → read-values-lts.Need-enum-known-end (calls t) (read-values-at t) read-values.Post read-values-Inv-loop read-values-μ-loop
 read-values-enum-known-end t c = search needs
 
-read-values-store-holder-requires : (t : ℕ) → read-values-lts.Need-store-holder-requires (calls t) (read-values-at t) read-values.Post read-values-Inv-loop read-values-μ-loop
-read-values-store-holder-requires t c κs = search needs
+read-values-holder-row-requires : (t : ℕ) → read-values-lts.Need-holder-row-requires (calls t) (read-values-at t) read-values.Post read-values-Inv-loop read-values-μ-loop
+read-values-holder-row-requires t c κs = search needs
+
+read-values-store-lent-requires : (t : ℕ) → read-values-lts.Need-store-lent-requires (calls t) (read-values-at t) read-values.Post read-values-Inv-loop read-values-μ-loop
+read-values-store-lent-requires t c κs = search needs
 
 read-values-add-i-2 : (t : ℕ) → read-values-lts.Need-add-i-2 (calls t) (read-values-at t) read-values.Post read-values-Inv-loop read-values-μ-loop
-read-values-add-i-2 t c = omega (arith, c .before .before .before .before .before .before .before .before .before .before .before .before .before .before .before .before .before .before .before .before .before .before .before .before .before .before .before .before .before .before .before .before .before .before .before .good .0, c .before .before .before .before .before .before .before .before .before .before .before .before .before .before .before .before .before .before .before .before .before .before .before .before .before .before .before .before .before .before .before .loop .inv .steps, c .before .before .before .before .before .before .before .before .before .before .before .before .before .before .before .before .before .before .before .before .before .before .before .before .before .before .before .before .before .before .before .loop .inv .moved .ready .at .within)
+read-values-add-i-2 t c =
+    let done = c .before .before .before .before .before .before .before .before .before in
+    let begun = done .before .before .before .before .before .before .before .before .before .before .before .before .before .before .before .before .before in
+    let loop = begun .before .before .before .before .before .before in
+    omega (arith, loop .before .before .before .before .good .0, loop .loop .inv .steps, loop .loop .inv .moved .ready .at .within)
 
 read-values-loop-less-2 : (t : ℕ) → read-values-lts.Need-loop-less-2 (calls t) (read-values-at t) read-values.Post read-values-Inv-loop read-values-μ-loop
-read-values-loop-less-2 t c = omega (arith, within-forward _ _ _ _ _ _ _ _ _ _ _ _ _ _ (c .before .before .before .before .before .before .before .before .before .before .before .before .before .before .before .before .before .before .before .before .before .before .before .before .before .before .before .before .before .before .before .loop .inv) _ (c .before .before .before .before .before .before .before .before .before .before .before .before .before .before .before .before .before .before .before .before .before .before .before .before .before .before .before .before .before .before .stop .ensures) (c .before .before .before .before .before .before .before .before .before .before .before .before .before .before .before .before .before .before .before .before .before .before .before .before .before .before .before .before .before .if1 .left) _ _ _ _ (c .before .before .before .before .before .before .before .before .before .before .before .before .before .before .before .before .before .before .before .before .before .before .before .before .before .begin .ensures) _ _ _ _ _ _ _ (c .before .before .before .before .before .before .before .before .before .before .before .before .before .before .before .before .before .before .before .place .given .1) _ _ _ _ (c .before .before .before .before .before .before .before .before .before .before .before .before .before .before .read-values .ensures) _ _ _ (c .before .before .before .before .before .before .before .before .end .given .1))
+read-values-loop-less-2 t c =
+    let done = c .before .before .before .before .before .before .before .before .before in
+    let inner = done .before .before .before .before .before .before in
+    let entered = inner .before .before .before .before .before in
+    let begun = entered .before .before .before .before .before .before in
+    let going = begun .before .before .before .before in
+    let loop = going .before .before in
+    omega (
+      arith,
+      within-forward _ _ _ _ _ _ _ _ _ _ _ _ _ _ (loop .loop .inv) _ (going .before .stop .ensures) (going .if1 .left)
+          _ _ _ _ (begun .begin .ensures) _ _ _ _ _ _ _ (entered .place .given .1)
+          _ _ _ _ (inner .read-values .ensures) _ _ _ (done .end .given .1),
+    )
 
 read-values-loop-again-2 : (t : ℕ) → read-values-lts.Need-loop-again-2 (calls t) (read-values-at t) read-values.Post read-values-Inv-loop read-values-μ-loop
-read-values-loop-again-2 t c = running-within _ _ _ _ _ _ _ _ _ _ _ _ _ _ (c .before .before .before .before .before .before .before .before .before .before .before .before .before .before .before .before .before .before .before .before .before .before .before .before .before .before .before .before .before .before .before .loop .inv) _ (c .before .before .before .before .before .before .before .before .before .before .before .before .before .before .before .before .before .before .before .before .before .before .before .before .before .before .before .before .before .before .stop .ensures) (c .before .before .before .before .before .before .before .before .before .before .before .before .before .before .before .before .before .before .before .before .before .before .before .before .before .before .before .before .before .if1 .left) _ _ _ _ (c .before .before .before .before .before .before .before .before .before .before .before .before .before .before .before .before .before .before .before .before .before .before .before .before .before .begin .ensures) _ _ _ _ _ _ _ (c .before .before .before .before .before .before .before .before .before .before .before .before .before .before .before .before .before .before .before .place .given .1) _ _ _ _ (c .before .before .before .before .before .before .before .before .before .before .before .before .before .before .read-values .ensures) _ _ _ (c .before .before .before .before .before .before .before .before .end .given .1) _ _ (c .before .before .before .before .store-holder .ensures)
+read-values-loop-again-2 t c =
+    let done = c .before .before .before .before .before .before .before .before .before in
+    let inner = done .before .before .before .before .before .before in
+    let entered = inner .before .before .before .before .before in
+    let begun = entered .before .before .before .before .before .before in
+    let going = begun .before .before .before .before in
+    let loop = going .before .before in
+    running-within _ _ _ _ _ _ _ _ _ _ _ _ _ _ (loop .loop .inv) _ (going .before .stop .ensures) (going .if1 .left)
+    _ _ _ _ (begun .begin .ensures) _ _ _ _ _ _ _ (entered .place .given .1)
+    _ _ _ _ (inner .read-values .ensures) _ _ _ (done .end .given .1)
+    _ _ (stored-row (c .before .before .before .before .before .before .before .holder-row .ensures) (c .before .before .before .before .store-lent .ensures))
 
 pub +read-values-spec : {M : Type 1} → statement M
 +read-values-spec = close μ-read-values λ t. read-values-lts.spec (calls t)
@@ -150,7 +181,8 @@ pub +read-values-spec : {M : Type 1} → statement M
     (read-values-same-length-6 t)
     (read-values-returns-3 t)
     (read-values-enum-known-end t)
-    (read-values-store-holder-requires t)
+    (read-values-holder-row-requires t)
+    (read-values-store-lent-requires t)
     (read-values-add-i-2 t)
     (read-values-loop-less-2 t)
     (read-values-loop-again-2 t)

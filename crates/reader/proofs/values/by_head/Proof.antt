@@ -4,8 +4,8 @@ use borrow.Author.Needs.{needs}
 use Rattle.reader.proofs.values.by_head.Statement.{statement}
 use Rattle.reader.proofs.values.by_head.Tie as tie
 
-add-t22 : tie.Need-add-t22
-add-t22 c = search (leaf-fits, needs)
+add-after : tie.Need-add-after
+add-after c = search (leaf-fits, needs)
 
 within-requires : tie.Need-within-requires
 within-requires c κs = search (holder-fits, needs)
@@ -28,8 +28,8 @@ by-head-spec =
     (tie.spec
     (λ c. search needs)
     (λ c. search needs)
+    add-after
     (λ c κs. search needs)
-    add-t22
     (λ c. search needs)
     within-requires
     (λ c. search needs)

@@ -8,14 +8,14 @@ use Rattle.reader.proofs.values.holder_row.Tie as tie
 returns : tie.Need-returns
 returns c = search (row-fields, needs)
 
-add-t7 : tie.Need-add-t7
-add-t7 c = omega (arith, tag-small (c .before .before .before .before .before .args .of), c .type-tag .ensures)
+add-t11 : tie.Need-add-t11
+add-t11 c = omega (arith, tag-small (c .before .before .before .before .before .args .of), c .type-tag .ensures)
 
 returns-2 : tie.Need-returns-2
 returns-2 c = search (row-list, needs)
 
-add-t10 : tie.Need-add-t10
-add-t10 c = omega (arith, tag-small (c .before .before .before .before .before .args .of), c .type-tag2 .ensures)
+add-t16 : tie.Need-add-t16
+add-t16 c = omega (arith, tag-small (c .before .before .before .before .before .args .of), c .type-tag2 .ensures)
 
 returns-3 : tie.Need-returns-3
 returns-3 c = search (row-pairs, needs)
@@ -26,10 +26,10 @@ holder-row-spec =
     (tie.spec
     returns
     (λ c κs. search needs)
-    add-t7
+    add-t11
     (λ c κs. search needs)
     returns-2
     (λ c κs. search needs)
-    add-t10
+    add-t16
     (λ c κs. search needs)
     returns-3)

@@ -1,8 +1,14 @@
 -- Each way out has its law in proofs/Groups.antt.
 use borrow.Author.Needs.{needs}
-use Rattle.reader.proofs.Groups.{laid-untyped, laid-named, laid-numbered}
+use Rattle.reader.proofs.Groups.{named-fits, numbered-fits, laid-untyped, laid-named, laid-numbered}
 use Rattle.reader.proofs.values.store_type.Statement.{statement}
 use Rattle.reader.proofs.values.store_type.Tie as tie
+
+add-t12 : tie.Need-add-t12
+add-t12 c = search (named-fits, needs)
+
+add-t20 : tie.Need-add-t20
+add-t20 c = search (numbered-fits, needs)
 
 returns : tie.Need-returns
 returns c = search (laid-untyped, needs)
@@ -19,8 +25,10 @@ store-type-spec =
     (tie.spec
     (λ c. search needs)
     (λ c. search needs)
+    add-t12
     (λ c κs. search needs)
     (λ c. search needs)
+    add-t20
     (λ c κs. search needs)
     returns
     (λ c. search needs)

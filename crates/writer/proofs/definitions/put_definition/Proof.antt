@@ -16,7 +16,9 @@ returns-3 : tie.Need-returns-3
 returns-3 c = search (definition-broad, needs)
 
 put-class-requires : tie.Need-put-class-requires
-put-class-requires c κs = (search needs, search needs, search (definition-inside, needs), search needs)
+put-class-requires c κs =
+    let x = c .before .before .before .before .before .before .before .before .before .before in
+    (search needs, search needs, definition-inside _ _ _ _ _ (x .pre .1) _ (x .pre .4) (x .pre .3) (search needs), search needs)
 
 add-put-field-names : tie.Need-add-put-field-names
 add-put-field-names c = search (head-room, items-few, needs)

@@ -1,6 +1,6 @@
 -- Each way out has its law in proofs/Rowed.antt.
 use borrow.Author.Needs.{needs}
-use Rattle.writer.proofs.Rowed.{fetch-end, fetch-row}
+use Rattle.writer.proofs.Rowed.{fetch-end, fetch-row, fetch-wrong}
 use Rattle.writer.proofs.rows.fetch.Statement.{statement}
 use Rattle.writer.proofs.rows.fetch.Tie as tie
 
@@ -10,5 +10,8 @@ returns c = search (fetch-end, needs)
 returns-2 : tie.Need-returns-2
 returns-2 c = search (fetch-row, needs)
 
+returns-3 : tie.Need-returns-3
+returns-3 c = search (fetch-wrong, needs)
+
 pub fetch-spec : {M : Type 1} → statement M
-fetch-spec = tie.close (tie.spec returns (λ c κs. search needs) returns-2)
+fetch-spec = tie.close (tie.spec returns (λ c κs. search needs) (λ c κs. search needs) returns-2 returns-3)

@@ -8,11 +8,14 @@ use Rattle.writer.proofs.Rowed.{numbers-inside, numbers-row, bytes-insi
 use Rattle.writer.proofs.rows.row_at.Statement.{statement}
 use Rattle.writer.proofs.rows.row_at.Tie as tie
 
-inside : (c : tie.Then1) → c .before .before .before .args .k * 4 + 4 ≤ length (now (c .before .before .before .args .numbers))
+inside : (c : tie.Then1) → c .before .before .before .args .k * 5 + 5 ≤ length (now (c .before .before .before .args .numbers))
 inside c = search (numbers-inside, needs)
 
-inside-bytes : (c : tie.Else1) → c .before .before .before .args .k * 32 + 32 ≤ length (now (c .before .before .before .args .bytes))
+inside-bytes : (c : tie.Else1) → c .before .before .before .args .k * 40 + 40 ≤ length (now (c .before .before .before .args .bytes))
 inside-bytes c = search (bytes-inside, needs)
+
+add-eight : tie.Need-add-eight-at
+add-eight c = omega (arith, inside-bytes (c .before))
 
 returns : tie.Need-returns
 returns c = search (numbers-row, needs)
@@ -36,7 +39,12 @@ row-at-spec =
     (λ c. omega (arith, inside (c .before .before .before)))
     (λ c. omega (arith, inside (c .before .before .before)))
     (λ c. omega (arith, inside (c .before .before .before .before)))
+    (λ c. omega (arith, inside (c .before .before .before .before)))
+    (λ c. omega (arith, inside (c .before .before .before .before)))
+    (λ c. omega (arith, inside (c .before .before .before .before .before)))
     returns
     (λ c. omega (arith, inside-bytes c))
+    (λ c κs. search needs)
+    add-eight
     (λ c κs. search needs)
     returns-2)

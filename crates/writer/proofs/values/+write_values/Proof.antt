@@ -3,9 +3,9 @@
 use mathlib.Core.Path.{_∙_}
 use native.Mathlib.Omega.{arith}
 use borrow.Author.Needs.{needs}
-use Rattle.writer.specs.Inside.{itemsIn}
+use Rattle.writer.specs.Inside.{rowsIn, itemsIn}
 use Rattle.writer.proofs.Rowed.{items-few}
-use Rattle.writer.proofs.Walking.{Running, running-start, values-stop, values-none, past-less, past-fits, running-past, inner-open, inner-less, inner-ready, values-inner-none, inside-size, within-less, within-fits, running-within}
+use Rattle.writer.proofs.Walking.{Running, running-start, values-stop, values-none, past-less, past-fits, running-past, inner-open, inner-less, inner-ready, values-inner-none, values-wrong, inside-size, within-less, within-fits, running-within}
 use Prim.Native.Nat.{ℕ, _-_, _<_}
 use borrow.Fn.Kinds.{In}
 use borrow.Fn.PlainCycle.{Measures, is, falls, and}
@@ -38,7 +38,7 @@ abbrev calls : ℕ → write-values-lts.Claims
 calls t = (finished-reads.Asked, finished-reads.Learnt, begin-reads.Asked, begin-reads.Learnt, write-values-below t, write-values.Post, close-reads.Asked, close-reads.Learnt)
 
 abbrev write-values-Inv-loop : write-values-lts.InvT-loop
-write-values-Inv-loop source numbers bytes n known₀ from contents out₀ size allowed open-from k₀ s₀ i₀ known out k s i = Running n open-from allowed (itemsIn source numbers bytes n) contents from size known₀ out₀ known out k s i
+write-values-Inv-loop source numbers bytes n known₀ from contents out₀ size allowed open-from k₀ s₀ i₀ known out k s i = Running source (rowsIn numbers bytes n) n open-from allowed (itemsIn source numbers bytes n) contents from size known₀ out₀ known out k s i
 
 abbrev write-values-μ-loop : write-values-lts.MeasureT-loop
 write-values-μ-loop source numbers bytes n known₀ from contents out₀ size allowed open-from k₀ s₀ i₀ known out k s i = n - k
@@ -83,10 +83,10 @@ write-values-enum-known-inside : (t : ℕ) → write-values-lts.Need-enum-known-
 write-values-enum-known-inside t c = search needs
 
 write-values-sub-write-values : (t : ℕ) → write-values-lts.Need-sub-write-values (calls t) (write-values-at t) write-values.Post write-values-Inv-loop write-values-μ-loop
-write-values-sub-write-values t c = inner-open _ _ _ _ _ _ _ _ _ _ _ _ _ _ (c .before .before .before .before .before .before .before .before .before .before .before .before .loop .inv) _ (c .before .before .before .before .before .before .before .before .before .before .before .finished .ensures) (c .before .before .before .before .before .before .before .before .before .before .if1 .left) _ _ _ (c .before .before .before .before .before .before .before .begin .ensures) _ _ _ _ (c .before .before .before .inside .given .1)
+write-values-sub-write-values t c = inner-open _ _ _ _ _ _ _ _ _ _ _ _ _ _ _ _ (c .before .before .before .before .before .before .before .before .before .before .before .before .loop .inv) _ (c .before .before .before .before .before .before .before .before .before .before .before .finished .ensures) (c .before .before .before .before .before .before .before .before .before .before .if1 .left) _ _ _ (c .before .before .before .before .before .before .before .begin .ensures) _ _ _ _ _ (c .before .before .before .inside .given .1)
 
 write-values-write-values-requires : (t : ℕ) → write-values-lts.Need-write-values-requires (calls t) (write-values-at t) write-values.Post write-values-Inv-loop write-values-μ-loop
-write-values-write-values-requires t c κs = (omega (arith, inner-less _ _ _ _ _ _ _ _ _ _ _ _ _ _ (c .before .before .before .before .before .before .before .before .before .before .before .before .loop .inv) _ (c .before .before .before .before .before .before .before .before .before .before .before .finished .ensures) (c .before .before .before .before .before .before .before .before .before .before .if1 .left) _ _ _ (c .before .before .before .before .before .before .before .begin .ensures) _ _ _ _ (c .before .before .before .inside .given .1)), (search needs, inner-ready _ _ _ _ _ _ _ _ _ _ _ _ _ _ (c .before .before .before .before .before .before .before .before .before .before .before .before .loop .inv) _ (c .before .before .before .before .before .before .before .before .before .before .before .finished .ensures) (c .before .before .before .before .before .before .before .before .before .before .if1 .left) _ _ _ (c .before .before .before .before .before .before .before .begin .ensures) _ _ _ _ (c .before .before .before .inside .given .1)))
+write-values-write-values-requires t c κs = (omega (arith, inner-less _ _ _ _ _ _ _ _ _ _ _ _ _ _ _ _ (c .before .before .before .before .before .before .before .before .before .before .before .before .loop .inv) _ (c .before .before .before .before .before .before .before .before .before .before .before .finished .ensures) (c .before .before .before .before .before .before .before .before .before .before .if1 .left) _ _ _ (c .before .before .before .before .before .before .before .begin .ensures) _ _ _ _ _ (c .before .before .before .inside .given .1)), (search needs, inner-ready _ _ _ _ _ _ _ _ _ _ _ _ _ _ _ _ (c .before .before .before .before .before .before .before .before .before .before .before .before .loop .inv) _ (c .before .before .before .before .before .before .before .before .before .before .before .finished .ensures) (c .before .before .before .before .before .before .before .before .before .before .if1 .left) _ _ _ (c .before .before .before .before .before .before .before .begin .ensures) _ _ _ _ _ (c .before .before .before .inside .given .1)))
 
 write-values-enum-told-2 : (t : ℕ) → write-values-lts.Need-enum-told-2 (calls t) (write-values-at t) write-values.Post write-values-Inv-loop write-values-μ-loop
 write-values-enum-told-2 t c = search needs
@@ -99,6 +99,12 @@ write-values-returns-3 t c = search (values-inner-none, needs)
 
 write-values-enum-known-end : (t : ℕ) → write-values-lts.Need-enum-known-end (calls t) (write-values-at t) write-values.Post write-values-Inv-loop write-values-μ-loop
 write-values-enum-known-end t c = search needs
+
+write-values-same-length-4 : (t : ℕ) → write-values-lts.Need-same-length-4 (calls t) (write-values-at t) write-values.Post write-values-Inv-loop write-values-μ-loop
+write-values-same-length-4 t c = search needs
+
+write-values-returns-4 : (t : ℕ) → write-values-lts.Need-returns-4 (calls t) (write-values-at t) write-values.Post write-values-Inv-loop write-values-μ-loop
+write-values-returns-4 t c = search (values-wrong, needs)
 
 write-values-close-requires : (t : ℕ) → write-values-lts.Need-close-requires (calls t) (write-values-at t) write-values.Post write-values-Inv-loop write-values-μ-loop
 write-values-close-requires t c κs = search (inside-size, needs)
@@ -137,6 +143,8 @@ pub +write-values-spec : {M : Type 1} → statement M
     (write-values-same-length-3 t)
     (write-values-returns-3 t)
     (write-values-enum-known-end t)
+    (write-values-same-length-4 t)
+    (write-values-returns-4 t)
     (write-values-close-requires t)
     (write-values-add-i-2 t)
     (write-values-loop-less-2 t)

@@ -12,7 +12,7 @@ returns : tie.Need-returns
 returns c = search (row-no-leaf, needs)
 
 returns-2 : tie.Need-returns-2
-returns-2 c = search (row-leaf, needs)
+returns-2 c = ⊎-elim (λ w. search (row-leaf, no-holder-low, needs)) (λ w. search (row-leaf, no-holder-high, needs)) (c .before .before .before .before .before .before .before .before .if1 .came)
 
 returns-3 : tie.Need-returns-3
 returns-3 c = search (row-full, needs)
