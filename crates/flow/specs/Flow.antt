@@ -2,6 +2,7 @@
 use mathlib.Core.{Bool.Bool, Bool.true, Bool.false, Bool.cond, Bool._&&_, List.List, List.[], List._∷_, List._++_, List.map}
 use Prim.Native.Nat.{ℕ, zero, suc, _+_, _*_, _<_}
 use lib.{Dec.eqb, Dec.leb, Dec.ltb, ListN.length, ListN.take, ListN.drop}
+use Rattle.flow.specs.RefusalNumbers.{cut}
 
 unfoldable pub pick : {A : Type 0} → Bool → A → A → A  -- a choice by a test
 pick true a b = a
@@ -53,8 +54,8 @@ module _ {C I : Type 0} where
     abbrev pub fail : ℕ → ℕ → Read C I A  -- refusal x at the place o
     fail x o c at s = Fault x o
 
-    abbrev pub byteAt : From C I A → Read C I A  -- the one reader that takes a byte: where the message ends, refusal 2
-    byteAt g c at [] = Fault 2 at
+    abbrev pub byteAt : From C I A → Read C I A  -- the one reader that takes a byte: where the message ends, it is cut
+    byteAt g c at [] = Fault cut at
     byteAt g c at (b ∷ s) = then (g at b c (at + 1) s) (λ n a es c′. Done (suc n) a es c′)
 
     abbrev pub changing : (C → C) → Read C I A → Read C I A  -- with what is known changed first
@@ -82,7 +83,7 @@ module _ {C I : Type 0} where
 
   -- up to the end byte e, and how many. The number only bounds the recursion: each takes at least a byte
   abbrev pub until : ℕ → From C I One → ℕ → Read C I ℕ
-  until e f zero c at s = Fault 2 at
+  until e f zero c at s = Fault cut at
   until e f (suc k) c at s = byteAt (λ p b. cond (eqb b e) (give 0) (after (f p b) (mapped suc (until e f k)))) c at s
 
   abbrev pub untilEnd : ℕ → From C I One → Read C I ℕ
@@ -90,7 +91,7 @@ module _ {C I : Type 0} where
 
   -- any number of things before another, each begun by the byte e. The number only bounds the recursion
   abbrev pub preceded : ℕ → (ℕ → Read C I One) → From C I One → ℕ → From C I One
-  preceded e d f zero p b = cond (eqb b e) (after (d p) (λ c at s. Fault 2 at)) (f p b)
+  preceded e d f zero p b = cond (eqb b e) (after (d p) (λ c at s. Fault cut at)) (f p b)
   preceded e d f (suc k) p b = cond (eqb b e) (after (d p) (byteAt (preceded e d f k))) (f p b)
 
   abbrev pub precededBy : ℕ → (ℕ → Read C I One) → From C I One → From C I One

@@ -1,3 +1,4 @@
+pub mod RefusalNumbers
 pub mod Flow
 pub mod Steps
 pub mod Grammar

@@ -8,7 +8,7 @@ use mir.Syntax.{w8}
 use mir.Val.{Fits}
 use Rattle.flow.specs.Tests.{bytes-all}
 use Rattle.flow.specs.Flow.{Report}
-use Rattle.record.specs.Answers.{base, asBytes, lentRows, readReport, writeReport}
+use Rattle.record.specs.Answers.{base, baseOpenFrom, asBytes, lentRows, readReport, writeReport}
 use Rattle.record.specs.Bounds.{answer-small, written-small}
 use Rattle.reader.specs.declared.ReadAnswer.{ReadAnswer}
 use Rattle.reader.specs.declared.ReadAnswer.the-variants.{Accepted, Refused, TooFew}
@@ -18,61 +18,61 @@ use Rattle.writer.specs.declared.WriteAnswer.the-variants as wrote
 use Rattle.writer.specs.Answers as writes
 use Rattle.hessian.specs.Packed.{packed, answer}
 
-module _ (m t : List ℕ) (bytes : (i : ℕ) → Fits w8 (getD m i 0)) (r : ReadAnswer) (e : report r ≡ readReport base 32 262144 asBytes m t) where
-  small : (r′ : ReadAnswer) → r ≡ r′ → (report r′ .count ≤ 262144) × (report r′ .place ≤ 262144)
+module _ (m t : List ℕ) (bytes : (i : ℕ) → Fits w8 (getD m i 0)) (r : ReadAnswer) (e : report r ≡ readReport base asBytes m t) where
+  small : (r′ : ReadAnswer) → r ≡ r′ → (report r′ .count ≤ base .longest) × (report r′ .place ≤ base .longest)
   small r′ h =
-      let s = answer-small base 32 262144 (lentRows asBytes t) m (bytes-all m (λ i. bytes i .fits)) in
-      let f : report r′ ≡ readReport base 32 262144 asBytes m t = ap report (sym h) ∙ e in
+      let s = answer-small base (lentRows asBytes t) m (bytes-all m (λ i. bytes i .fits)) in
+      let f : report r′ ≡ readReport base asBytes m t = ap report (sym h) ∙ e in
       let c = ap (λ (x : Report). x .count) f in
       let p = ap (λ (x : Report). x .place) f in
       (omega (arith, s .0), omega (arith, s .1))
 
-  pub rows-small : (n k : ℕ) → r ≡ Accepted n k → n ≤ 262144
+  pub rows-small : (n k : ℕ) → r ≡ Accepted n k → n ≤ base .longest
   rows-small n k h = small (Accepted n k) h .0
 
-  pub length-small : (n k : ℕ) → r ≡ Accepted n k → k ≤ 262144
+  pub length-small : (n k : ℕ) → r ≡ Accepted n k → k ≤ base .longest
   length-small n k h = small (Accepted n k) h .1
 
-  pub place-small : (x o : ℕ) → r ≡ Refused x o → o ≤ 262144
+  pub place-small : (x o : ℕ) → r ≡ Refused x o → o ≤ base .longest
   place-small x o h = small (Refused x o) h .1
 
-  pub needed-small : (n : ℕ) → r ≡ TooFew n → n ≤ 262144
+  pub needed-small : (n : ℕ) → r ≡ TooFew n → n ≤ base .longest
   needed-small n h = small (TooFew n) h .0
 
-  pub packed-accepted : (n k v : ℕ) → r ≡ Accepted n k → v ≡ packed (answer 0 n k) → v ≡ packed (readReport base 32 262144 asBytes m t)
+  pub packed-accepted : (n k v : ℕ) → r ≡ Accepted n k → v ≡ packed (answer 0 n k) → v ≡ packed (readReport base asBytes m t)
   packed-accepted n k v h q = q ∙ ap packed (ap report (sym h) ∙ e)
 
-  pub packed-refused : (x o v : ℕ) → r ≡ Refused x o → v ≡ packed (answer x 0 o) → v ≡ packed (readReport base 32 262144 asBytes m t)
+  pub packed-refused : (x o v : ℕ) → r ≡ Refused x o → v ≡ packed (answer x 0 o) → v ≡ packed (readReport base asBytes m t)
   packed-refused x o v h q = q ∙ ap packed (ap report (sym h) ∙ e)
 
-  pub packed-few : (n v : ℕ) → r ≡ TooFew n → v ≡ packed (answer 9 n 0) → v ≡ packed (readReport base 32 262144 asBytes m t)
+  pub packed-few : (n v : ℕ) → r ≡ TooFew n → v ≡ packed (answer 9 n 0) → v ≡ packed (readReport base asBytes m t)
   packed-few n v h q = q ∙ ap packed (ap report (sym h) ∙ e)
 
 -- ---- writing
-module _ (s t : List ℕ) (n : ℕ) (o : List ℕ) (r : WriteAnswer) (e : writes.report r ≡ writeReport base 48 32 262144 asBytes s t n o) where
-  count-small : (r′ : WriteAnswer) → r ≡ r′ → writes.report r′ .count ≤ 262144
+module _ (s t : List ℕ) (n : ℕ) (o : List ℕ) (r : WriteAnswer) (e : writes.report r ≡ writeReport base baseOpenFrom asBytes s t n o) where
+  count-small : (r′ : WriteAnswer) → r ≡ r′ → writes.report r′ .count ≤ base .longest
   count-small r′ h =
-      let f : writes.report r′ ≡ writeReport base 48 32 262144 asBytes s t n o = ap writes.report (sym h) ∙ e in
+      let f : writes.report r′ ≡ writeReport base baseOpenFrom asBytes s t n o = ap writes.report (sym h) ∙ e in
       let c = ap (λ (x : Report). x .count) f in
-      omega (arith, written-small base 48 32 262144 asBytes s t n (length o))
+      omega (arith, written-small base baseOpenFrom asBytes s t n (length o))
 
-  pub size-small : (k : ℕ) → r ≡ wrote.Written k → k ≤ 262144
+  pub size-small : (k : ℕ) → r ≡ wrote.Written k → k ≤ base .longest
   size-small k h = count-small (wrote.Written k) h
 
-  pub bytes-small : (k : ℕ) → r ≡ wrote.TooFew k → k ≤ 262144
+  pub bytes-small : (k : ℕ) → r ≡ wrote.TooFew k → k ≤ base .longest
   bytes-small k h = count-small (wrote.TooFew k) h
 
-  packed-as : (r′ : WriteAnswer) → r ≡ r′ → (v : ℕ) → v ≡ packed (writes.report r′) → v ≡ packed (writeReport base 48 32 262144 asBytes s t n o)
+  packed-as : (r′ : WriteAnswer) → r ≡ r′ → (v : ℕ) → v ≡ packed (writes.report r′) → v ≡ packed (writeReport base baseOpenFrom asBytes s t n o)
   packed-as r′ h v q = q ∙ ap packed (ap writes.report (sym h) ∙ e)
 
-  pub packed-written : (k v : ℕ) → r ≡ wrote.Written k → v ≡ packed (answer 0 k 0) → v ≡ packed (writeReport base 48 32 262144 asBytes s t n o)
+  pub packed-written : (k v : ℕ) → r ≡ wrote.Written k → v ≡ packed (answer 0 k 0) → v ≡ packed (writeReport base baseOpenFrom asBytes s t n o)
   packed-written k v h q = packed-as (wrote.Written k) h v q
 
-  pub packed-long : (v : ℕ) → r ≡ wrote.TooLong → v ≡ packed (answer 1 0 0) → v ≡ packed (writeReport base 48 32 262144 asBytes s t n o)
+  pub packed-long : (v : ℕ) → r ≡ wrote.TooLong → v ≡ packed (answer 1 0 0) → v ≡ packed (writeReport base baseOpenFrom asBytes s t n o)
   packed-long v h q = packed-as wrote.TooLong h v q
 
-  pub packed-none : (v : ℕ) → r ≡ wrote.NoRecord → v ≡ packed (answer 10 0 0) → v ≡ packed (writeReport base 48 32 262144 asBytes s t n o)
+  pub packed-none : (v : ℕ) → r ≡ wrote.NoRecord → v ≡ packed (answer 10 0 0) → v ≡ packed (writeReport base baseOpenFrom asBytes s t n o)
   packed-none v h q = packed-as wrote.NoRecord h v q
 
-  pub packed-needed : (k v : ℕ) → r ≡ wrote.TooFew k → v ≡ packed (answer 9 k 0) → v ≡ packed (writeReport base 48 32 262144 asBytes s t n o)
+  pub packed-needed : (k v : ℕ) → r ≡ wrote.TooFew k → v ≡ packed (answer 9 k 0) → v ≡ packed (writeReport base baseOpenFrom asBytes s t n o)
   packed-needed k v h q = packed-as (wrote.TooFew k) h v q

@@ -13,7 +13,7 @@ use Rattle.record.specs.Grammar.{Message}
 use Rattle.record.specs.Claimed.{all-claimed}
 use Rattle.record.specs.Hops.{Skippable}
 use Rattle.record.specs.HopTheorems.{skippable}
-use Rattle.record.specs.Answers.{ReadAnswer, Accept, Refuse, read, base, shortestOf, asBytes, lentRows, rowsOf, reportRead}
+use Rattle.record.specs.Answers.{ReadAnswer, Accept, Refuse, read, base, baseOpenFrom, shortestOf, asBytes, lentRows, rowsOf, reportRead}
 use Rattle.record.specs.Shorthands.{filled}
 use Rattle.record.specs.Terms.{Has}
 use Rattle.record.specs.Terms as reading
@@ -31,8 +31,8 @@ use Rattle.hessian.specs.Calls.{Accepted, read-number, read-ten, read-ca
 -- that record
 record ReadRecord (m t : List ℕ) (a : ℕ) (t′ : List ℕ) : Type 0 where
   record-of : List Item
-  grammar : Message base 32 m record-of
-  short : length m ≤ 262_144
+  grammar : Message base m record-of
+  short : length m ≤ base .longest
   enough : length record-of ≤ lentAt t
   counted : countOf a ≡ length record-of
   whole : placeOf a ≡ length m
@@ -53,16 +53,16 @@ module _ (m t : List ℕ) (b : Bytes m) (a : ℕ) (t′ : List ℕ) (g : ReadGiv
   from-accepted : Accepted m t b a t′ g → ReadRecord m t a t′
   from-accepted x =
       let y = x .accepts in
-      let d = judged-done base 32 262_144 m (length m) (y .entries) (y .known) (y .done) in
+      let d = judged-done base m (length m) (y .entries) (y .known) (y .done) in
       let l : length (x .record-of) ≡ length (y .entries) = ap length (sym (y .reads-as)) ∙ length-map (y .entries) (λ (e : Entry Item). e .item) in
       record {
         record-of = x .record-of;
-        grammar = accepted-exactly base 32 262_144 m b (x .record-of) .0 y .1;
+        grammar = accepted-exactly base m b (x .record-of) .0 y .1;
         short = x .few;
         enough = omega (arith, x .enough);
         counted = x .all-rows ∙ sym l;
         whole = x .whole;
-        table = subst (λ (r : List Row). ClaimAll m r (x .record-of)) (sym (x .held)) (subst (ClaimAll m (rows (y .entries))) (y .reads-as) (own-rows base 32 m b (length m) (y .entries) (y .known) (d .1)));
+        table = subst (λ (r : List Row). ClaimAll m r (x .record-of)) (sym (x .held)) (subst (ClaimAll m (rows (y .entries))) (y .reads-as) (own-rows base m b (length m) (y .entries) (y .known) (d .1)));
       }
 
   read-record : numberOf a ≡ 0 → ReadRecord m t a t′
@@ -72,45 +72,45 @@ module _ (m t : List ℕ) (b : Bytes m) (a : ℕ) (t′ : List ℕ) (g : ReadGiv
       go (inl x) = from-accepted (x .1)
       go (inr x) = absurd (x .0 z)
 
-  pub read-holds : numberOf a ≡ 0 → (r : List Item) × Message base 32 m r × (length m ≤ 262_144) × (length r ≤ lentAt t) × (countOf a ≡ length r) × (placeOf a ≡ length m) × ClaimAll m (rowsAt (countOf a) t′) r
+  pub read-holds : numberOf a ≡ 0 → (r : List Item) × Message base m r × (length m ≤ base .longest) × (length r ≤ lentAt t) × (countOf a ≡ length r) × (placeOf a ≡ length m) × ClaimAll m (rowsAt (countOf a) t′) r
   read-holds z = let x = read-record z in (x .record-of, x .grammar, x .short, x .enough, x .counted, x .whole, x .table)
 
-  pub read-skips : numberOf a ≡ 0 → (r : List Item) × Message base 32 m r × Skippable (rowsAt (countOf a) t′) r
+  pub read-skips : numberOf a ≡ 0 → (r : List Item) × Message base m r × Skippable (rowsAt (countOf a) t′) r
   read-skips z =
       let x = read-record z in
-      (x .record-of, x .grammar, skippable base 32 m (x .record-of) (x .grammar) m (rowsAt (countOf a) t′) (x .table))
+      (x .record-of, x .grammar, skippable base m (x .record-of) (x .grammar) m (rowsAt (countOf a) t′) (x .table))
 
   -- a message is accepted exactly when the grammar reads it as one record within the limits, and the lent rows suffice
-  pub read-accepted : (numberOf a ≡ 0) ↔ ((r : List Item) × Message base 32 m r × (length m ≤ 262_144) × (length r ≤ lentAt t))
+  pub read-accepted : (numberOf a ≡ 0) ↔ ((r : List Item) × Message base m r × (length m ≤ base .longest) × (length r ≤ lentAt t))
   read-accepted = (
     λ z. let x = read-record z in (x .record-of, x .grammar, x .short, x .enough),
-    λ x. let y = accepted-exactly base 32 262_144 m b (x .0) .1 (x .2, x .1) in
+    λ x. let y = accepted-exactly base m b (x .0) .1 (x .2, x .1) in
         let l : length (x .0) ≡ length (y .entries) = ap length (sym (y .reads-as)) ∙ length-map (y .entries) (λ (e : Entry Item). e .item) in
-        read-number m t b a t′ g ∙ ap (λ (z : ReadAnswer). reportRead z .number) (rows-suffice base 32 262_144 (lentAt t) m (x .0) y (omega (arith, x .3))),
+        read-number m t b a t′ g ∙ ap (λ (z : ReadAnswer). reportRead z .number) (rows-suffice base (lentAt t) m (x .0) y (omega (arith, x .3))),
   )
 
 pub record-skips : (s t : List ℕ) (n : ℕ) (m : List ℕ) (x : RecordOf s t n m) → Skippable (rowsAt n t) (x .record-of)
-record-skips s t n m x = skippable base 32 m (x .record-of) (x .grammar) s (rowsAt n t) (x .claimed)
+record-skips s t n m x = skippable base m (x .record-of) (x .grammar) s (rowsAt n t) (x .claimed)
 
 -- ---- a call of hessian_write
 module _ (s t : List ℕ) (n : ℕ) where
-  has-of : (m : List ℕ) → RecordOf s t n m → Has base 32 s (rowsAt n t) m
-  has-of m x = record { record-of = x .record-of; claimed = x .claimed; read-as = derived-reads base 32 m (x .record-of) (x .grammar) }
+  has-of : (m : List ℕ) → RecordOf s t n m → Has base s (rowsAt n t) m
+  has-of m x = record { record-of = x .record-of; claimed = x .claimed; read-as = derived-reads base m (x .record-of) (x .grammar) }
 
-  of-has : n ≤ lentAt t → (m : List ℕ) → Has base 32 s (rowsAt n t) m → RecordOf s t n m
-  of-has l m x = record { lent = l; record-of = x .record-of; claimed = x .claimed; grammar = reads-derived base 32 m (x .record-of) (x .read-as) }
+  of-has : n ≤ lentAt t → (m : List ℕ) → Has base s (rowsAt n t) m → RecordOf s t n m
+  of-has l m x = record { lent = l; record-of = x .record-of; claimed = x .claimed; grammar = reads-derived base m (x .record-of) (x .read-as) }
 
-  no-shorter : (w : List ℕ) → shortestOf base 48 32 s (rowsAt n t) ≡ some w → (m : List ℕ) → RecordOf s t n m → length w ≤ length m
+  no-shorter : (w : List ℕ) → shortestOf base baseOpenFrom s (rowsAt n t) ≡ some w → (m : List ℕ) → RecordOf s t n m → length w ≤ length m
   no-shorter w q m x =
-      let p = rows-no-longer base 48 (omega arith) 32 s (rowsAt n t) m (has-of m x) in
+      let p = rows-no-longer base baseOpenFrom (omega arith) s (rowsAt n t) m (has-of m x) in
       let e = p .1 in
       let f : p .0 ≡ w = cc in
       omega (arith, p .2, ap length f)
 
-  written-of : n ≤ lentAt t → (w : List ℕ) → shortestOf base 48 32 s (rowsAt n t) ≡ some w → RecordOf s t n w
-  written-of l w q = of-has l w (rows-back base 48 (omega arith) 32 s (rowsAt n t) w q)
+  written-of : n ≤ lentAt t → (w : List ℕ) → shortestOf base baseOpenFrom s (rowsAt n t) ≡ some w → RecordOf s t n w
+  written-of l w q = of-has l w (rows-back base baseOpenFrom (omega arith) s (rowsAt n t) w q)
 
-  shortest : n ≤ lentAt t → (w : List ℕ) → shortestOf base 48 32 s (rowsAt n t) ≡ some w → length w ≤ 262_144 → ShortestOf s t n w
+  shortest : n ≤ lentAt t → (w : List ℕ) → shortestOf base baseOpenFrom s (rowsAt n t) ≡ some w → length w ≤ base .longest → ShortestOf s t n w
   shortest l w q i = record { has = written-of l w q; short = i; none-shorter = no-shorter w q }
 
   module _ (o : List ℕ) (a : ℕ) (o′ : List ℕ) (g : WriteGives s t n o a o′) where
@@ -138,13 +138,13 @@ module _ (s t : List ℕ) (n : ℕ) where
         go (wrote i l w q j k z v u) = absurd (f z)
 
     -- refusal 10 exactly when, length set aside, no message within the other ceilings has the record
-    pub write-refused-10 : length s ≤ 262_144 → (numberOf a ≡ 10) ↔ ((m : List ℕ) → RecordOf s t n m → ⊥)
+    pub write-refused-10 : length s ≤ base .longest → (numberOf a ≡ 10) ↔ ((m : List ℕ) → RecordOf s t n m → ⊥)
     write-refused-10 short = (λ z. none z (write-cases s t n o a o′ g), λ f. ten f (write-cases s t n o a o′ g))
       where
         none : numberOf a ≡ 10 → WriteCases s t n o a o′ g → (m : List ℕ) → RecordOf s t n m → ⊥
         none y (long-source i z u) m x = omega arith
         none y (beyond i l z u) m x = omega (arith, x .lent)
-        none y (no-record i l q z u) m x = rows-none base 48 (omega arith) 32 s (rowsAt n t) .0 q m (has-of m x)
+        none y (no-record i l q z u) m x = rows-none base baseOpenFrom (omega arith) s (rowsAt n t) .0 q m (has-of m x)
         none y (too-long i l w q j z u) m x = omega arith
         none y (too-few i l w q j k z v u) m x = omega arith
         none y (wrote i l w q j k z v u) m x = omega arith
@@ -158,10 +158,10 @@ module _ (s t : List ℕ) (n : ℕ) where
         ten f (wrote i l w q j k z v u) = absurd (f w (written-of l w q))
 
     -- refusal 1 exactly when the source is too long, or messages have the record and each of them is too long
-    pub write-refused-1 : (numberOf a ≡ 1) ↔ ((262_144 < length s) ⊎ (((m : List ℕ) × RecordOf s t n m) × ((m : List ℕ) → RecordOf s t n m → 262_144 < length m)))
+    pub write-refused-1 : (numberOf a ≡ 1) ↔ ((base .longest < length s) ⊎ (((m : List ℕ) × RecordOf s t n m) × ((m : List ℕ) → RecordOf s t n m → base .longest < length m)))
     write-refused-1 = (λ z. why z (write-cases s t n o a o′ g), λ f. one f (write-cases s t n o a o′ g))
       where
-        why : numberOf a ≡ 1 → WriteCases s t n o a o′ g → (262_144 < length s) ⊎ (((m : List ℕ) × RecordOf s t n m) × ((m : List ℕ) → RecordOf s t n m → 262_144 < length m))
+        why : numberOf a ≡ 1 → WriteCases s t n o a o′ g → (base .longest < length s) ⊎ (((m : List ℕ) × RecordOf s t n m) × ((m : List ℕ) → RecordOf s t n m → base .longest < length m))
         why y (long-source i z u) = inl i
         why y (beyond i l z u) = absurd (omega arith)
         why y (no-record i l q z u) = absurd (omega arith)
@@ -169,18 +169,18 @@ module _ (s t : List ℕ) (n : ℕ) where
         why y (too-few i l w q j k z v u) = absurd (omega arith)
         why y (wrote i l w q j k z v u) = absurd (omega arith)
 
-        not-long : (w : List ℕ) → RecordOf s t n w → length w ≤ 262_144 → length s ≤ 262_144 → (262_144 < length s) ⊎ (((m : List ℕ) × RecordOf s t n m) × ((m : List ℕ) → RecordOf s t n m → 262_144 < length m)) → numberOf a ≡ 1
+        not-long : (w : List ℕ) → RecordOf s t n w → length w ≤ base .longest → length s ≤ base .longest → (base .longest < length s) ⊎ (((m : List ℕ) × RecordOf s t n m) × ((m : List ℕ) → RecordOf s t n m → base .longest < length m)) → numberOf a ≡ 1
         not-long w x j i (inl h) = absurd (omega arith)
         not-long w x j i (inr h) = let y = h .1 w x in absurd (omega arith)
 
-        none-of : length s ≤ 262_144 → ((m : List ℕ) → RecordOf s t n m → ⊥) → (262_144 < length s) ⊎ (((m : List ℕ) × RecordOf s t n m) × ((m : List ℕ) → RecordOf s t n m → 262_144 < length m)) → numberOf a ≡ 1
+        none-of : length s ≤ base .longest → ((m : List ℕ) → RecordOf s t n m → ⊥) → (base .longest < length s) ⊎ (((m : List ℕ) × RecordOf s t n m) × ((m : List ℕ) → RecordOf s t n m → base .longest < length m)) → numberOf a ≡ 1
         none-of i f (inl h) = absurd (omega arith)
         none-of i f (inr h) = absurd (f (h .0 .0) (h .0 .1))
 
-        one : (262_144 < length s) ⊎ (((m : List ℕ) × RecordOf s t n m) × ((m : List ℕ) → RecordOf s t n m → 262_144 < length m)) → WriteCases s t n o a o′ g → numberOf a ≡ 1
+        one : (base .longest < length s) ⊎ (((m : List ℕ) × RecordOf s t n m) × ((m : List ℕ) → RecordOf s t n m → base .longest < length m)) → WriteCases s t n o a o′ g → numberOf a ≡ 1
         one h (long-source i z u) = z
         one h (beyond i l z u) = none-of i (λ m x. omega (arith, x .lent)) h
-        one h (no-record i l q z u) = none-of i (λ m x. rows-none base 48 (omega arith) 32 s (rowsAt n t) .0 q m (has-of m x)) h
+        one h (no-record i l q z u) = none-of i (λ m x. rows-none base baseOpenFrom (omega arith) s (rowsAt n t) .0 q m (has-of m x)) h
         one h (too-long i l w q j z u) = z
         one h (too-few i l w q j k z v u) = not-long w (written-of l w q) j i h
         one h (wrote i l w q j k z v u) = not-long w (written-of l w q) j i h
@@ -218,7 +218,7 @@ module _ (s t : List ℕ) (n : ℕ) where
         × ((o₂ : List ℕ) (a₂ : ℕ) (o₂′ : List ℕ) → WriteGives s t n o₂ a₂ o₂′ → length w ≤ length o₂ → (numberOf a₂ ≡ 0) × (take (countOf a₂) o₂′ ≡ w))
     demand-3 x y = go (write-cases s t n o a o′ g)
       where
-        given : (w : List ℕ) → shortestOf base 48 32 s (rowsAt n t) ≡ some w → length w ≤ 262_144 → length s ≤ 262_144 → n ≤ lentAt t → (o₂ : List ℕ) (a₂ : ℕ) (o₂′ : List ℕ) → WriteGives s t n o₂ a₂ o₂′ → length w ≤ length o₂ → (numberOf a₂ ≡ 0) × (take (countOf a₂) o₂′ ≡ w)
+        given : (w : List ℕ) → shortestOf base baseOpenFrom s (rowsAt n t) ≡ some w → length w ≤ base .longest → length s ≤ base .longest → n ≤ lentAt t → (o₂ : List ℕ) (a₂ : ℕ) (o₂′ : List ℕ) → WriteGives s t n o₂ a₂ o₂′ → length w ≤ length o₂ → (numberOf a₂ ≡ 0) × (take (countOf a₂) o₂′ ≡ w)
         given w q j i l o₂ a₂ o₂′ g₂ r = again (write-cases s t n o₂ a₂ o₂′ g₂)
           where
             again : WriteCases s t n o₂ a₂ o₂′ g₂ → (numberOf a₂ ≡ 0) × (take (countOf a₂) o₂′ ≡ w)
@@ -238,10 +238,10 @@ module _ (s t : List ℕ) (n : ℕ) where
         go (wrote i l w q j k z v u) = (w, shortest l w q j, given w q j i l)
 
     -- what is written is the definitions' shortest message
-    pub wrote-shortest : numberOf a ≡ 0 → shortestOf base 48 32 s (rowsAt n t) ≡ some (take (countOf a) o′)
+    pub wrote-shortest : numberOf a ≡ 0 → shortestOf base baseOpenFrom s (rowsAt n t) ≡ some (take (countOf a) o′)
     wrote-shortest y = go (write-cases s t n o a o′ g)
       where
-        go : WriteCases s t n o a o′ g → shortestOf base 48 32 s (rowsAt n t) ≡ some (take (countOf a) o′)
+        go : WriteCases s t n o a o′ g → shortestOf base baseOpenFrom s (rowsAt n t) ≡ some (take (countOf a) o′)
         go (long-source i z u) = absurd (omega arith)
         go (beyond i l z u) = absurd (omega arith)
         go (no-record i l q z u) = absurd (omega arith)
@@ -250,8 +250,8 @@ module _ (s t : List ℕ) (n : ℕ) where
         go (wrote i l w q j k z v u) = q ∙ ap {B = Option (List ℕ)} some (sym ((λ x. take (v x) (u x)) ∙ stored-take o 0 w (omega arith)))
 
 -- ---- a message reads as one record
-one-reading : (m : List ℕ) (r q : List Item) → Message base 32 m r → Message base 32 m q → r ≡ q
-one-reading m r q x y = go (message base 32 start 0 m) (derived-reads base 32 m r x .accepted) (derived-reads base 32 m q y .accepted)
+one-reading : (m : List ℕ) (r q : List Item) → Message base m r → Message base m q → r ≡ q
+one-reading m r q x y = go (message base start 0 m) (derived-reads base m r x .accepted) (derived-reads base m q y .accepted)
   where
     go : (o : Outcome Known Item One) → reading.Accepted r o → reading.Accepted q o → r ≡ q
     go (Done n u es c) a b = sym a ∙ b
@@ -276,7 +276,7 @@ rows-count (suc n) t = ap suc (rows-count n (drop (asBytes .width) t))
 
 -- a table keeps its length
 table-length : (m t : List ℕ) (a : ℕ) (t′ : List ℕ) → ReadGives m t a t′ → length t′ ≡ length t
-table-length m t a t′ g = ap length (g .1) ∙ go (read base 32 262_144 (lentRows asBytes t) m)
+table-length m t a t′ g = ap length (g .1) ∙ go (read base (lentRows asBytes t) m)
   where
     go : (x : ReadAnswer) → length (filled asBytes t x) ≡ length t
     go (Accept rs n) = length-overlay (asBytes .width) (asBytes .encode) bytes-sized t 0 rs
@@ -289,7 +289,7 @@ module _ (s t : List ℕ) (n : ℕ) (w : List ℕ) (x : ShortestOf s t n w) wher
 
   pub read-again : (t₂ : List ℕ) (a₂ : ℕ) (t₂′ : List ℕ) → ReadGives w t₂ a₂ t₂′ → n ≤ lentAt t₂ → (numberOf a₂ ≡ 0) × SameRecord s w (rowsAt n t) (rowsAt (countOf a₂) t₂′)
   read-again t₂ a₂ t₂′ g l =
-      let b = derived-reads base 32 w r-of (x .has .grammar) .bytes in
+      let b = derived-reads base w r-of (x .has .grammar) .bytes in
       let k : length r-of ≡ n = claim-length (x .has .claimed) ∙ rows-count n t in
       let z = read-accepted w t₂ b a₂ t₂′ g .1 (r-of, x .has .grammar, x .short, omega arith) in
       let y = read-record w t₂ b a₂ t₂′ g z in
@@ -300,7 +300,7 @@ module _ (s t : List ℕ) (n : ℕ) (w : List ℕ) (x : ShortestOf s t n w) wher
   shorter-none m tm b am tm′ g z e =
       let y = read-record m tm b am tm′ g z in
       let q = one-claim m (y .table) (same-exactly s m (x .has .claimed) (rowsAt (countOf am) tm′) .0 e) in
-      x .none-shorter m (record { lent = x .has .lent; record-of = r-of; claimed = x .has .claimed; grammar = subst (Message base 32 m) q (y .grammar) })
+      x .none-shorter m (record { lent = x .has .lent; record-of = r-of; claimed = x .has .claimed; grammar = subst (Message base m) q (y .grammar) })
 
 -- ---- a message that was read, written
 module _ (m t : List ℕ) (b : Bytes m) (a : ℕ) (t′ : List ℕ) (g : ReadGives m t a t′) (z : numberOf a ≡ 0) where
@@ -312,10 +312,10 @@ module _ (m t : List ℕ) (b : Bytes m) (a : ℕ) (t′ : List ℕ) (g : ReadGiv
   pub rewritten : (o : List ℕ) (c : ℕ) (o′ : List ℕ) → WriteGives m t′ (countOf a) o c o′ → length m ≤ length o → (numberOf c ≡ 0) × (countOf c ≤ length m)
   rewritten o c o′ h l = go (write-numbered m t′ (countOf a) o c o′ h)
     where
-      few : length m ≤ 262_144
+      few : length m ≤ base .longest
       few = read-record m t b a t′ g z .short
 
-      one : (262_144 < length m) ⊎ (((w : List ℕ) × RecordOf m t′ (countOf a) w) × ((w : List ℕ) → RecordOf m t′ (countOf a) w → 262_144 < length w)) → ⊥
+      one : (base .longest < length m) ⊎ (((w : List ℕ) × RecordOf m t′ (countOf a) w) × ((w : List ℕ) → RecordOf m t′ (countOf a) w → base .longest < length w)) → ⊥
       one (inl i) = omega (arith, few)
       one (inr i) = let j = i .1 m own in omega (arith, few)
 
@@ -333,10 +333,10 @@ module _ (s₁ t₁ : List ℕ) (n₁ : ℕ) (o₁ : List ℕ) (a₁ : ℕ) (o�
     λ e. let x = wrote-shortest s₁ t₁ n₁ o₁ a₁ o₁′ g₁ z₁ in
         let y = wrote-shortest s₂ t₂ n₂ o₂ a₂ o₂′ g₂ z₂ in
         let c = written-back s₁ t₁ n₁ o₁ a₁ o₁′ g₁ z₁ .0 .has .claimed in
-        let q : some (take (countOf a₁) o₁′) ≡ some (take (countOf a₂) o₂′) = sym x ∙ one-message base 48 32 s₁ s₂ c (rowsAt n₂ t₂) e ∙ y in
+        let q : some (take (countOf a₁) o₁′) ≡ some (take (countOf a₂) o₂′) = sym x ∙ one-message base baseOpenFrom s₁ s₂ c (rowsAt n₂ t₂) e ∙ y in
         cc,
     λ e. let x = written-back s₁ t₁ n₁ o₁ a₁ o₁′ g₁ z₁ .0 .has in
         let y = written-back s₂ t₂ n₂ o₂ a₂ o₂′ g₂ z₂ .0 .has in
-        let q = one-reading (take (countOf a₂) o₂′) (y .record-of) (x .record-of) (y .grammar) (subst (λ (w : List ℕ). Message base 32 w (x .record-of)) e (x .grammar)) in
+        let q = one-reading (take (countOf a₂) o₂′) (y .record-of) (x .record-of) (y .grammar) (subst (λ (w : List ℕ). Message base w (x .record-of)) e (x .grammar)) in
         same-exactly s₁ s₂ (x .claimed) (rowsAt n₂ t₂) .1 (subst (ClaimAll s₂ (rowsAt n₂ t₂)) q (y .claimed)),
   )

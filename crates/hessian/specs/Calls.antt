@@ -10,7 +10,7 @@ use borrow.Author.Tests.{lt-ltb, le-ltb}
 use Rattle.flow.specs.Tests.{split, pick-true, pick-false}
 use Rattle.flow.specs.Flow.{Bytes, stored, Report}
 use Rattle.record.specs.Records.{Item, Row, rows, ClaimAll}
-use Rattle.record.specs.Answers.{ReadAnswer, Accept, Refuse, read, WriteAnswer, Wrote, Refused, shortestOf, answeredTo, base, asBytes, lentRows, rowsOf, reportRead, readReport, readTable, reportWritten, written, writeReport, writeOutput}
+use Rattle.record.specs.Answers.{ReadAnswer, Accept, Refuse, read, WriteAnswer, Wrote, Refused, shortestOf, answeredTo, base, baseOpenFrom, asBytes, lentRows, rowsOf, reportRead, readReport, readTable, reportWritten, written, writeReport, writeOutput}
 use Rattle.record.specs.Shorthands.{filled, outputWritten}
 use Rattle.record.specs.Terms.{write, Accepts}
 use Rattle.record.specs.Writing.{judged-done, own-rows}
@@ -22,7 +22,7 @@ use Rattle.hessian.specs.Packed.{packed, ReadGives, WriteGives}
 use Rattle.hessian.specs.Terms.{numberOf, countOf, placeOf}
 
 -- ---- the parts of an answer
-module _ (r : Report) (c : r .count ≤ 262_144) (p : r .place ≤ 262_144) where
+module _ (r : Report) (c : r .count ≤ base .longest) (p : r .place ≤ base .longest) where
   pub number-is : numberOf (packed r) ≡ r .number
   number-is = omega arith
 
@@ -36,10 +36,10 @@ module _ (r : Report) (c : r .count ≤ 262_144) (p : r .place ≤ 262_144) wher
 module _ (m t : List ℕ) (b : Bytes m) (a : ℕ) (t′ : List ℕ) (g : ReadGives m t a t′) where
   -- the definitions' answer
   abbrev Answer : ReadAnswer
-  Answer = read base 32 262_144 (lentRows asBytes t) m
+  Answer = read base (lentRows asBytes t) m
 
-  small : (reportRead Answer .count ≤ 262_144) × (reportRead Answer .place ≤ 262_144) × (reportRead Answer .number ≤ 9)
-  small = answer-small base 32 262_144 (lentRows asBytes t) m b
+  small : (reportRead Answer .count ≤ base .longest) × (reportRead Answer .place ≤ base .longest) × (reportRead Answer .number ≤ 9)
+  small = answer-small base (lentRows asBytes t) m b
 
   pub read-number : numberOf a ≡ reportRead Answer .number
   read-number = ap numberOf (g .0) ∙ number-is (reportRead Answer) (small .0) (small .1)
@@ -56,8 +56,8 @@ module _ (m t : List ℕ) (b : Bytes m) (a : ℕ) (t′ : List ℕ) (g : ReadGiv
   -- accepted: the table's rows are those of the record that the message reads as
   pub record Accepted : Type 0 where
     pub record-of : List Item
-    pub accepts : Accepts base 32 262_144 m record-of
-    pub few : length m ≤ 262_144
+    pub accepts : Accepts base m record-of
+    pub few : length m ≤ base .longest
     pub all-rows : countOf a ≡ length (accepts .entries)
     pub enough : length (accepts .entries) ≤ lentRows asBytes t
     pub held : rowsOf asBytes (countOf a) t′ ≡ rows (accepts .entries)
@@ -71,16 +71,16 @@ module _ (m t : List ℕ) (b : Bytes m) (a : ℕ) (t′ : List ℕ) (g : ReadGiv
   refused x k o l e = let q = ap (λ (z : ReadAnswer). reportRead z .number) e in inr (λ z. omega (arith, read-number), g .1 ∙ ap (filled asBytes t) e)
 
   pub read-cases : ReadCases
-  read-cases = by-read base 32 262_144 (lentRows asBytes t) m b (λ z. Answer ≡ z → ReadCases)
+  read-cases = by-read base (lentRows asBytes t) m b (λ z. Answer ≡ z → ReadCases)
       (λ h e. refused 1 0 0 (omega arith) e)
       (λ x o h e. refused x 0 o (omega (arith, h .0)) e)
       (λ r x h e. refused 9 (length (x .entries)) 0 (omega arith) e)
       (λ r x h e. inl (read-number ∙ ap (λ (z : ReadAnswer). reportRead z .number) e, accepted r x h e))
       refl
     where
-      accepted : (r : List Item) (x : Accepts base 32 262_144 m r) → length (x .entries) ≤ lentRows asBytes t → Answer ≡ Accept (rows (x .entries)) (length m) → Accepted
+      accepted : (r : List Item) (x : Accepts base m r) → length (x .entries) ≤ lentRows asBytes t → Answer ≡ Accept (rows (x .entries)) (length m) → Accepted
       accepted r x h e =
-          let l = judged-done base 32 262_144 m (length m) (x .entries) (x .known) (x .done) .0 in
+          let l = judged-done base m (length m) (x .entries) (x .known) (x .done) .0 in
           let n : countOf a ≡ length (rows (x .entries)) = read-count ∙ ap (λ (z : ReadAnswer). reportRead z .count) e in
           record {
             record-of = r;
@@ -90,7 +90,7 @@ module _ (m t : List ℕ) (b : Bytes m) (a : ℕ) (t′ : List ℕ) (g : ReadGiv
             enough = h;
             held =
                 (λ i. rowsOf asBytes (n i) (g .1 i))
-                ∙ bytes-hold base 32 262_144 m t b (omega arith) (rows (x .entries)) (length m) e;
+                ∙ bytes-hold base m t b (omega arith) (rows (x .entries)) (length m) e;
             whole = read-place ∙ ap (λ (z : ReadAnswer). reportRead z .place) e;
           }
 
@@ -98,54 +98,54 @@ module _ (m t : List ℕ) (b : Bytes m) (a : ℕ) (t′ : List ℕ) (g : ReadGiv
 module _ (s t : List ℕ) (n : ℕ) (o : List ℕ) (a : ℕ) (o′ : List ℕ) (g : WriteGives s t n o a o′) where
   -- the shortest message of the rows claimed
   abbrev Shortest : Option (List ℕ)
-  Shortest = shortestOf base 48 32 s (rowsOf asBytes n t)
+  Shortest = shortestOf base baseOpenFrom s (rowsOf asBytes n t)
 
   -- how a call can end
   pub data WriteCases : Type 0 where
-    long-source : 262_144 < length s → numberOf a ≡ 1 → o′ ≡ o → WriteCases
-    beyond : length s ≤ 262_144 → lentRows asBytes t < n → numberOf a ≡ 10 → o′ ≡ o → WriteCases
-    no-record : length s ≤ 262_144 → n ≤ lentRows asBytes t → Shortest ≡ none → numberOf a ≡ 10 → o′ ≡ o → WriteCases
-    too-long : length s ≤ 262_144 → n ≤ lentRows asBytes t → (w : List ℕ) → Shortest ≡ some w → 262_144 < length w → numberOf a ≡ 1 → o′ ≡ o → WriteCases
-    too-few : length s ≤ 262_144 → n ≤ lentRows asBytes t → (w : List ℕ) → Shortest ≡ some w → length w ≤ 262_144 → length o < length w → numberOf a ≡ 9 → countOf a ≡ length w → o′ ≡ o → WriteCases
-    wrote : length s ≤ 262_144 → n ≤ lentRows asBytes t → (w : List ℕ) → Shortest ≡ some w → length w ≤ 262_144 → length w ≤ length o → numberOf a ≡ 0 → countOf a ≡ length w → o′ ≡ stored o 0 w → WriteCases
+    long-source : base .longest < length s → numberOf a ≡ 1 → o′ ≡ o → WriteCases
+    beyond : length s ≤ base .longest → lentRows asBytes t < n → numberOf a ≡ 10 → o′ ≡ o → WriteCases
+    no-record : length s ≤ base .longest → n ≤ lentRows asBytes t → Shortest ≡ none → numberOf a ≡ 10 → o′ ≡ o → WriteCases
+    too-long : length s ≤ base .longest → n ≤ lentRows asBytes t → (w : List ℕ) → Shortest ≡ some w → base .longest < length w → numberOf a ≡ 1 → o′ ≡ o → WriteCases
+    too-few : length s ≤ base .longest → n ≤ lentRows asBytes t → (w : List ℕ) → Shortest ≡ some w → length w ≤ base .longest → length o < length w → numberOf a ≡ 9 → countOf a ≡ length w → o′ ≡ o → WriteCases
+    wrote : length s ≤ base .longest → n ≤ lentRows asBytes t → (w : List ℕ) → Shortest ≡ some w → length w ≤ base .longest → length w ≤ length o → numberOf a ≡ 0 → countOf a ≡ length w → o′ ≡ stored o 0 w → WriteCases
 
   -- the definitions' answer
   abbrev Written : WriteAnswer
-  Written = written base 48 32 262_144 asBytes s t n (length o)
+  Written = written base baseOpenFrom asBytes s t n (length o)
 
-  place-none : (x : WriteAnswer) → reportWritten x .place ≤ 262_144
+  place-none : (x : WriteAnswer) → reportWritten x .place ≤ base .longest
   place-none (Wrote w) = omega arith
   place-none (Refused y k) = omega arith
 
-  number-as : (x : WriteAnswer) → Written ≡ x → reportWritten x .count ≤ 262_144 → numberOf a ≡ reportWritten x .number
+  number-as : (x : WriteAnswer) → Written ≡ x → reportWritten x .count ≤ base .longest → numberOf a ≡ reportWritten x .number
   number-as x e l = ap numberOf (g .0 ∙ ap (λ (z : WriteAnswer). packed (reportWritten z)) e) ∙ number-is (reportWritten x) l (place-none x)
 
-  count-as : (x : WriteAnswer) → Written ≡ x → reportWritten x .count ≤ 262_144 → countOf a ≡ reportWritten x .count
+  count-as : (x : WriteAnswer) → Written ≡ x → reportWritten x .count ≤ base .longest → countOf a ≡ reportWritten x .count
   count-as x e l = ap countOf (g .0 ∙ ap (λ (z : WriteAnswer). packed (reportWritten z)) e) ∙ count-is (reportWritten x) l (place-none x)
 
   output-as : (x : WriteAnswer) → Written ≡ x → o′ ≡ outputWritten o x
   output-as x e = g .1 ∙ ap (outputWritten o) e
 
-  claimed-beyond : lentRows asBytes t < n → Written ≡ answeredTo 262_144 (length o) s none
+  claimed-beyond : lentRows asBytes t < n → Written ≡ answeredTo base (length o) s none
   unfolding written
-  claimed-beyond l = ap (answeredTo 262_144 (length o) s) (pick-true _ _ (lt-ltb (lentRows asBytes t) n l))
+  claimed-beyond l = ap (answeredTo base (length o) s) (pick-true _ _ (lt-ltb (lentRows asBytes t) n l))
 
-  claimed-within : n ≤ lentRows asBytes t → Written ≡ write base 48 32 262_144 (length o) s (rowsOf asBytes n t)
+  claimed-within : n ≤ lentRows asBytes t → Written ≡ write base baseOpenFrom (length o) s (rowsOf asBytes n t)
   unfolding written write
-  claimed-within l = ap (answeredTo 262_144 (length o) s) (pick-false _ _ (le-ltb (lentRows asBytes t) n l))
+  claimed-within l = ap (answeredTo base (length o) s) (pick-false _ _ (le-ltb (lentRows asBytes t) n l))
 
   pub write-cases : WriteCases
   write-cases = split (lentRows asBytes t) n over within
     where
       over : lentRows asBytes t < n → WriteCases
-      over l = split 262_144 (length s)
-          (λ i. let e : Written ≡ Refused 1 0 = claimed-beyond l ∙ pick-true _ _ (lt-ltb 262_144 (length s) i) in
+      over l = split (base .longest) (length s)
+          (λ i. let e : Written ≡ Refused 1 0 = claimed-beyond l ∙ pick-true _ _ (lt-ltb (base .longest) (length s) i) in
           long-source i (number-as (Refused 1 0) e (omega arith)) (output-as (Refused 1 0) e))
-          (λ i. let e : Written ≡ Refused 10 0 = claimed-beyond l ∙ pick-false _ _ (le-ltb 262_144 (length s) i) in
+          (λ i. let e : Written ≡ Refused 10 0 = claimed-beyond l ∙ pick-false _ _ (le-ltb (base .longest) (length s) i) in
           beyond i l (number-as (Refused 10 0) e (omega arith)) (output-as (Refused 10 0) e))
 
       within : n ≤ lentRows asBytes t → WriteCases
-      within l = by-answer base 32 262_144 48 s (rowsOf asBytes n t) (length o) (λ x. Written ≡ x → WriteCases)
+      within l = by-answer base baseOpenFrom s (rowsOf asBytes n t) (length o) (λ x. Written ≡ x → WriteCases)
           (λ i e. long-source i (number-as (Refused 1 0) e (omega arith)) (output-as (Refused 1 0) e))
           (λ i q e. no-record i l q (number-as (Refused 10 0) e (omega arith)) (output-as (Refused 10 0) e))
           (λ i w q j e. too-long i l w q j (number-as (Refused 1 0) e (omega arith)) (output-as (Refused 1 0) e))

@@ -3,6 +3,7 @@
 use mathlib.Core.{Path._≡_, Logic.{_↔_, _⊎_}, List.List}
 use Prim.Native.Nat.{ℕ, _/_, _≤_, _<_}
 use lib.ListN.{length, take, drop}
+use Rattle.flow.specs.RefusalNumbers.{wrong-length, no-room, no-record}
 use Rattle.flow.specs.Flow.{Bytes}
 use Rattle.record.specs.{Records.{Item, ClaimAll}, Grammar.Message, Answers.base, Same.SameRecord, Hops.Skippable}
 use Rattle.hessian.specs.Packed.{ReadGives, WriteGives}
@@ -12,16 +13,16 @@ use Rattle.hessian.specs.Called as called
 -- of a call of hessian_read: message, table, answer, table afterwards
 pub record OfRead (m t : List ℕ) (a : ℕ) (t′ : List ℕ) : Type 0 where
   -- demand 1: it accepts or gives one of the numbered refusals, and a refusal changes nothing
-  pub numbered : numberOf a ≤ 9
+  pub numbered : numberOf a ≤ no-room
   pub unchanged : (numberOf a ≡ 0 → ⊥) → t′ ≡ t
   -- demand 2: it accepts exactly when the grammar reads the message as one record within the limits and the lent rows suffice
   pub accepted :
-      (numberOf a ≡ 0) ↔ ((r : List Item) × Message base 32 m r × (length m ≤ 262_144) × (length r ≤ lentAt t))
+      (numberOf a ≡ 0) ↔ ((r : List Item) × Message base m r × (length m ≤ base .longest) × (length r ≤ lentAt t))
   -- and the table then holds that record
-  pub holds : numberOf a ≡ 0 → (r : List Item) × Message base 32 m r × (length m ≤ 262_144) × (length r ≤ lentAt t)
+  pub holds : numberOf a ≡ 0 → (r : List Item) × Message base m r × (length m ≤ base .longest) × (length r ≤ lentAt t)
       × (countOf a ≡ length r) × (placeOf a ≡ length m) × ClaimAll m (rowsAt (countOf a) t′) r
   -- request 2026-07: each of its rows skips what it opens
-  pub skips : numberOf a ≡ 0 → (r : List Item) × Message base 32 m r × Skippable (rowsAt (countOf a) t′) r
+  pub skips : numberOf a ≡ 0 → (r : List Item) × Message base m r × Skippable (rowsAt (countOf a) t′) r
 
 pub read : (m t : List ℕ) → Bytes m → (a : ℕ) (t′ : List ℕ) → ReadGives m t a t′ → OfRead m t a t′
 read m t b a t′ g = record {
@@ -35,18 +36,20 @@ read m t b a t′ g = record {
 -- of a call of hessian_write: source, table, rows claimed, output, answer, output afterwards
 pub record OfWrite (s t : List ℕ) (n : ℕ) (o : List ℕ) (a : ℕ) (o′ : List ℕ) : Type 0 where
   -- demand 1
-  pub numbered : (numberOf a ≡ 0) ⊎ ((numberOf a ≡ 1) ⊎ ((numberOf a ≡ 9) ⊎ (numberOf a ≡ 10)))
+  pub numbered : (numberOf a ≡ 0)
+      ⊎ ((numberOf a ≡ wrong-length) ⊎ ((numberOf a ≡ no-room) ⊎ (numberOf a ≡ no-record)))
   pub unchanged : (numberOf a ≡ 0 → ⊥) → o′ ≡ o
   -- demand 2: it refuses only where a numbered rule says so. 10 exactly when, length set aside, no message within the other ceilings has the record
-  pub refused-10 : length s ≤ 262_144 → (numberOf a ≡ 10) ↔ ((m : List ℕ) → RecordOf s t n m → ⊥)
+  pub refused-10 : length s ≤ base .longest → (numberOf a ≡ no-record) ↔ ((m : List ℕ) → RecordOf s t n m → ⊥)
   -- 1 exactly when the source is too long, or some messages have the record and each of them is too long
-  pub refused-1 : (numberOf a ≡ 1) ↔ ((262_144 < length s) ⊎ (((m : List ℕ) × RecordOf s t n m) × ((m : List ℕ) → RecordOf s t n m → 262_144 < length m)))
+  pub refused-1 : (numberOf a ≡ wrong-length) ↔ ((base .longest < length s)
+      ⊎ (((m : List ℕ) × RecordOf s t n m) × ((m : List ℕ) → RecordOf s t n m → base .longest < length m)))
   -- 9 only where the bytes lent are fewer than the shortest message takes; it counts them
-  pub refused-9 : numberOf a ≡ 9 → (w : List ℕ) × ShortestOf s t n w × (countOf a ≡ length w) × (length o < length w)
+  pub refused-9 : numberOf a ≡ no-room → (w : List ℕ) × ShortestOf s t n w × (countOf a ≡ length w) × (length o < length w)
   -- what is written has the record that it was written from, and none that has it is shorter; the output past it is unchanged
   pub written-back : numberOf a ≡ 0 → ShortestOf s t n (take (countOf a) o′) × (length (take (countOf a) o′) ≡ countOf a) × (drop (countOf a) o′ ≡ drop (countOf a) o)
   -- demand 3: any table refused with neither 1 nor 10 is accepted, given room, and the message written is shortest
-  pub demand-3 : (numberOf a ≡ 1 → ⊥) → (numberOf a ≡ 10 → ⊥) → (w : List ℕ) × ShortestOf s t n w
+  pub demand-3 : (numberOf a ≡ wrong-length → ⊥) → (numberOf a ≡ no-record → ⊥) → (w : List ℕ) × ShortestOf s t n w
       × ((o₂ : List ℕ) (a₂ : ℕ) (o₂′ : List ℕ) → WriteGives s t n o₂ a₂ o₂′ → length w ≤ length o₂ → (numberOf a₂ ≡ 0) × (take (countOf a₂) o₂′ ≡ w))
 
 pub write : (s t : List ℕ) (n : ℕ) (o : List ℕ) (a : ℕ) (o′ : List ℕ) → WriteGives s t n o a o′ → OfWrite s t n o a o′

@@ -26,10 +26,10 @@ pub record RecordOf (s t : List ℕ) (n : ℕ) (m : List ℕ) : Type 0 where
   pub lent : n ≤ lentAt t
   pub record-of : List Item
   pub claimed : ClaimAll s (rowsAt n t) record-of
-  pub grammar : Message base 32 m record-of
+  pub grammar : Message base m record-of
 
 -- so has the message w, and none that has it, of any spelling, is shorter
 pub record ShortestOf (s t : List ℕ) (n : ℕ) (w : List ℕ) : Type 0 where
   pub has : RecordOf s t n w
-  pub short : length w ≤ 262_144
+  pub short : length w ≤ base .longest
   pub none-shorter : (m : List ℕ) → RecordOf s t n m → length w ≤ length m

@@ -2,3 +2,4 @@ pub mod Table
 pub mod Reading
 pub mod Loads
 pub mod Writing
+pub mod Shortest

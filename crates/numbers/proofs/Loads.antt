@@ -10,18 +10,19 @@ use lib.IntN.{pos, _-ℤ_}
 use lib.ListN.{length, take, drop, getD}
 use mir.Syntax.{w32, w64}
 use mir.Val.{ofZ, toZ}
-use Rattle.flow.specs.Tests.{pick-either, took-le, left-le}
+use Rattle.flow.specs.Tests.{pick-either, took-le, left-le, within-yes}
 use Rattle.flow.specs.Steps.{Answer}
 use Rattle.flow.specs.Flow.{Done, Fault}
 use Rattle.wire.specs.BigEndian.{joined}
 use Rattle.wire.specs.Laws.{joined-one}
 use Rattle.scalar.specs.declared.Sort.{Sort}
 use Rattle.scalar.specs.declared.Rule.{Rule}
-use Rattle.scalar.specs.declared.Rule.the-variants.{Plain, Offset, Signed, Float}
+use Rattle.scalar.specs.declared.Rule.the-variants.{Exactly, Plain, Offset, Signed, Float}
 use Rattle.scalar.specs.declared.Begun.the-variants.{Starts}
-use Rattle.scalar.specs.Scalars.{widened, value, formsOf, formAt}
+use Rattle.scalar.specs.Scalars.{widened, value, Form, form, formsOf, formAt}
 use Rattle.scalar.specs.Answers.{numberAt}
-use Rattle.numbers.specs.Answers.{formRead}
+use Rattle.numbers.specs.Answers.{formRead, singleForm}
+use Rattle.scalar.specs.NumberLaws.{form-here}
 use Rattle.scalar.specs.NumberAt.{number-cut, number-there}
 
 -- ---- a form: the message ends in it; its value
@@ -68,3 +69,13 @@ module _ (m : List ℕ) (p : ℕ) where
   pub nine-is : (n : ℕ) → 8 < length m - p → n ≡ joined 0 (take 8 (drop (p + 1) m)) → Done 9 n [] tt ≡ formRead m p 8 0 Plain
   unfolding value
   nine-is n h i = formed-is m p 8 0 Plain h n i
+
+  -- the only form of null, false or true
+  pub single-is : (s : Sort) (code : ℕ) → formsOf s ≡ singleForm code → p < length m → getD m p 0 ≡ code
+      → Done 1 0 [] tt ≡ numberAt s m p
+  unfolding value
+  single-is s code f l e =
+      let b = getD m p 0 in
+      let here = within-yes code (code + 1) b (omega arith) (omega arith) in
+      let starts = ap (λ (ws : List Form). formAt ws b) f ∙ form-here (form code 1 0 (Exactly 0)) [] b here in
+      sym (number-there s m p l 0 (b - code) (Exactly 0) starts (omega arith))

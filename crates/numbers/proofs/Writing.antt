@@ -3,7 +3,7 @@ use mathlib.Core.Path.{_≡_, refl, sym, ap, subst, _∙_}
 use mathlib.Core.Bool.{Bool, true, false, cond, _&&_}
 use mathlib.Core.List.{List, [], _∷_, _++_}
 use mathlib.Core.Option.{Option, none, some}
-use Prim.Native.Nat.{ℕ, zero, suc, _+_, _*_, _/_, _^_, _≤_, _<_}
+use Prim.Native.Nat.{ℕ, zero, suc, _+_, _*_, _/_, _%_, _^_, _≤_, _<_}
 use native.Mathlib.Nat.{add-zero, div-div-eq-div-mul}
 use native.Mathlib.Numerals.{add-one}
 use native.Mathlib.Omega.{arith}
@@ -13,7 +13,7 @@ use mir.Syntax.{w64}
 use mir.Val.{Fits}
 use borrow.Author.Tests.{lt-ltb, le-ltb, lt-leb, eq-eqb, ne-eqb}
 use Rattle.flow.specs.Tests.{and-left, and-right, pick-true, pick-false}
-use Rattle.flow.specs.Flow.{pick, stored, Report}
+use Rattle.flow.specs.Flow.{pick, stored}
 use Rattle.flow.specs.OverlayLaws.{stored-out, stored-sets, stored-seam}
 use Rattle.wire.specs.BigEndian.{be, high, wider}
 use Rattle.wire.specs.Laws.{be-length, be-bytes, joined-be, joined-below}
@@ -21,14 +21,17 @@ use Rattle.scalar.specs.declared.Sort.{Sort}
 use Rattle.scalar.specs.declared.Sort.the-variants.{Null, False, True, Int, Long, Double, Date}
 use Rattle.scalar.specs.declared.Rule.{Rule}
 use Rattle.scalar.specs.declared.Rule.the-variants.{Plain}
+use Rattle.scalar.specs.declared.Written.{Written}
+use Rattle.scalar.specs.declared.Written.the-variants.{Stored, NoRoom, NotSuch}
 use Rattle.numbers.specs.declared.Spelling.{Spelling}
 use Rattle.numbers.specs.declared.Spelling.the-variants as answer
 use Rattle.scalar.specs.DoubleLaws.{powers}
 use Rattle.scalar.specs.Scalars.{value, Form, form, formsOf, spelling, fits, shortest}
 use Rattle.scalar.specs.Guesses.{guess}
 use Rattle.scalar.specs.NumberLaws.{tried, EachForm, IsNumber, number-fact, shortest-is}
-use Rattle.numbers.specs.Answers.{Takes, Good, spelled, orElse, some as isSome}
-use Rattle.scalar.specs.Answers.{reported, reportOf, outputOf, lengthOf}
+use Rattle.numbers.specs.Answers.{Takes, Good, spelled, orElse, some as isSome, Writes}
+use Rattle.scalar.specs.Answers.{reported, report, reportOf, outputOf, lengthOf}
+use Rattle.scalar.specs.AnswerLaws.{report-none, report-stored, report-over, output-none, output-some}
 
 -- ---- one form
 -- what stands before the k lowest bytes is the quotient
@@ -37,7 +40,7 @@ high-is zero u = omega arith
 high-is (suc k) u =
     high-is k (u / 256) ∙ div-div-eq-div-mul u 256 (2 ^ (8 * k)) ∙ ap (λ (n : ℕ). u / n) (sym (powers (8 * suc k) 8 (8 * k) (omega arith)))
 
-below : (k u c : ℕ) → high k u < c → u < wider k c
+pub below : (k u c : ℕ) → high k u < c → u < wider k c
 below k u c h = rw (joined-be k u) at (joined-below (be k u) k (high k u) c (be-length k u) (be-bytes k u) h)
 
 module _ (head codes more : ℕ) (rule : Rule) (v u : ℕ) (g : u ≡ guess rule v) where
@@ -142,6 +145,20 @@ all-short Long = tt
 all-short Double = tt
 all-short Date = tt
 
+-- ---- what was written, by the form: there is none; it is w
+pub written-none : {o : Option (List ℕ)} (l : List ℕ) (at : ℕ) → o ≡ none → Writes o l at NotSuch l
+written-none l at e = rw e (record { says = sym (report-none (length l) at); holds = sym (output-none l at) })
+
+pub written-as : {o : Option (List ℕ)} {w l l′ : List ℕ} {at : ℕ} {r : Written}
+    → Writes (some w) l at r l′ → o ≡ some w → Writes o l at r l′
+written-as h e = rw e h
+
+-- the promise, of a value of the kind x
+pub written-kind : {s x : Sort} (v : ℕ) {l l′ : List ℕ} {at : ℕ} {r : Written}
+    → s ≡ x → Writes (shortest (formsOf x) v) l at r l′
+    → (report r ≡ reportOf (shortest (formsOf s) v) (length l) at) × (l′ ≡ outputOf (shortest (formsOf s) v) l at)
+written-kind v e h = rw e (h .says, h .holds)
+
 -- ---- what is made of a spelling r, where o is what it spells
 module _ {r : Spelling} {o : Option (List ℕ)} (e : spelled r ≡ o) where
   module _ (q : r ≡ answer.Absent) where
@@ -149,9 +166,8 @@ module _ {r : Spelling} {o : Option (List ℕ)} (e : spelled r ≡ o) where
     unfolding lengthOf
     absent-length = rw (← e, q)
 
-    pub absent-written : (l : List ℕ) (at : ℕ) → (reported 10 0 ≡ reportOf o (length l) at) × (l ≡ outputOf o l at)
-    unfolding reportOf outputOf
-    absent-written l at = (rw (← e, q), rw (← e, q))
+    pub absent-written : (l : List ℕ) (at : ℕ) → Writes o l at NotSuch l
+    absent-written l at = written-none l at (sym e ∙ ap spelled q)
 
   module _ {c k u : ℕ} (q : r ≡ answer.Form c k u) where
     pub form-length : k + 1 ≡ lengthOf o
@@ -159,15 +175,15 @@ module _ {r : Spelling} {o : Option (List ℕ)} (e : spelled r ≡ o) where
     form-length = rw (← e, q, be-length, add-one)
 
     module _ (l : List ℕ) (at : ℕ) {l′ : List ℕ} {t : Bool} (h : (t ≡ leb (at + suc k) (length l)) × (l′ ≡ stored l at (c ∷ be k u))) where
-      by-room : (x : Report) → x ≡ pick t (reported 0 (k + 1)) (reported 9 (k + 1)) → (x ≡ reportOf o (length l) at) × (l′ ≡ outputOf o l at)
+      by-room : (x : Written) → report x ≡ pick t (reported 0 (k + 1)) (reported 9 (k + 1)) → Writes o l at x l′
       unfolding reportOf outputOf
-      by-room x d = (rw (← e, q, be-length, ← h .0, ← add-one k) d, rw (← e, q) (h .1))
+      by-room x d = record { says = rw (← e, q, be-length, ← h .0, ← add-one k) d; holds = rw (← e, q) (h .1) }
 
-      pub written-whole : t ≡ true → (reported 0 (k + 1) ≡ reportOf o (length l) at) × (l′ ≡ outputOf o l at)
-      written-whole i = by-room _ (sym (pick-true _ _ i))
+      pub written-whole : t ≡ true → Writes o l at (Stored (k + 1)) l′
+      written-whole i = by-room (Stored (k + 1)) (sym (pick-true _ _ i))
 
-      pub written-not : t ≡ false → (reported 9 (k + 1) ≡ reportOf o (length l) at) × (l′ ≡ outputOf o l at)
-      written-not i = by-room _ (sym (pick-false _ _ i))
+      pub written-not : t ≡ false → Writes o l at (NoRoom (k + 1)) l′
+      written-not i = by-room (NoRoom (k + 1)) (sym (pick-false _ _ i))
 
 -- a form has up to eight bytes after its first
 pub few-more : (s : Sort) (v : ℕ) {r : Spelling} → spelled r ≡ shortest (formsOf s) v → {c k u : ℕ} → r ≡ answer.Form c k u → Fits w64 (k + 1)
@@ -186,3 +202,52 @@ module _ (l : List ℕ) (at code more rest : ℕ) where
   store-all h s =
       let n : at + 1 + more ≡ at + suc more = omega arith in
       (rw (n, length-set) at (s .0), s .1 ∙ rw (← stored-sets l at (code ∷ []) (omega arith)) (stored-seam l at (code ∷ []) (be more rest) (rw be-length h)))
+
+-- ---- by plain stores: a form that does not fit, and one that fits
+module _ (l : List ℕ) (at : ℕ) where
+  pub stores-none : (w : List ℕ) → length l < at + length w → Writes (some w) l at (NoRoom (length w)) l
+  stores-none w h = record {
+    says = sym (report-over (length l) at w h);
+    holds = sym (output-some l at w ∙ stored-out l at w h);
+  }
+
+  stores-all : (w : List ℕ) → at + length w ≤ length l → {l′ : List ℕ} → l′ ≡ stored l at w
+      → Writes (some w) l at (Stored (length w)) l′
+  stores-all w h e = record { says = sym (report-stored (length l) at w h); holds = e ∙ sym (output-some l at w) }
+
+  pub stores-one : (a : ℕ) → at < length l → Writes (some (a ∷ [])) l at (Stored 1) (set l at a)
+  stores-one a h = stores-all (a ∷ []) (omega arith) (sym (stored-sets l at (a ∷ []) (omega arith)))
+
+  pub stores-two : (a b : ℕ) → at + 2 ≤ length l
+      → Writes (some (a ∷ b ∷ [])) l at (Stored 2) (set (set l at a) (at + 1) b)
+  stores-two a b h =
+      let e : at + 1 ≡ suc at = omega arith in
+      stores-all (a ∷ b ∷ []) h (rw e (sym (stored-sets l at (a ∷ b ∷ []) h)))
+
+  pub stores-three : (a b c : ℕ) → at + 3 ≤ length l
+      → Writes (some (a ∷ b ∷ c ∷ [])) l at (Stored 3) (set (set (set l at a) (at + 1) b) (at + 2) c)
+  stores-three a b c h =
+      let e : at + 1 ≡ suc at = omega arith in
+      let f : at + 2 ≡ suc (suc at) = omega arith in
+      stores-all (a ∷ b ∷ c ∷ []) h (rw (e, f) (sym (stored-sets l at (a ∷ b ∷ c ∷ []) h)))
+
+  -- four bytes stored one by one
+  abbrev pub setFour : ℕ → ℕ → ℕ → ℕ → List ℕ
+  setFour a b c d = set (set (set (set l at a) (at + 1) b) (at + 2) c) (at + 3) d
+
+  pub stores-four : (u : ℕ) → at + 4 ≤ length l
+      → setFour (u / 256 / 256 / 256 % 256) (u / 256 / 256 % 256) (u / 256 % 256) (u % 256) ≡ stored l at (be 4 u)
+  stores-four u h =
+      let e : at + 1 ≡ suc at = omega arith in
+      let f : at + 2 ≡ suc (suc at) = omega arith in
+      let g : at + 3 ≡ suc (suc (suc at)) = omega arith in
+      rw (e, f, g) (sym (stored-sets l at (be 4 u) h))
+
+  pub stores-nine : (code v : ℕ) → at + 9 ≤ length l → {l₁ l₂ : List ℕ}
+      → l₁ ≡ stored (set l at code) (at + 1) (be 4 (v / 256 / 256 / 256 / 256)) → l₂ ≡ stored l₁ (at + 5) (be 4 v)
+      → Writes (some (code ∷ be 8 v)) l at (Stored 9) l₂
+  stores-nine code v h {l₁} {l₂} e f =
+      let upper : List ℕ = be 4 (v / 256 / 256 / 256 / 256) in
+      let five = stored-seam l at (code ∷ []) upper (omega arith) in
+      let nine = ap (λ (x : List ℕ). stored x (at + 5) (be 4 v)) five ∙ stored-seam l at (code ∷ upper) (be 4 v) h in
+      stores-all (code ∷ be 8 v) h (f ∙ rw (e, ← stored-sets l at (code ∷ []) (omega arith)) nine)

@@ -1,4 +1,5 @@
 -- What the answers of the code on single values say.
+use mathlib.Core.Path.{_≡_}
 use mathlib.Core.Bool.{Bool, true, false}
 use mathlib.Core.List.{List, [], _∷_}
 use mathlib.Core.Option.{Option, none}
@@ -9,11 +10,15 @@ use lib.ListN.{length, take, drop}
 use Rattle.flow.specs.Flow.{pick, Done, Fault}
 use Rattle.flow.specs.Steps.{Answer}
 use Rattle.wire.specs.BigEndian.{joined, be, wider}
+use Rattle.scalar.specs.declared.Sort.{Sort}
 use Rattle.scalar.specs.declared.Rule.{Rule}
 use Rattle.scalar.specs.declared.Rule.the-variants.{Exactly, Plain, Offset, Signed, Minutes, WholeByte, WholePair, Float}
-use Rattle.scalar.specs.Scalars.{value, Form, form}
+use Rattle.scalar.specs.declared.Written.{Written}
+use Rattle.scalar.specs.Scalars.{value, Form, form, formsOf}
+use Rattle.scalar.specs.Answers.{report, reportOf, outputOf}
 use Rattle.numbers.specs.declared.NumberRead.{NumberRead}
 use Rattle.numbers.specs.declared.NumberRead.the-variants.{Value, Refused}
+use Rattle.numbers.specs.declared.stores.Codes.{Codes}
 use Rattle.numbers.specs.declared.Spelling.{Spelling}
 use Rattle.numbers.specs.declared.Spelling.the-variants as spelling
 
@@ -45,6 +50,28 @@ some (option.some w) = true
 abbrev pub wholeForms : ℕ → ℕ → ℕ → ℕ → ℕ → ℕ → List Form
 wholeForms one codes offset two three five =
     form one codes 0 (Offset offset) ∷ form two 16 1 (Offset 0x800) ∷ form three 8 2 (Offset 0x4_0000) ∷ form five 1 4 Signed ∷ []
+
+-- the only form of null, false or true
+abbrev pub singleForm : ℕ → List Form
+singleForm code = form code 1 0 (Exactly 0) ∷ []
+
+-- the form is stored in l from the index `at` on: what is said of that, and what l then is
+pub record Writes (o : Option (List ℕ)) (l : List ℕ) (at : ℕ) (r : Written) (l′ : List ℕ) : Type 0 where
+  pub says : report r ≡ reportOf o (length l) at
+  pub holds : l′ ≡ outputOf o l at
+
+-- a kind whose forms of one, two and three bytes have these codes: int or long
+pub record HasCodes (s : Sort) (c : Codes) : Type 0 where
+  pub others : List Form
+  pub forms : formsOf s ≡
+      form (c .one) (c .count) 0 (Offset (c .zero))
+      ∷ form (c .two) 16 1 (Offset 0x800)
+      ∷ form (c .three) 8 2 (Offset 0x4_0000)
+      ∷ others
+  pub one-fits : c .one + c .count ≤ 256
+  pub zero-fits : c .zero ≤ 256
+  pub two-fits : c .two ≤ 0xf0
+  pub three-fits : c .three ≤ 0xf8
 
 -- the numbers that a rule takes
 abbrev pub Takes : Rule → ℕ → Type 0

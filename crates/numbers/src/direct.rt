@@ -1,16 +1,18 @@
-// Ints, longs, doubles and dates read form by form, by plain loads: what read_number reads, in less time.
+// Single values read form by form, by plain loads: what read_number reads, in less time.
 use crate::NumberRead;
 use crate::doubles;
 use crate::signed;
 use scalar::Sort;
+use scalar::refusals::CUT;
 ghost use mathlib.Core.Path.{_≡_};
 ghost use Prim.Native.Nat.{_+_, _*_, _^_, _≤_, _<_};
 ghost use lib.ListN.{length, take, drop};
 ghost use Rattle.wire.specs.BigEndian.{joined};
 ghost use Rattle.scalar.specs.declared.Sort.the-variants as sort;
 ghost use Rattle.scalar.specs.declared.Rule.the-variants as rule;
+ghost use Rattle.scalar.specs.Scalars.{formsOf};
 ghost use Rattle.scalar.specs.Answers.{numberAt};
-ghost use Rattle.numbers.specs.Answers.{told, formRead};
+ghost use Rattle.numbers.specs.Answers.{told, formRead, singleForm};
 
 // ---- bytes, the highest first
 
@@ -51,7 +53,7 @@ fn two_bytes(message: &[u8], at: usize, held: u64, zero: u64) -> NumberRead
     let len = message.len();
     if len - at <= 1 {
         return NumberRead::Refused {
-            number: 2,
+            number: CUT,
             place: len,
         };
     }
@@ -70,7 +72,7 @@ fn three_bytes(message: &[u8], at: usize, held: u64, zero: u64) -> NumberRead
     let len = message.len();
     if len - at <= 2 {
         return NumberRead::Refused {
-            number: 2,
+            number: CUT,
             place: len,
         };
     }
@@ -89,7 +91,7 @@ fn five_bytes(message: &[u8], at: usize) -> NumberRead
     let len = message.len();
     if len - at <= 4 {
         return NumberRead::Refused {
-            number: 2,
+            number: CUT,
             place: len,
         };
     }
@@ -108,7 +110,7 @@ fn float(message: &[u8], at: usize) -> NumberRead
     let len = message.len();
     if len - at <= 4 {
         return NumberRead::Refused {
-            number: 2,
+            number: CUT,
             place: len,
         };
     }
@@ -127,7 +129,7 @@ fn nine_bytes(message: &[u8], at: usize) -> NumberRead
     let len = message.len();
     if len - at <= 8 {
         return NumberRead::Refused {
-            number: 2,
+            number: CUT,
             place: len,
         };
     }
@@ -138,6 +140,31 @@ fn nine_bytes(message: &[u8], at: usize) -> NumberRead
 }
 
 // ---- values, each by the forms that its function is for; others are read as any number
+
+// A value of a kind whose only form is this byte.
+fn single(sort: Sort, code: u8, message: &[u8], at: usize) -> NumberRead
+    requires { ⌜ formsOf sort ≡ singleForm code ⌝ }
+    ensures { λ r. ⌜ told r ≡ numberAt sort (now (message .entry)) at ⌝ }
+{
+    if at < message.len() {
+        if message[at] == code {
+            return NumberRead::Value { value: 0, size: 1 };
+        }
+    }
+    crate::read_number(sort, message, at)
+}
+
+// Null, false or true.
+pub fn read_single(sort: Sort, message: &[u8], at: usize) -> NumberRead
+    ensures { λ r. ⌜ told r ≡ numberAt sort (now (message .entry)) at ⌝ }
+{
+    match sort {
+        Sort::Null => single(sort, 0x4e, message, at),
+        Sort::False => single(sort, 0x46, message, at),
+        Sort::True => single(sort, 0x54, message, at),
+        _ => crate::read_number(sort, message, at),
+    }
+}
 
 // An int, by the forms of the upper half of the codes first.
 pub fn read_int(message: &[u8], at: usize) -> NumberRead

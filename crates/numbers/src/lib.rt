@@ -3,11 +3,14 @@ pub mod chart;
 pub mod direct;
 pub mod doubles;
 pub mod signed;
+mod stores;
 
 use scalar::Begun;
 use scalar::Rule;
 use scalar::Sort;
 use scalar::Written;
+use scalar::refusals::BYTE;
+use scalar::refusals::CUT;
 ghost use mathlib.Core.Path.{_≡_};
 ghost use mathlib.Core.List.{[], _∷_};
 ghost use mathlib.Core.Option.{none};
@@ -21,7 +24,7 @@ ghost use Rattle.scalar.specs.declared.Sort.the-variants as Sort;
 ghost use Rattle.scalar.specs.Scalars.{value as valueOf, form, formsOf, formAt, shortest};
 ghost use Rattle.scalar.specs.Guesses.{guess as guessOf};
 ghost use Rattle.scalar.specs.Answers.{numberAt, lengthOf, report, reportOf, outputOf};
-ghost use Rattle.numbers.specs.Answers.{Takes, Good, told, spelled, orElse, some as isSome, wholeForms};
+ghost use Rattle.numbers.specs.Answers.{Takes, Good, told, spelled, orElse, some as isSome, wholeForms, Writes};
 ghost use Rattle.scalar.specs.NumberLaws.{tried};
 
 // What reading a value at a place finds: the value and the bytes that it takes; or a refusal's number and place.
@@ -211,20 +214,20 @@ pub fn read_number(sort: Sort, message: &[u8], at: usize) -> NumberRead
     let len = message.len();
     if len <= at {
         return NumberRead::Refused {
-            number: 2,
+            number: CUT,
             place: len,
         };
     }
     let begun = form_at(sort, message[at]);
     match begun {
         Begun::NoForm => NumberRead::Refused {
-            number: 3,
+            number: BYTE,
             place: at,
         },
         Begun::Starts { more, held, rule } => {
             if len - at <= more {
                 return NumberRead::Refused {
-                    number: 2,
+                    number: CUT,
                     place: len,
                 };
             }
@@ -485,9 +488,9 @@ fn store(out: &mut [u8], at: usize, code: u8, more: usize, rest: u64) -> bool
     wire::store_number(out, at + 1, more, rest)
 }
 
-// The shortest form of the value in `out` from `at` on: stored whole or not at all.
-pub fn write_number(sort: Sort, value: u64, out: &mut [u8], at: usize) -> Written
-    ensures { λ r. ⌜ (report r ≡ reportOf (shortest (formsOf sort) value) (length (now (out .entry))) at) × (now (out .exit) ≡ outputOf (shortest (formsOf sort) value) (now (out .entry)) at) ⌝ }
+// The shortest form of the value in `out` from `at` on: each form is tried in turn.
+fn write_form(sort: Sort, value: u64, out: &mut [u8], at: usize) -> Written
+    ensures { λ r. ⌜ Writes (shortest (formsOf sort) value) (now (out .entry)) at r (now (out .exit)) ⌝ }
 {
     match spell(sort, value) {
         Spelling::Absent => Written::NotSuch,
@@ -497,5 +500,23 @@ pub fn write_number(sort: Sort, value: u64, out: &mut [u8], at: usize) -> Writte
             }
             Written::NoRoom { needed: more + 1 }
         }
+    }
+}
+
+// The shortest form of the value in `out` from `at` on: stored whole or not at all.
+pub fn write_number(sort: Sort, value: u64, out: &mut [u8], at: usize) -> Written
+    ensures { λ r. ⌜
+        (report r ≡ reportOf (shortest (formsOf sort) value) (length (now (out .entry))) at)
+        × (now (out .exit) ≡ outputOf (shortest (formsOf sort) value) (now (out .entry)) at)
+        ⌝ }
+{
+    match sort {
+        Sort::Null => stores::write_single(0x4e, value, out, at),
+        Sort::False => stores::write_single(0x46, value, out, at),
+        Sort::True => stores::write_single(0x54, value, out, at),
+        Sort::Int => stores::write_int(value, out, at),
+        Sort::Long => stores::write_long(value, out, at),
+        Sort::Double => stores::write_double(value, out, at),
+        Sort::Date => stores::write_date(value, out, at),
     }
 }

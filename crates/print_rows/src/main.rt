@@ -5,12 +5,14 @@ use libc::STDIN_FILENO;
 use libc::STDOUT_FILENO;
 use reader::ReadAnswer;
 use record::ROW_NUMBERS;
+use scalar::refusals::LENGTH;
+use scalar::refusals::ROOM;
 
 // The most bytes of a message.
 const MOST: usize = 60_000;
 
 // The numbers of 1,600 rows.
-const ROOM: usize = 1_600 * ROW_NUMBERS;
+const TABLE: usize = 1_600 * ROW_NUMBERS;
 
 fn say(text: &[u8]) {
     io::write_all(STDOUT_FILENO, text);
@@ -62,11 +64,11 @@ fn say_rows(table: &[u64], rows: usize) {
 }
 
 fn print_rows(message: &[u8]) {
-    let mut table = [0u64; ROOM];
+    let mut table = [0u64; TABLE];
     match reader::read(message, &mut table) {
         ReadAnswer::Accepted { rows, length: _ } => say_rows(&table, rows),
         ReadAnswer::Refused { number, place } => say_refused(number, place),
-        ReadAnswer::TooFew { needed: _ } => say_refused(9, 0),
+        ReadAnswer::TooFew { needed: _ } => say_refused(ROOM, 0),
     }
 }
 
@@ -74,7 +76,7 @@ fn main() {
     let mut input = [0u8; 60_001];
     let n = io::read_full(STDIN_FILENO, &mut input);
     if MOST < n {
-        say_refused(1, 0);
+        say_refused(LENGTH, 0);
     } else {
         print_rows(&input[..n]);
     }

@@ -5,17 +5,15 @@ use mathlib.Core.List.{List, [], _∷_, _++_, append-nil}
 use Prim.Native.Nat.{ℕ, suc, _+_, _^_, _≤_, _<_}
 use native.Mathlib.Omega.{arith}
 use native.Mathlib.Numerals.{add-one}
-use lib.Dec.{eqb}
 use lib.ListN.{length, take, getD, set, length-append, length-set}
 use lib.Seq.{getD-set-same, getD-set-other, take-set-le, take-suc-set, length-take-le}
-use borrow.Author.Tests.{eq-eqb, eqb-true, eqb-false}
-use Rattle.flow.specs.Flow.{pick, Done, byteAt}
-use Rattle.flow.specs.Tests.{by-cases}
+use borrow.Author.Tests.{eq-eqb}
+use Rattle.flow.specs.Flow.{Done, byteAt}
 use Rattle.scalar.specs.declared.Lead.the-variants as lead
 use Rattle.scalar.specs.declared.Kind.the-variants.{Utf8}
 use Rattle.texts.specs.declared.StringRead.{StringRead}
 use Rattle.texts.specs.declared.StringRead.the-variants.{Content, Refused}
-use Rattle.scalar.specs.Chart.{ranges, rangeOf, leadOf, kindOf}
+use Rattle.scalar.specs.ChartLaws.{definition-byte}
 use Rattle.scalar.specs.Answers.{sized, measuredAt}
 use Rattle.texts.specs.Answers.{toldString}
 use Rattle.record.specs.Records.{Known, Definition, defined, definition, valueFrom, Row, row}
@@ -30,15 +28,14 @@ use Rattle.reader.specs.declared.definitions.Names.{Names}
 use Rattle.reader.specs.declared.definitions.Names.the-variants as names
 use Rattle.reader.specs.declared.definitions.Out.{Out}
 use Rattle.reader.specs.declared.definitions.Out.the-variants as out
-use Rattle.record.specs.KnownArray.{knownIn, Kept, definedIn, defined-room, known-defined, kept-defined, references-stay, classes-counted}
+use Rattle.record.specs.KnownArray.{knownIn, Kept, definedIn, defined-room, known-defined, kept-defined, references-stay, classes-counted, classesSlot}
 use Rattle.reader.specs.Inside.{At, Ready, Led, Stored, Laid, Moved, Outcomes, CountSays, CountMet, FieldsMet, ClassSays, ClassMet, NamesSay, NamesMet, Defined, DefinitionMet}
 use Rattle.reader.proofs.Moves.{laid-none, laid-one, laid-on, laid-top, laid-numbers, laid-bytes, moved-none, moved-on}
 use Rattle.reader.proofs.Sizes.{string-within}
 use Rattle.reader.proofs.Leaves.{byte-small}
-use Rattle.reader.proofs.Holders.{among-codes}
 
 -- ---- one more class
-pub class-defined : (ks : List ℕ) (n : ℕ) (ks′ : List ℕ) → Kept ks → getD ks 256 0 < 256 → ks′ ≡ definedIn ks n → Defined ks n ks′
+pub class-defined : (ks : List ℕ) (n : ℕ) (ks′ : List ℕ) → Kept ks → getD ks classesSlot 0 < base .classes → ks′ ≡ definedIn ks n → Defined ks n ks′
 class-defined ks n ks′ w l e = subst (Defined ks n) (defined-room ks n l ∙ sym e) (record { known = known-defined ks w n l; kept = kept-defined ks w n l; references = references-stay ks w n l })
 
 -- ---- a class's field count
@@ -49,23 +46,23 @@ module _ {m : List ℕ} {p : ℕ} {x : Count} (t : CountMet m p x) where
   pub fields-lost : (u b y o : ℕ) → x ≡ count.Wrong y o → FieldsMet m p u b (class-read.Wrong y o)
   fields-lost u b y o e = record { says = ⊎-elim (λ l. inl l) (λ n. inr (inl n)) (count-says t e) }
 
-  pub fields-wide : (u b v n : ℕ) → x ≡ count.Is v n → 256 < v → FieldsMet m p u b (class-read.Wrong 7 p)
+  pub fields-wide : (u b v n : ℕ) → x ≡ count.Is v n → base .fields < v → FieldsMet m p u b (class-read.Wrong 7 p)
   fields-wide u b v n e l =
       let s = count-says t e in
       record { says = inr (inr (record { size = n; value = v; is = s .0; above = l; plain = s .1; number = refl; place = refl })) }
 
-  pub fields-few : (u b v n : ℕ) → x ≡ count.Is v n → v ≤ 256 → FieldsMet m p u b (class-read.Is u b v (p + n))
+  pub fields-few : (u b v n : ℕ) → x ≡ count.Is v n → v ≤ base .fields → FieldsMet m p u b (class-read.Is u b v (p + n))
   fields-few u b v n e l =
       let s = count-says t e in
       record { says = (refl, refl, l, (n, s .0, s .2, refl), s .3) }
 
 -- ---- a class's name, and its field count
 module _ {m ks : List ℕ} {p : ℕ} (w : Led m p lead.Definition) (k : Kept ks) where
-  pub class-full : 256 ≤ getD ks 256 0 → ClassMet m (knownIn ks) p (class-read.Wrong 7 p)
+  pub class-full : base .classes ≤ getD ks classesSlot 0 → ClassMet m (knownIn ks) p (class-read.Wrong 7 p)
   class-full l = record { says = definition-full base p (knownIn ks) m (p + 1) (omega (arith, classes-counted k)) }
 
-  module _ (f : getD ks 256 0 < 256) where
-    free : length (knownIn ks .classes) < 256
+  module _ (f : getD ks classesSlot 0 < base .classes) where
+    free : length (knownIn ks .classes) < base .classes
     free = omega (arith, classes-counted k)
 
     past : p + 1 ≤ length m
@@ -184,7 +181,7 @@ module _ {m ks : List ℕ} {p : ℕ} {x : ClassRead} (s : ClassMet m (knownIn ks
     pub names-fit : length m < 2 ^ 63 → At m q × (n + 2 + f < 2 ^ 64)
     names-fit l = let i = class-says s e in (record { bytes = w .at .bytes; within = i .within }, omega (arith, w .rows-few, i .few, i .onward, i .within))
 
-    pub class-fits : Kept ks × (getD ks 256 0 < 256) × (f ≤ 256)
+    pub class-fits : Kept ks × (getD ks classesSlot 0 < base .classes) × (f ≤ base .fields)
     class-fits = let i = class-says s e in (w .kept, omega (arith, i .free, classes-counted (w .kept)), i .few)
 
     module _ {t b : List ℕ} {y : Names} {t₁ b₁ : List ℕ} (d : NamesMet m q f (n + 2) t b y t₁ b₁) where
@@ -248,11 +245,7 @@ defining-start m at rows ks t b w = record {
 }
 
 definition-code : (m : List ℕ) (p : ℕ) → Led m p lead.Definition → getD m p 0 ≡ 0x43
-unfolding leadOf kindOf rangeOf ranges pick
-definition-code m p h = by-cases (eqb (getD m p 0) 0x43)
-    (λ y. eqb-true (getD m p 0) 0x43 y)
-    (λ y. let z = eqb-false (getD m p 0) 0x43 y in
-    absurd (omega (arith, byte-small m p (h .bytes), among-codes lead.Definition 0x43 0x43 256 tt (getD m p 0) (byte-small m p (h .bytes)) (h .lead) z z)))
+definition-code m p h = definition-byte (getD m p 0) (byte-small m p (h .bytes)) (h .lead)
 
 module _ {m : List ℕ} {at rows : ℕ} {ks₀ t₀ b₀ ks t b : List ℕ} {here row : ℕ} (R : Defining m at rows ks₀ t₀ b₀ ks t b here row) (l : Led m here lead.Definition)
     {x : Out} {ks′ t′ b′ : List ℕ} (s : DefinitionMet m here row ks t b x ks′ t′ b′) where

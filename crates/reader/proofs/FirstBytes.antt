@@ -9,15 +9,14 @@ use lib.ListN.{length, getD}
 use types.Run.{OneOf, miss}
 use borrow.Author.Tests.{ne-eqb}
 use denote.Enum.Declared.{tagOf}
-use Rattle.flow.specs.Flow.{pick}
 use Rattle.flow.specs.Tests.{pick-either}
 use Rattle.scalar.specs.declared.Sort.{Sort}
 use Rattle.scalar.specs.declared.Sort.the-variants.{Int, Long}
 use Rattle.scalar.specs.declared.Lead.{Lead}
 use Rattle.scalar.specs.declared.Lead.the-variants as lead
-use Rattle.scalar.specs.Chart.{ranges, rangeOf, leadOf, kindOf}
-use Rattle.scalar.specs.ChartLaws.{lead-in}
-use Rattle.scalar.specs.ScalarLaws.{isScalar}
+use Rattle.scalar.specs.Chart.{leadOf}
+use Rattle.scalar.specs.ChartLaws.{int-lead, long-lead, text-lead, definition-lead}
+use Rattle.scalar.specs.ScalarLaws.{isScalar, close-shut, reserved-shut}
 use Rattle.scalar.proofs.Lead.{the-type}
 use Rattle.record.specs.Records.{Known}
 use Rattle.record.specs.Forms.{Form, leaf}
@@ -46,12 +45,18 @@ high-here m p b a i e u = record { bytes = a .bytes; inside = i; is = e; upper =
 
 module _ (m : List ℕ) (p b : ℕ) (h : High m p b) where
   pub high-int : b < 0xd8 → Led m p (lead.Number Int)
-  unfolding leadOf kindOf rangeOf ranges pick
-  high-int l = record { bytes = h .bytes; inside = h .inside; lead = lead-in 0x80 0xd7 (lead.Number Int) tt (getD m p 0) (omega (arith, h .is, h .upper)) (omega (arith, h .is)) }
+  high-int l = record {
+    bytes = h .bytes;
+    inside = h .inside;
+    lead = int-lead (getD m p 0) (omega (arith, h .is, h .upper)) (omega (arith, h .is));
+  }
 
   pub high-long : 0xd8 ≤ b → Led m p (lead.Number Long)
-  unfolding leadOf kindOf rangeOf ranges pick
-  high-long l = record { bytes = h .bytes; inside = h .inside; lead = lead-in 0xd8 0xff (lead.Number Long) tt (getD m p 0) (omega (arith, h .is)) (omega (arith, byte-small m p (h .bytes))) }
+  high-long l = record {
+    bytes = h .bytes;
+    inside = h .inside;
+    lead = long-lead (getD m p 0) (omega (arith, h .is)) (byte-small m p (h .bytes));
+  }
 
 -- ---- by the numbers of variants: lists and maps; those but for the three with arms of their own; those that open nothing
 abbrev holders : List ℕ
@@ -121,16 +126,12 @@ Plain lead.Definition = ⊥
 Plain lead.Close = Unit {0}
 Plain lead.Reserved = Unit {0}
 
-opens-definition : leadOf 0x43 ≡ lead.Definition
-unfolding leadOf rangeOf ranges pick
-opens-definition = refl
-
 undefined-led : (m : List ℕ) (p : ℕ) (x : Lead) → Led m p x → Plain x → Undefined m p
-undefined-led m p x h i l = ne-eqb (getD m p 0) 0x43 (λ e. subst Plain (sym (h .lead) ∙ ap leadOf e ∙ opens-definition) i)
+undefined-led m p x h i l =
+    ne-eqb (getD m p 0) 0x43 (λ e. subst Plain (sym (h .lead) ∙ ap leadOf e ∙ definition-lead) i)
 
 pub lead-short : (b : ℕ) → b < 0x20 → lead.Text ≡ leadOf b
-unfolding leadOf kindOf rangeOf ranges pick
-lead-short b l = sym (lead-in 0 0x1f lead.Text tt b (omega arith) (omega arith))
+lead-short b l = sym (text-lead b l)
 
 module _ (d : ℕ) (m : List ℕ) (c : Known) (p : ℕ) where
   full : (l : Lead) → Led m p l → T (holds (formBy l (getD m p 0))) → d ≡ 0 → Heads d m c p (head.Wrong 7 p)
@@ -208,7 +209,6 @@ module _ (d : ℕ) (m : List ℕ) (c : Known) (p : ℕ) where
 
     -- a byte that opens nothing
     pub head-none : OneOf valueless (tagOf the-type l) → (r : Head) → r ≡ head.Wrong 3 p → HeadMet d m c p r
-    unfolding kindOf
     head-none t r e = rw e (go l (led l refl) t)
       where
         none : (l : Lead) (h : Led m p l) → Plain l → formBy l (getD m p 0) ≡ leaf → isScalar (getD m p 0) ≡ false → HeadMet d m c p (head.Wrong 3 p)
@@ -225,5 +225,5 @@ module _ (d : ℕ) (m : List ℕ) (c : Known) (p : ℕ) where
         go lead.Object h t = absurd (miss valueless 7 tt t)
         go lead.Reference h t = absurd (miss valueless 8 tt t)
         go lead.Definition h t = absurd (miss valueless 9 tt t)
-        go lead.Close h t = none lead.Close h tt refl (rw (h .lead) refl)
-        go lead.Reserved h t = none lead.Reserved h tt refl (rw (h .lead) refl)
+        go lead.Close h t = none lead.Close h tt refl (close-shut (getD m p 0) (h .lead))
+        go lead.Reserved h t = none lead.Reserved h tt refl (reserved-shut (getD m p 0) (h .lead))

@@ -26,7 +26,8 @@ use Rattle.reader.specs.declared.heads.Head.{Head}
 use Rattle.reader.specs.declared.heads.Head.the-variants as head
 use Rattle.reader.specs.declared.values.Begun.{Begun}
 use Rattle.reader.specs.declared.values.Begun.the-variants as begun
-use Rattle.record.specs.KnownArray.{one-reference, references-more, types-same, known-opened, kept-opened, one-type, references-same, known-typed, kept-typed, knownIn, Kept}
+use Rattle.record.specs.Answers.{base}
+use Rattle.record.specs.KnownArray.{one-reference, references-more, types-same, known-opened, kept-opened, one-type, references-same, known-typed, kept-typed, knownIn, Kept, typesSlot, referencesSlot}
 use Rattle.reader.specs.Inside.{groupOf, plan, Stored, Laid, typeOf, typeRows, typeTag, typeSecond, TypeRoom, Entered, Opens, Opened, Fitting, HeadFits, BegunBy}
 use Rattle.reader.proofs.Moves.{laid-none, laid-one}
 
@@ -174,11 +175,11 @@ module _ (ks : List ℕ) (w : Kept ks) where
     pub entered-numbered : (k : ℕ) → of ≡ Numbered k → Entered ks of (one-reference ks w) 1
     entered-numbered k e = rw e (record { known = known-opened ks w; rows = λ p. refl; kept = kept-opened ks w; references = references-more ks w })
 
-    module _ (u b : ℕ) (e : of ≡ Named u b) (r : TypeRoom of (getD ks 257 0)) where
-      type-room : getD (one-reference ks w) 257 0 < 256
-      type-room = let l : getD ks 257 0 < 256 = rw e at r in omega (arith, types-same ks w)
+    module _ (u b : ℕ) (e : of ≡ Named u b) (r : TypeRoom of (getD ks typesSlot 0)) where
+      type-room : getD (one-reference ks w) typesSlot 0 < base .types
+      type-room = let l : getD ks typesSlot 0 < base .types = rw e at r in omega (arith, types-same ks w)
 
-      pub type-fits : Fits w64 (getD (one-reference ks w) 257 0 + 1)
+      pub type-fits : Fits w64 (getD (one-reference ks w) typesSlot 0 + 1)
       type-fits = omega (arith, type-room)
 
       pub entered-named : Entered ks of (one-type (one-reference ks w) (kept-opened ks w)) 1
@@ -200,7 +201,7 @@ module _ (ks : List ℕ) (of : TypeItem) (p n q : ℕ) (w : Opens ks of p n q) w
   pub place-fits : Fits w64 (p + 1)
   place-fits = omega (arith, w .longer, w .fits)
 
-  pub enter-fits : Kept ks × (getD ks 258 0 + 1 < 2 ^ 64) × TypeRoom of (getD ks 257 0)
+  pub enter-fits : Kept ks × (getD ks referencesSlot 0 + 1 < 2 ^ 64) × TypeRoom of (getD ks typesSlot 0)
   enter-fits = (w .kept, omega (arith, w .references-few, w .longer, w .fits), w .room)
 
   pub type-rows-fit : n + 1 + length (typeRows (p + 1) of) < 2 ^ 64

@@ -1,26 +1,24 @@
 -- The heads of lists, maps and objects: what the contracts ask at each way out, one law for each.
 use mathlib.Core.Path.{_≡_, refl, sym, ap, subst, _∙_}
-use mathlib.Core.Bool.{Bool, not}
 use mathlib.Core.List.{List, []}
 use mathlib.Core.Logic.{inl, inr}
 use mathlib.Core.Option.{Option, none, some}
 use Prim.Native.Nat.{ℕ, _+_, _-_, _^_, _≤_, _<_}
 use native.Mathlib.Omega.{arith}
-use lib.Dec.{T, eqb, leb, ltb, eqb-refl, leb→le}
+use lib.Dec.{T, eqb, ltb}
 use lib.ListN.{length, getD}
 use lib.Seq.{length-take-le, getD-take}
 use borrow.Author.Tests.{eq-eqb, ne-eqb, eqb-true, eqb-false, ltb-true, ltb-false}
 use mir.Syntax.{w64}
 use mir.Val.{Fits}
 use Rattle.flow.specs.Flow.{pick, Done, Fault, One, byteAt}
-use Rattle.flow.specs.Tests.{pick-true, pick-false, pick-either, by-cases, implies, implied, neqb, every, every-at}
+use Rattle.flow.specs.Tests.{pick-true, pick-false, pick-either, by-cases}
 use Rattle.scalar.specs.declared.Sort.the-variants.{Int}
 use Rattle.numbers.specs.declared.NumberRead.{NumberRead}
 use Rattle.numbers.specs.declared.NumberRead.the-variants as number
 use Rattle.scalar.specs.declared.Lead.{Lead}
 use Rattle.scalar.specs.declared.Lead.the-variants as lead
-use Rattle.scalar.specs.Chart.{ranges, rangeOf, leadOf, kindOf}
-use Rattle.scalar.specs.ChartLaws.{opens}
+use Rattle.scalar.specs.ChartLaws.{list-byte, typed-list-byte, object-byte}
 use Rattle.scalar.specs.Answers.{numberAt}
 use Rattle.numbers.specs.Answers.{told}
 use Rattle.record.specs.declared.Group.the-variants.{Fields}
@@ -41,7 +39,7 @@ use Rattle.reader.specs.declared.heads.Count.{Count}
 use Rattle.reader.specs.declared.heads.Count.the-variants as count
 use Rattle.reader.specs.declared.heads.TypeRead.{TypeRead}
 use Rattle.reader.specs.declared.heads.TypeRead.the-variants as type-read
-use Rattle.record.specs.KnownArray.{Kept, knownIn}
+use Rattle.record.specs.KnownArray.{Kept, knownIn, classesSlot}
 use Rattle.reader.specs.Inside.{groupOf, plan, Led, CountSays, CountMet, CountFits, typeRows, typedBy, TypeIs, TypeSays, TypeMet, HolderMet, holderOf, ListAt, ListMet, instanceOf}
 use Rattle.reader.proofs.Leaves.{byte-small, number-bad, number-is, number-room, led-form, led-run, led-lost}
 
@@ -76,34 +74,24 @@ module _ (m : List ℕ) (b code least : ℕ) (of : TypeItem) (p : ℕ) where
   pub list-few : ListAt m b code least p → (b ≡ code → ⊥) → (b ≡ code + 1 → ⊥) → least ≤ b
   list-few h y z = h .among y z
 
--- ---- the codes that open x: two by themselves, the others from `least` on
-abbrev pub allAmong : Lead → ℕ → ℕ → ℕ → Bool
-allAmong x k j least = every 256 (λ b. implies (opens x b) (implies (not (eqb b k)) (implies (not (eqb b j)) (leb least b))))
-
-pub among-codes : (x : Lead) (k j least : ℕ) → T (allAmong x k j least) → (b : ℕ) → b < 256 → leadOf b ≡ x → (b ≡ k → ⊥) → (b ≡ j → ⊥) → least ≤ b
-among-codes x k j least t b l e y z =
-    leb→le least b
-    (implied (not (eqb b j)) (leb least b)
-    (implied (not (eqb b k)) (implies (not (eqb b j)) (leb least b))
-    (implied (opens x b) (implies (not (eqb b k)) (implies (not (eqb b j)) (leb least b)))
-    (every-at 256 (λ b. implies (opens x b) (implies (not (eqb b k)) (implies (not (eqb b j)) (leb least b)))) t b l) (rw e (eqb-refl (kindOf x)))) (neqb b k y)) (neqb b j z))
-
+-- ---- the bytes that open a list or an object
 module _ (m : List ℕ) (p : ℕ) where
-  list-codes : (x : Lead) (code least q : ℕ) → T (allAmong x code (code + 1) least) → code + 1 < 256 → Led m p x → q ≤ length m → ListAt m (getD m p 0) code least q
-  list-codes x code least q t l h w =
-      record { at = record { bytes = h .bytes; within = w }; code = l; among = among-codes x code (code + 1) least t (getD m p 0) (byte-small m p (h .bytes)) (h .lead) }
-
   pub list-at : Led m p lead.List → ListAt m (getD m p 0) 0x57 0x78 (p + 1)
-  unfolding leadOf kindOf rangeOf ranges pick
-  list-at h = list-codes lead.List 0x57 0x78 (p + 1) tt (omega arith) h (omega (arith, h .inside))
+  list-at h = record {
+    at = record { bytes = h .bytes; within = omega (arith, h .inside) };
+    code = omega arith;
+    among = list-byte (getD m p 0) (byte-small m p (h .bytes)) (h .lead);
+  }
 
   pub object-few : Led m p lead.Object → (getD m p 0 ≡ 0x4f → ⊥) → 0x60 ≤ getD m p 0
-  unfolding leadOf kindOf rangeOf ranges pick
-  object-few h y = among-codes lead.Object 0x4f 0x4f 0x60 tt (getD m p 0) (byte-small m p (h .bytes)) (h .lead) y y
+  object-few h y = object-byte (getD m p 0) (byte-small m p (h .bytes)) (h .lead) y
 
   pub typed-list-at : Led m p lead.TypedList → (given : ℕ) (r : TypeRead) → TypeMet m given (p + 1) r → (of : TypeItem) (q : ℕ) → r ≡ type-read.Is of q → ListAt m (getD m p 0) 0x55 0x70 q
-  unfolding leadOf kindOf rangeOf ranges pick
-  typed-list-at h given r t of q e = list-codes lead.TypedList 0x55 0x70 q tt (omega arith) h (subst (TypeSays m given (p + 1)) e (t .says) .within)
+  typed-list-at h given r t of q e = record {
+    at = record { bytes = h .bytes; within = subst (TypeSays m given (p + 1)) e (t .says) .within };
+    code = omega arith;
+    among = typed-list-byte (getD m p 0) (byte-small m p (h .bytes)) (h .lead);
+  }
 
 -- ---- a value that holds others, where one more may open
 -- what is read of it, where u reads the values in it
@@ -216,18 +204,18 @@ module _ (m : List ℕ) (c : Known) (p : ℕ) (r : TypeRead) (t : TypeMet m (c .
 
 -- ---- objects, where ks keeps what is known
 module _ (m ks : List ℕ) (p : ℕ) (h : Led m p lead.Object) (z : Kept ks) where
-  classes : length (knownIn ks .classes) ≡ getD ks 256 0
-  classes = length-take-le (getD ks 256 0) ks (omega (arith, z .sized, z .classes-few))
+  classes : length (knownIn ks .classes) ≡ getD ks classesSlot 0
+  classes = length-take-le (getD ks classesSlot 0) ks (omega (arith, z .sized, z .classes-few))
 
   by-class : (k q : ℕ) → p + 1 ≤ q → q ≤ length m
       → ((u : Option (Opening One)) (f : Opening One) → u ≡ some f → (n : ℕ) → n ≡ getD (knownIn ks .classes) k 0 → k < length (knownIn ks .classes)
       → Here m (knownIn ks) p u ≡ topped p (heading (Fields k n) none) (run (rest f (Fields k n) 0) (opened (knownIn ks)) m q))
       → ((u : Option (Opening One)) (f : Opening One) → u ≡ some f → length (knownIn ks .classes) ≤ k → Here m (knownIn ks) p u ≡ Lost 6 p)
       → (i : Head) → i ≡ instanceOf ks p k q → HolderMet m (knownIn ks) p i
-  by-class k q a b s t i e = rw e (pick-either (HolderMet m (knownIn ks) p) (ltb k (getD ks 256 0))
-      (λ y. let l = ltb-true k (getD ks 256 0) y in
-      untyped m (knownIn ks) p lead.Object h (plan 1 (getD ks k 0) k) q a b (λ u f w. s u f w (getD ks k 0) (sym (getD-take (getD ks 256 0) ks k 0 l)) (omega (arith, classes))))
-      (λ y. let l = ltb-false k (getD ks 256 0) y in lost m (knownIn ks) p lead.Object h 6 p (λ u f w. t u f w (omega (arith, classes)))))
+  by-class k q a b s t i e = rw e (pick-either (HolderMet m (knownIn ks) p) (ltb k (getD ks classesSlot 0))
+      (λ y. let l = ltb-true k (getD ks classesSlot 0) y in
+      untyped m (knownIn ks) p lead.Object h (plan 1 (getD ks k 0) k) q a b (λ u f w. s u f w (getD ks k 0) (sym (getD-take (getD ks classesSlot 0) ks k 0 l)) (omega (arith, classes))))
+      (λ y. let l = ltb-false k (getD ks classesSlot 0) y in lost m (knownIn ks) p lead.Object h 6 p (λ u f w. t u f w (omega (arith, classes)))))
 
   pub object-short : (getD m p 0 ≡ 0x4f → ⊥) → (k : ℕ) → k ≡ getD m p 0 - 0x60 → (i : Head) → i ≡ instanceOf ks p k (p + 1) → HolderMet m (knownIn ks) p i
   object-short y k s =

@@ -1,9 +1,8 @@
 -- Counts, and the heads of values with none inside: what the contracts ask at each way out, one law for each.
 use mathlib.Core.Path.{_≡_, refl, sym, ap, _∙_}
-use mathlib.Core.Bool.{Bool, true, false}
 use mathlib.Core.List.{List, [], _∷_}
 use mathlib.Core.Logic.{inl, inr}
-use Prim.Native.Nat.{ℕ, zero, suc, _+_, _-_, _^_, _≤_, _<_}
+use Prim.Native.Nat.{ℕ, zero, suc, _+_, _^_, _≤_, _<_}
 use native.Mathlib.Omega.{arith}
 use lib.ListN.{length, getD}
 use mir.Syntax.{w64}
@@ -19,15 +18,9 @@ use Rattle.texts.specs.declared.StringRead.{StringRead}
 use Rattle.texts.specs.declared.StringRead.the-variants as string
 use Rattle.scalar.specs.declared.Lead.{Lead}
 use Rattle.scalar.specs.declared.Lead.the-variants as lead
-use Rattle.scalar.specs.declared.Rule.the-variants.{Exactly}
-use Rattle.scalar.specs.declared.Begun.the-variants.{Starts, NoForm}
 use Rattle.scalar.specs.Answers.{numberAt}
-use Rattle.scalar.specs.Chart.{followOf}
 use Rattle.numbers.specs.Answers.{told}
-use Rattle.scalar.specs.ChartLaws.{number-lead}
-use Rattle.scalar.specs.Scalars.{Form, form, inside, value, formsOf, formAt, sortKind}
-use Rattle.scalar.specs.NumberLaws.{form-here, form-skip}
-use Rattle.scalar.specs.NumberAt.{number-there}
+use Rattle.scalar.specs.Scalars.{sortKind}
 use Rattle.scalar.specs.NumberTheorems.{within-message}
 use Rattle.scalar.specs.Answers.{sized, measuredAt}
 use Rattle.texts.specs.Answers.{toldString}
@@ -38,7 +31,6 @@ use Rattle.record.specs.Placed.{Got, Lost, run, run-byte}
 use Rattle.record.specs.Leads.{formBy, form-lead}
 use Rattle.record.specs.Values.{leaf-number, leaf-number-lost, leaf-text, leaf-bytes, leaf-string-lost, reference-got, reference-ungiven, reference-lost}
 use Rattle.record.specs.Definitions.{below, plain}
-use Rattle.reader.specs.declared.heads.Head.{Head}
 use Rattle.reader.specs.declared.heads.Head.the-variants as head
 use Rattle.reader.specs.declared.heads.Count.the-variants as count
 use Rattle.reader.proofs.Sizes.{string-within}
@@ -121,27 +113,6 @@ module _ (s : Sort) (m : List ℕ) (p : ℕ) (h : Led m p (lead.Number s)) (r : 
 
 pub led-sort : (s : Sort) (m : List ℕ) (p : ℕ) → Led m p (lead.Number s) → (x : Sort) → s ≡ x → Led m p (lead.Number x)
 led-sort s m p h x e = rw (← e) h
-
--- one with a single form, of the value 0
-single-number : (s : Sort) (c : ℕ) (m : List ℕ) (p : ℕ) → Led m p (lead.Number s) → formsOf s ≡ form c 1 0 (Exactly 0) ∷ [] → numberAt s m p ≡ Done 1 0 [] tt
-unfolding value formAt
-single-number s c m p h f = go (inside (form c 1 0 (Exactly 0)) (getD m p 0)) refl
-  where
-    go : (t : Bool) → inside (form c 1 0 (Exactly 0)) (getD m p 0) ≡ t → numberAt s m p ≡ Done 1 0 [] tt
-    go true y = number-there s m p (h .inside) 0 (getD m p 0 - c) (Exactly 0) (ap (λ (ws : List Form). formAt ws (getD m p 0)) f ∙ form-here (form c 1 0 (Exactly 0)) [] (getD m p 0) y) (omega (arith, h .inside))
-    go false y =
-        let b = number-lead s (getD m p 0) (byte-small m p (h .bytes)) (h .lead) in
-        let z : NoForm ≡ Starts (followOf (getD m p 0)) (b .held) (b .rule) = sym (ap (λ (ws : List Form). formAt ws (getD m p 0)) f ∙ form-skip (form c 1 0 (Exactly 0)) [] (getD m p 0) y) ∙ b .starts in
-        cc
-
-module _ (s : Sort) (m : List ℕ) (p : ℕ) (h : Led m p (lead.Number s)) (x : Sort) (e : s ≡ x) where
-  pub single-fits : Fits w64 (length m) → p + 1 < 2 ^ 64
-  single-fits f = omega (arith, h .inside)
-
-  pub single-head : (c : ℕ) → formsOf x ≡ form c 1 0 (Exactly 0) ∷ [] → (r : Head) → r ≡ head.Leaf (sortKind x) 0 0 (p + 1) → LeafMet m p r
-  single-head c f r q =
-      let l = led-sort s m p h x e in
-      rw q (record { heads = λ d k. led-got m p _ l d k (sortKind x) 0 0 1 (omega arith, omega (arith, h .inside)) (leaf-number base (below base d) k m p (l .inside) (led-form m p _ l) x (l .lead) 1 0 (single-number x c m p l f)) })
 
 module _ (m : List ℕ) (p : ℕ) (r : StringRead) where
   module _ (h : Led m p lead.Text) (t : toldString r ≡ measuredAt Utf8 m p) where

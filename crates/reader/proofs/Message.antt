@@ -20,12 +20,12 @@ use Rattle.reader.specs.declared.values.Values.the-variants as values
 use Rattle.reader.specs.declared.Judged.{Judged}
 use Rattle.reader.specs.declared.Judged.the-variants as judged
 use Rattle.reader.specs.declared.ReadAnswer.the-variants as answer
-use Rattle.record.specs.KnownArray.{knownIn}
+use Rattle.record.specs.KnownArray.{knownIn, knownSize}
 use Rattle.reader.specs.Inside.{Ready, ValuesSay, ValuesMet, OneMet, Record, JudgeSays, Judges, ReadsInto}
 
 -- ---- before the first byte nothing is known
 abbrev blank : List ℕ
-blank = replicate 259 0
+blank = replicate knownSize 0
 
 pub ready-first : (m : List ℕ) → ((i : ℕ) → Fits w8 (getD m i 0)) → Ready m blank 0 0
 ready-first m bytes = record {
@@ -61,38 +61,38 @@ module _ (f : Opening One) (c : Known) (m : List ℕ) (p : ℕ) where
       go (Lost y z) h = cc
 
 -- ---- read_value
-pub one-met : (m t b : List ℕ) (r : Values) (ks t′ b′ : List ℕ) → ValuesMet 32 m 0 0 blank t b (Counted 1) r ks t′ b′ → OneMet m t b r t′ b′
+pub one-met : (m t b : List ℕ) (r : Values) (ks t′ b′ : List ℕ) → ValuesMet (base .containers) m 0 0 blank t b (Counted 1) r ks t′ b′ → OneMet m t b r t′ b′
 one-met m t b r ks t′ b′ a = record { after = ks; met = a }
 
 -- ---- judge
 -- z: a refusal
-refuses : (m : List ℕ) (z : Judged) (x y : ℕ) → z ≡ judged.Refused x y → ((lent : ℕ) → read base 32 262_144 lent m ≡ Refuse x 0 y) → Judges m z
+refuses : (m : List ℕ) (z : Judged) (x y : ℕ) → z ≡ judged.Refused x y → ((lent : ℕ) → read base lent m ≡ Refuse x 0 y) → Judges m z
 refuses m z x y i h = subst (Judges m) (sym i) (record { says = h })
 
 module _ (m : List ℕ) (z : Judged) where
   pub judge-empty : z ≡ judged.Refused 1 0 → length m ≡ 0 → Judges m z
-  judge-empty i e = refuses m z 1 0 i (λ lent. read-empty base 32 262_144 lent m e)
+  judge-empty i e = refuses m z 1 0 i (λ lent. read-empty base lent m e)
 
   module _ (some : length m ≡ 0 → ⊥) where
-    pub judge-long : z ≡ judged.Refused 1 0 → 262_144 < length m → Judges m z
-    judge-long i l = refuses m z 1 0 i (λ lent. read-long base 32 262_144 lent m (omega arith) l)
+    pub judge-long : z ≡ judged.Refused 1 0 → base .longest < length m → Judges m z
+    judge-long i l = refuses m z 1 0 i (λ lent. read-long base lent m (omega arith) l)
 
-    module _ (short : length m ≤ 262_144) (r : Values) (t b t′ b′ : List ℕ) (a : OneMet m t b r t′ b′) where
+    module _ (short : length m ≤ base .longest) (r : Values) (t b t′ b′ : List ℕ) (a : OneMet m t b r t′ b′) where
       abbrev ks′ : List ℕ
       ks′ = a .after
 
-      said : (r′ : Values) → r ≡ r′ → ValuesSay (run (rest (valueFrom base 32) (Counted 1) 0) start m 0) m 0 0 t b (Counted 1) r′ ks′ t′ b′
-      said r′ e = subst (λ (z : Values). ValuesSay (run (rest (valueFrom base 32) (Counted 1) 0) start m 0) m 0 0 t b (Counted 1) z ks′ t′ b′) e (a .met .says)
+      said : (r′ : Values) → r ≡ r′ → ValuesSay (run (rest (valueFrom base (base .containers)) (Counted 1) 0) start m 0) m 0 0 t b (Counted 1) r′ ks′ t′ b′
+      said r′ e = subst (λ (z : Values). ValuesSay (run (rest (valueFrom base (base .containers)) (Counted 1) 0) start m 0) m 0 0 t b (Counted 1) z ks′ t′ b′) e (a .met .says)
 
       pub judge-fault : (x y : ℕ) → r ≡ values.Fault x y → z ≡ judged.Refused x y → Judges m z
-      judge-fault x y e i = refuses m z x y i (λ lent. read-lost base 32 262_144 lent m (omega arith) short x y (single-lost (valueFrom base 32) start m 0 x y (said (values.Fault x y) e)))
+      judge-fault x y e i = refuses m z x y i (λ lent. read-lost base lent m (omega arith) short x y (single-lost (valueFrom base (base .containers)) start m 0 x y (said (values.Fault x y) e)))
 
       module _ (q k i : ℕ) (e : r ≡ values.Done q k i) where
-        read-as : run (byteAt (valueFrom base 32)) start m 0 ≡ Got q tt (said (values.Done q k i) e .rows) (knownIn ks′)
-        read-as = let w = said (values.Done q k i) e in single-got (valueFrom base 32) start m 0 q i (w .rows) (knownIn ks′) (w .says)
+        read-as : run (byteAt (valueFrom base (base .containers))) start m 0 ≡ Got q tt (said (values.Done q k i) e .rows) (knownIn ks′)
+        read-as = let w = said (values.Done q k i) e in single-got (valueFrom base (base .containers)) start m 0 q i (w .rows) (knownIn ks′) (w .says)
 
         pub judge-over : q < length m → z ≡ judged.Refused 8 q → Judges m z
-        judge-over l j = refuses m z 8 q j (λ lent. read-over base 32 262_144 lent m (omega arith) short q (said (values.Done q k i) e .rows) (knownIn ks′) read-as l)
+        judge-over l j = refuses m z 8 q j (λ lent. read-over base lent m (omega arith) short q (said (values.Done q k i) e .rows) (knownIn ks′) read-as l)
 
         pub judge-record : length m ≤ q → z ≡ judged.Record k → Judges m z
         judge-record l j =
@@ -113,7 +113,7 @@ module _ (m : List ℕ) (z : Judged) where
 module _ (m : List ℕ) (lent : ℕ) (t b : List ℕ) (r : Judged) (a : Judges m r) where
   pub into-refused : (x o : ℕ) → r ≡ judged.Refused x o → ReadsInto m lent t b (answer.Refused x o) t b
   into-refused x o e =
-      let h : read base 32 262_144 lent m ≡ Refuse x 0 o = subst (λ (z : Judged). JudgeSays m z) e (a .says) lent in
+      let h : read base lent m ≡ Refuse x 0 o = subst (λ (z : Judged). JudgeSays m z) e (a .says) lent in
       record {
         says = sym (ap reportRead h);
         numbers = sym (ap (λ (z : ReadAnswer). filled asNumbers t z) h);
@@ -127,8 +127,8 @@ module _ (m : List ℕ) (lent : ℕ) (t b : List ℕ) (r : Judged) (a : Judges m
     pub into-few : lent < n → ReadsInto m lent t b (answer.TooFew n) t b
     into-few l =
         let w = record-of in
-        let h : read base 32 262_144 lent m ≡ Refuse 9 n 0 =
-        read-small base 32 262_144 lent m (w .some) (w .short) (length m) (w .rows) (w .after) (w .says) (omega arith) (omega (arith, w .counted))
+        let h : read base lent m ≡ Refuse 9 n 0 =
+        read-small base lent m (w .some) (w .short) (length m) (w .rows) (w .after) (w .says) (omega arith) (omega (arith, w .counted))
         ∙ ap (λ (z : ℕ). Refuse 9 z 0) (w .counted) in
         record {
           says = sym (ap reportRead h);
@@ -139,18 +139,18 @@ module _ (m : List ℕ) (lent : ℕ) (t b : List ℕ) (r : Judged) (a : Judges m
     pub into-record : n ≤ lent → (v : Values) (t′ b′ : List ℕ) → OneMet m t b v t′ b′ → ReadsInto m lent t b (answer.Accepted n (length m)) t′ b′
     into-record l v t′ b′ x = go v (x .met .says)
       where
-        h : read base 32 262_144 lent m ≡ Accept (numbered 0 (record-of .rows)) (length m)
-        h = let w = record-of in read-got base 32 262_144 lent m (w .some) (w .short) (length m) (w .rows) (w .after) (w .says) (omega arith) (omega (arith, w .counted))
+        h : read base lent m ≡ Accept (numbered 0 (record-of .rows)) (length m)
+        h = let w = record-of in read-got base lent m (w .some) (w .short) (length m) (w .rows) (w .after) (w .says) (omega arith) (omega (arith, w .counted))
 
-        go : (v : Values) → ValuesSay (run (rest (valueFrom base 32) (Counted 1) 0) start m 0) m 0 0 t b (Counted 1) v (x .after) t′ b′ → ReadsInto m lent t b (answer.Accepted n (length m)) t′ b′
+        go : (v : Values) → ValuesSay (run (rest (valueFrom base (base .containers)) (Counted 1) 0) start m 0) m 0 0 t b (Counted 1) v (x .after) t′ b′ → ReadsInto m lent t b (answer.Accepted n (length m)) t′ b′
         go (values.Fault y o) s =
-            let i = single-lost (valueFrom base 32) start m 0 y o s in
+            let i = single-lost (valueFrom base (base .containers)) start m 0 y o s in
             let j = record-of .says in
             let z : _≡_ {A = ℕ} 0 1 = cc in
             absurd (omega arith)
         go (values.Done q k i) s =
             let w = record-of in
-            let g = single-got (valueFrom base 32) start m 0 q i (s .rows) (knownIn (x .after)) (s .says) in
+            let g = single-got (valueFrom base (base .containers)) start m 0 q i (s .rows) (knownIn (x .after)) (s .says) in
             let y = w .says in
             let same : s .rows ≡ w .rows = cc in
             record {

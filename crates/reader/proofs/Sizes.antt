@@ -5,22 +5,29 @@ use Prim.Native.Nat.{ℕ, _+_, _≤_, _<_}
 use native.Mathlib.Omega.{arith}
 use lib.ListN.{length}
 use Rattle.flow.specs.Flow.{Bytes, Done, Fault}
-use Rattle.flow.specs.Steps.{Answer, renamed}
+use Rattle.flow.specs.Steps.{Answer}
 use Rattle.scalar.specs.declared.Kind.{Kind}
 use Rattle.texts.specs.declared.StringRead.{StringRead}
 use Rattle.texts.specs.declared.StringRead.the-variants.{Content}
 use Rattle.scalar.specs.Scalars.{stringAt}
-use Rattle.scalar.specs.Answers.{sized, sizes, measuredAt}
+use Rattle.scalar.specs.Answers.{sized, measuredAt}
+use Rattle.scalar.specs.AnswerLaws.{measured-fault, measured-done}
 use Rattle.texts.specs.Answers.{toldString}
 use Rattle.scalar.specs.TextTheorems.{text-within}
 
 pub measured-within : (k : Kind) (m : List ℕ) → Bytes m → (p n u b : ℕ) → measuredAt k m p ≡ Done n (sized u b) [] tt → (0 < n) × (p + n ≤ length m)
-unfolding measuredAt
-measured-within k m w p n u b e = go (stringAt k m p) refl e
+measured-within k m w p n u b e = go (stringAt k m p) refl
   where
-    go : (o : Answer (List ℕ)) → stringAt k m p ≡ o → renamed (sizes k) o ≡ Done n (sized u b) [] tt → (0 < n) × (p + n ≤ length m)
-    go (Done j cs es c) d f = let h : j ≡ n = cc in let i = text-within k m w p j cs es d in (omega arith, omega arith)
-    go (Fault x o) d f = let z : _≡_ {A = ℕ} 0 1 = cc in absurd (omega arith)
+    go : (o : Answer (List ℕ)) → stringAt k m p ≡ o → (0 < n) × (p + n ≤ length m)
+    go (Done j cs es c) d =
+        let f = measured-done k m p j cs es c d in
+        let h : j ≡ n = cc in
+        let i = text-within k m w p j cs es d in
+        (omega arith, omega arith)
+    go (Fault x o) d =
+        let f = measured-fault k m p x o d in
+        let z : _≡_ {A = ℕ} 0 1 = cc in
+        absurd (omega arith)
 
 -- the same of what the code read
 pub string-within : (k : Kind) (m : List ℕ) → Bytes m → (p : ℕ) {x : StringRead} → toldString x ≡ measuredAt k m p → (u b n : ℕ) → x ≡ Content u b n → (0 < n) × (p + n ≤ length m)

@@ -4,7 +4,6 @@ use mathlib.Core.Bool.{true}
 use mathlib.Core.List.{List, [], _∷_}
 use Prim.Native.Nat.{ℕ, _+_, _/_, _≤_, _<_}
 use native.Mathlib.Omega.{arith}
-use lib.Dec.{eqb}
 use lib.ListN.{length, getD}
 use borrow.Author.Tests.{ne-eqb}
 use Rattle.scalar.specs.declared.Sort.the-variants.{Int}
@@ -13,15 +12,14 @@ use Rattle.numbers.specs.declared.NumberRead.the-variants as number
 use Rattle.scalar.specs.declared.Kind.the-variants.{Utf8}
 use Rattle.texts.specs.declared.StringRead.{StringRead}
 use Rattle.texts.specs.declared.StringRead.the-variants as string
-use Rattle.scalar.specs.declared.Lead.{Lead}
 use Rattle.scalar.specs.declared.Lead.the-variants as lead
 use Rattle.scalar.specs.Scalars.{isText}
 use Rattle.scalar.specs.Chart.{leadOf, kindOf}
 use Rattle.scalar.specs.Answers.{numberAt}
 use Rattle.scalar.specs.Chart.{entry}
 use Rattle.numbers.specs.Answers.{told}
-use Rattle.scalar.specs.ChartLaws.{kind-is, entry-parts}
-use Rattle.scalar.specs.ByChart.{text-told}
+use Rattle.scalar.specs.ChartLaws.{kind-is, text-kind, entry-parts}
+use Rattle.scalar.specs.ByChart.{text-told, text-there}
 use Rattle.scalar.specs.Answers.{measuredAt}
 use Rattle.texts.specs.Answers.{toldString}
 use Rattle.record.specs.Records.{typed, row}
@@ -36,13 +34,12 @@ use Rattle.reader.proofs.Leaves.{byte-small, number-bad, number-is, num
 -- ---- a name, where so many types are given
 module _ (m : List ℕ) (given p : ℕ) (h : Led m p lead.Text) where
   is-text : isText (getD m p 0) ≡ true
-  unfolding kindOf
-  is-text = text-told (getD m p 0) ∙ ap (λ (x : Lead). eqb (kindOf x) 7) (h .lead)
+  is-text = text-there (getD m p 0) (h .lead)
 
-  pub named-full : 256 ≤ given → TypeMet m given p (type-read.Wrong 7 p)
+  pub named-full : base .types ≤ given → TypeMet m given p (type-read.Wrong 7 p)
   named-full l = record { says = λ c e. type-full base c m p (h .inside) is-text (omega arith) }
 
-  module _ (l : given < 256) (r : StringRead) (t : toldString r ≡ measuredAt Utf8 m p) where
+  module _ (l : given < base .types) (r : StringRead) (t : toldString r ≡ measuredAt Utf8 m p) where
     pub named-bad : (x o : ℕ) → r ≡ string.Refused x o → TypeMet m given p (type-read.Wrong x o)
     named-bad x o q = record { says = λ c e. type-name-lost base c m p (h .inside) is-text (omega arith) x o (string-bad Utf8 m p r t x o q) }
 
@@ -92,8 +89,11 @@ module _ (m : List ℕ) (p : ℕ) (a : At m p) (l : p < length m) (n : ℕ) (e :
   kind-there = ap (λ (n : ℕ). n / 10) e ∙ entry-parts (getD m p 0) (byte-small m p (a .bytes)) .0
 
   pub text-led : n / 10 ≡ 7 → Led m p lead.Text
-  unfolding kindOf
-  text-led q = record { bytes = a .bytes; inside = l; lead = kind-is (leadOf (getD m p 0)) lead.Text (sym kind-there ∙ q) }
+  text-led q = record {
+    bytes = a .bytes;
+    inside = l;
+    lead = kind-is (leadOf (getD m p 0)) lead.Text (sym kind-there ∙ q ∙ sym text-kind);
+  }
 
   pub no-name : (n / 10 ≡ 7 → ⊥) → NoName m p
   no-name q = record { bytes = a .bytes; inside = l; lead = text-told (getD m p 0) ∙ ne-eqb (kindOf (leadOf (getD m p 0))) 7 (λ z. q (kind-there ∙ z)) }

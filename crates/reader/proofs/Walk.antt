@@ -26,7 +26,7 @@ use Rattle.reader.specs.declared.values.Begun.{Begun}
 use Rattle.reader.specs.declared.values.Begun.the-variants as begun
 use Rattle.reader.specs.declared.values.Values.{Values}
 use Rattle.reader.specs.declared.values.Values.the-variants as values
-use Rattle.record.specs.KnownArray.{knownIn}
+use Rattle.record.specs.KnownArray.{knownIn, typesSlot}
 use Rattle.reader.specs.Inside.{groupOf, Led, Ready, Stored, Laid, Moved, typeOf, typeRows, Entered, meant, Heads, Undefined, HeadSays, HeadMet, Went, DefinitionMet, Fitting, HeadFits, Becomes, BegunBy, Inner, BeginSays, BeginMet, ValuesAre, ValuesSay, ValuesMet}
 use Rattle.reader.proofs.heads.Head.{the-type}
 use Rattle.reader.proofs.Classes.{Defining, defining-fault, defining-forward, defining-more}
@@ -62,7 +62,7 @@ module _ (d : ℕ) (m : List ℕ) (p n : ℕ) (ks t b ks₁ t₁ b₁ : List ℕ
       }
 
   holder-begun : (g : Plan) (q′ : ℕ) (of : TypeItem) → Heads d m (knownIn ks₁) q (head.Holder g q′ of) → Undefined m q → (ks₂ : List ℕ) (more : ℕ) → Entered ks₁ of ks₂ more
-      → (t₂ b₂ : List ℕ) → Laid t₁ b₁ (k + 1) (typeRows (q + 1) of) t₂ b₂ → BeginMet d m p n ks t b (begun.Within q k g of (getD ks₁ 257 0) q′ (k + 1 + more)) ks₂ t₂ b₂
+      → (t₂ b₂ : List ℕ) → Laid t₁ b₁ (k + 1) (typeRows (q + 1) of) t₂ b₂ → BeginMet d m p n ks t b (begun.Within q k g of (getD ks₁ typesSlot 0) q′ (k + 1 + more)) ks₂ t₂ b₂
   holder-begun g q′ of z u ks₂ more w t₂ b₂ l =
       let y = z .goes in
       let v = R .moved .ready in
@@ -71,7 +71,7 @@ module _ (d : ℕ) (m : List ℕ) (p n : ℕ) (ks t b ks₁ t₁ b₁ : List ℕ
           before = R .some;
           says =
               by-head (head.Holder g q′ of) z u
-              ∙ ap (λ (c : Known). front (R .some) (topped q (heading (groupOf g) (typeOf (getD ks₁ 257 0) of)) (front (typeRows (q + 1) of) (run (rest (valueFrom base (d - 1)) (groupOf g) 0) c m q′))))
+              ∙ ap (λ (c : Known). front (R .some) (topped q (heading (groupOf g) (typeOf (getD ks₁ typesSlot 0) of)) (front (typeRows (q + 1) of) (run (rest (valueFrom base (d - 1)) (groupOf g) 0) c m q′))))
               (sym (w .known));
           first = R .moved .counted;
           counted = ap (λ (v : ℕ). k + 1 + v) (w .rows (q + 1));

@@ -1,4 +1,5 @@
 -- What the reader's answer says, in 01's terms: number, count and place.
+use Rattle.flow.specs.RefusalNumbers.{no-room}
 use Rattle.flow.specs.Flow.{Report}
 use Rattle.reader.specs.declared.ReadAnswer.{ReadAnswer}
 use Rattle.reader.specs.declared.ReadAnswer.the-variants.{Accepted, Refused, TooFew}
@@ -7,4 +8,4 @@ use Rattle.reader.specs.declared.ReadAnswer.the-variants.{Accepted, Refu
 abbrev pub report : ReadAnswer → Report
 report (Accepted rows length) = record { number = 0; count = rows; place = length }
 report (Refused number place) = record { number = number; count = 0; place = place }
-report (TooFew needed) = record { number = 9; count = needed; place = 0 }
+report (TooFew needed) = record { number = no-room; count = needed; place = 0 }

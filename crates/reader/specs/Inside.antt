@@ -7,6 +7,7 @@ use mathlib.Core.Option.{Option, none, some}
 use Prim.Native.Nat.{ℕ, zero, suc, _+_, _-_, _^_, _≤_, _<_}
 use lib.Dec.{ltb, eqb}
 use lib.ListN.{length, take, getD, replicate}
+use Rattle.flow.specs.RefusalNumbers.{negative, ungiven, over-ceiling}
 use Rattle.flow.specs.Flow.{pick, Bytes, Done, Fault, One, byteAt, put, overlay}
 use Rattle.scalar.specs.declared.Lead.{Lead}
 use Rattle.scalar.specs.declared.Lead.the-variants as lead
@@ -16,6 +17,7 @@ use Rattle.scalar.specs.Chart.{leadOf}
 use Rattle.scalar.specs.Answers.{numberAt}
 use Rattle.record.specs.declared.Group.{Group}
 use Rattle.record.specs.declared.Group.the-variants.{Counted, Fields, Open, Pairs}
+use Rattle.record.specs.Kinds.{class-name-kind, type-name-kind, type-number-kind}
 use Rattle.record.specs.Records.{Definition, Known, start, opened, typed, defined, typeFrom, definition, valueFrom, Row, row, itemRow}
 use Rattle.record.specs.Answers.{Refuse, read, base, asNumbers, asBytes, reportRead}
 use Rattle.record.specs.Shorthands.{filled}
@@ -23,7 +25,7 @@ use Rattle.record.specs.Placed.{Placed, Got, Lost, run, front, on, topped, numb
 use Rattle.record.specs.Runs.{rest, parts}
 use Rattle.record.specs.Values.{heading}
 use Rattle.record.specs.Definitions.{namesLeft, plain}
-use Rattle.record.specs.KnownArray.{knownIn, Kept}
+use Rattle.record.specs.KnownArray.{knownIn, Kept, classesSlot, typesSlot, referencesSlot, knownSize}
 use Rattle.reader.specs.declared.heads.TypeItem.{TypeItem}
 use Rattle.reader.specs.declared.heads.TypeItem.the-variants.{Untyped, Named, Numbered}
 use Rattle.reader.specs.declared.heads.Plan.{Plan}
@@ -71,7 +73,7 @@ pub record Ready (m ks : List ℕ) (p n : ℕ) : Type 0 where
   pub at : At m p
   pub kept : Kept ks
   pub rows-few : n ≤ p
-  pub references-few : getD ks 258 0 ≤ p
+  pub references-few : getD ks referencesSlot 0 ≤ p
 
 -- a byte stands at p, and opens this
 pub record Led (m : List ℕ) (p : ℕ) (x : Lead) : Type 0 where
@@ -124,22 +126,22 @@ pub record Moved (m : List ℕ) (p n : ℕ) (t b : List ℕ) (q k : ℕ) (ks′ 
   pub ready : Ready m ks′ q k
 
 -- ---- counts
--- a negative one; more than 256
+-- a negative one; more than the fields of a class may be
 pub record Negative (m : List ℕ) (p x o : ℕ) : Type 0 where
   pub size : ℕ
   pub value : ℕ
   pub is : numberAt Int m p ≡ Done size value [] tt
   pub below : 2 ^ 63 ≤ value
-  pub number : x ≡ 5
+  pub number : x ≡ negative
   pub place : o ≡ p
 
 pub record Wide (m : List ℕ) (p x o : ℕ) : Type 0 where
   pub size : ℕ
   pub value : ℕ
   pub is : numberAt Int m p ≡ Done size value [] tt
-  pub above : 256 < value
+  pub above : base .fields < value
   pub plain : value < 2 ^ 63
-  pub number : x ≡ 7
+  pub number : x ≡ over-ceiling
   pub place : o ≡ p
 
 abbrev pub CountSays : List ℕ → ℕ → Count → Type 0
@@ -158,8 +160,8 @@ typeOf given (Numbered k) = some k
 
 abbrev pub typeRows : ℕ → TypeItem → List Row
 typeRows p Untyped = []
-typeRows p (Named u b) = row 18 p u b 1 ∷ []
-typeRows p (Numbered k) = row 19 p k 0 1 ∷ []
+typeRows p (Named u b) = row type-name-kind p u b 1 ∷ []
+typeRows p (Numbered k) = row type-number-kind p k 0 1 ∷ []
 
 abbrev pub typedBy : TypeItem → Known → Known
 typedBy Untyped c = c
@@ -169,7 +171,7 @@ typedBy (Numbered k) c = c
 -- one more type number may be given
 abbrev pub TypeRoom : TypeItem → ℕ → Type 0
 TypeRoom Untyped given = Unit {0}
-TypeRoom (Named u b) given = given < 256
+TypeRoom (Named u b) given = given < base .types
 TypeRoom (Numbered k) given = Unit {0}
 
 -- the kind of a typed row is one more; its second number
@@ -204,7 +206,7 @@ pub record Entered (ks : List ℕ) (of : TypeItem) (ks′ : List ℕ) (n : ℕ) 
   pub known : knownIn ks′ ≡ typedBy of (opened (knownIn ks))
   pub rows : (p : ℕ) → n ≡ length (typeRows p of)
   pub kept : Kept ks′
-  pub references : getD ks′ 258 0 ≡ getD ks 258 0 + 1
+  pub references : getD ks′ referencesSlot 0 ≡ getD ks referencesSlot 0 + 1
 
 -- ---- heads
 -- the value at p, with no definitions before it, by its head, where c is known; d: how many containers may open
@@ -269,7 +271,8 @@ pub record ListMet (m : List ℕ) (b open-code few : ℕ) (of : TypeItem) (p : �
 
 -- an object of the class k, whose code stands at p and whose fields begin at q
 abbrev pub instanceOf : List ℕ → ℕ → ℕ → ℕ → Head
-instanceOf ks p k q = pick (ltb k (getD ks 256 0)) (head.Holder (plan 1 (getD ks k 0) k) q Untyped) (head.Wrong 6 p)
+instanceOf ks p k q = pick (ltb k (getD ks classesSlot 0))
+    (head.Holder (plan 1 (getD ks k 0) k) q Untyped) (head.Wrong ungiven p)
 
 -- ---- what reading something from the place p and the row n on gives
 -- it is read, up to the place q and the row k
@@ -286,7 +289,9 @@ Outcomes o m p n t b (out.Fault x y) ks′ t′ b′ = o ≡ Lost x y
 -- ---- class definitions
 -- the field count at p, after a name of u units and b bytes
 abbrev pub FieldsSay : List ℕ → ℕ → ℕ → ℕ → ClassRead → Type 0
-FieldsSay m p u b (class-read.Is u′ b′ n q) = (u′ ≡ u) × (b′ ≡ b) × (n ≤ 256) × ((k : ℕ) × (numberAt Int m p ≡ Done k n [] tt) × (0 < k) × (q ≡ p + k)) × (q ≤ length m)
+FieldsSay m p u b (class-read.Is u′ b′ n q) =
+    (u′ ≡ u) × (b′ ≡ b) × (n ≤ base .fields)
+    × ((k : ℕ) × (numberAt Int m p ≡ Done k n [] tt) × (0 < k) × (q ≡ p + k)) × (q ≤ length m)
 FieldsSay m p u b (class-read.Wrong x o) = (numberAt Int m p ≡ Fault x o) ⊎ (Negative m p x o ⊎ Wide m p x o)
 
 pub record FieldsMet (m : List ℕ) (p u b : ℕ) (r : ClassRead) : Type 0 where
@@ -296,9 +301,9 @@ pub record FieldsMet (m : List ℕ) (p u b : ℕ) (r : ClassRead) : Type 0 where
 pub record ClassIs (m : List ℕ) (c : Known) (p u b n q : ℕ) : Type 0 where
   pub says :
       run (definition base p) c m (p + 1)
-      ≡ topped p Definition (front (row 16 (p + 1) u b 1 ∷ []) (on (run (namesLeft n 0) c m q) (λ e k c′. Got e n [] (defined n c′))))
-  pub few : n ≤ 256
-  pub free : length (c .classes) < 256
+      ≡ topped p Definition (front (row class-name-kind (p + 1) u b 1 ∷ []) (on (run (namesLeft n 0) c m q) (λ e k c′. Got e n [] (defined n c′))))
+  pub few : n ≤ base .fields
+  pub free : length (c .classes) < base .classes
   pub onward : p + 2 < q
   pub within : q ≤ length m
 
@@ -329,7 +334,7 @@ pub record NamesMet (m : List ℕ) (p n k : ℕ) (t b : List ℕ) (r : Names) (t
 pub record Defined (ks : List ℕ) (n : ℕ) (ks′ : List ℕ) : Type 0 where
   pub known : knownIn ks′ ≡ defined n (knownIn ks)
   pub kept : Kept ks′
-  pub references : getD ks′ 258 0 ≡ getD ks 258 0
+  pub references : getD ks′ referencesSlot 0 ≡ getD ks referencesSlot 0
 
 -- the definition whose 43 is at p
 pub record DefinitionMet (m : List ℕ) (p n : ℕ) (ks t b : List ℕ) (r : Out) (ks′ t′ b′ : List ℕ) : Type 0 where
@@ -339,15 +344,15 @@ pub record DefinitionMet (m : List ℕ) (p n : ℕ) (ks t b : List ℕ) (r : Out
 -- a list, map or object at p opens, with n rows before its own: its values begin at q
 pub record Opens (ks : List ℕ) (of : TypeItem) (p n q : ℕ) : Type 0 where
   pub kept : Kept ks
-  pub room : TypeRoom of (getD ks 257 0)
-  pub references-few : getD ks 258 0 ≤ p
+  pub room : TypeRoom of (getD ks typesSlot 0)
+  pub references-few : getD ks referencesSlot 0 ≤ p
   pub rows-few : n ≤ p
   pub longer : p + 1 + length (typeRows (p + 1) of) ≤ q
   pub fits : q < 2 ^ 64
 
 pub record Opened (ks t b : List ℕ) (p n : ℕ) (g : Plan) (q : ℕ) (of : TypeItem) (r : Begun) (ks′ t′ b′ : List ℕ) : Type 0 where
   pub more : ℕ
-  pub is : r ≡ begun.Within p n g of (getD ks 257 0) q (n + 1 + more)
+  pub is : r ≡ begun.Within p n g of (getD ks typesSlot 0) q (n + 1 + more)
   pub entered : Entered ks of ks′ more
   pub laid : Laid t b (n + 1) (typeRows (p + 1) of) t′ b′
 
@@ -411,25 +416,25 @@ pub record ValuesMet (d : ℕ) (m : List ℕ) (p n : ℕ) (ks t b : List ℕ) (g
 -- the one value of the message, with nothing known before it
 pub record OneMet (m t b : List ℕ) (r : Values) (t′ b′ : List ℕ) : Type 0 where
   pub after : List ℕ
-  pub met : ValuesMet 32 m 0 0 (replicate 259 0) t b (Counted 1) r after t′ b′
+  pub met : ValuesMet (base .containers) m 0 0 (replicate knownSize 0) t b (Counted 1) r after t′ b′
 
 pub record Record (m : List ℕ) (n : ℕ) : Type 0 where
   pub rows : List Row
   pub after : Known
-  pub says : run (byteAt (valueFrom base 32)) start m 0 ≡ Got (length m) tt rows after
+  pub says : run (byteAt (valueFrom base (base .containers))) start m 0 ≡ Got (length m) tt rows after
   pub counted : length rows ≡ n
   pub some : 0 < length m
-  pub short : length m ≤ 262_144
+  pub short : length m ≤ base .longest
 
 abbrev pub JudgeSays : List ℕ → Judged → Type 0
 JudgeSays m (judged.Record n) = Record m n
-JudgeSays m (judged.Refused x o) = (lent : ℕ) → read base 32 262_144 lent m ≡ Refuse x 0 o
+JudgeSays m (judged.Refused x o) = (lent : ℕ) → read base lent m ≡ Refuse x 0 o
 
 pub record Judges (m : List ℕ) (r : Judged) : Type 0 where
   pub says : JudgeSays m r
 
 -- the answer with `lent` rows, and both tables at the end
 pub record ReadsInto (m : List ℕ) (lent : ℕ) (t b : List ℕ) (r : ReadAnswer) (t′ b′ : List ℕ) : Type 0 where
-  pub says : report r ≡ reportRead (read base 32 262_144 lent m)
-  pub numbers : t′ ≡ filled asNumbers t (read base 32 262_144 lent m)
-  pub bytes : b′ ≡ filled asBytes b (read base 32 262_144 lent m)
+  pub says : report r ≡ reportRead (read base lent m)
+  pub numbers : t′ ≡ filled asNumbers t (read base lent m)
+  pub bytes : b′ ≡ filled asBytes b (read base lent m)

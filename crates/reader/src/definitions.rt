@@ -1,17 +1,26 @@
 // Class definitions. The laws of their meaning are in record's specs/Definitions.antt.
 use crate::heads::Count;
 use record::Row;
+use record::kinds::CLASS;
+use record::kinds::CLASS_NAME;
+use record::kinds::FIELD_NAME;
+use record::known::CLASSES_GIVEN;
+use record::known::KNOWN;
+use record::limits::CLASSES;
+use record::limits::FIELDS;
 use scalar::Kind;
+use scalar::refusals::CEILING;
 use texts::StringRead;
 ghost use mathlib.Core.Path.{_≡_};
 ghost use Prim.Native.Nat.{_+_, _^_, _≤_, _<_};
 ghost use lib.ListN.{getD};
 ghost use Rattle.scalar.specs.declared.Lead.the-variants as lead;
-ghost use Rattle.record.specs.KnownArray.{Kept, knownIn};
+ghost use Rattle.record.specs.Answers.{base};
+ghost use Rattle.record.specs.KnownArray.{Kept, knownIn, classesSlot};
 ghost use Rattle.reader.specs.Inside.{At, Ready, Led, FieldsMet, ClassMet, NamesMet, Defined, DefinitionMet};
 
 // A class's name, by its units and bytes, its number of fields, and where their names begin; or a refusal's number and place.
-pub enum ClassRead {
+pub(crate) enum ClassRead {
     Is {
         units: u64,
         bytes: u64,
@@ -25,13 +34,13 @@ pub enum ClassRead {
 }
 
 // The place past field names; or a refusal's number and place.
-pub enum Names {
+pub(crate) enum Names {
     Past { next: usize },
     Wrong { number: u8, place: usize },
 }
 
 // What reading something comes to: the place past it, and the rows so far; or a refusal's number and place.
-pub enum Out {
+pub(crate) enum Out {
     Done { next: usize, rows: usize },
     Fault { number: u8, place: usize },
 }
@@ -44,9 +53,9 @@ fn field_count(message: &[u8], at: usize, units: u64, bytes: u64) -> ClassRead
     match crate::heads::count_at(message, at) {
         Count::Wrong { number, place } => ClassRead::Wrong { number, place },
         Count::Is { value, size } => {
-            if 256 < value {
+            if FIELDS < value {
                 return ClassRead::Wrong {
-                    number: 7,
+                    number: CEILING,
                     place: at,
                 };
             }
@@ -61,13 +70,13 @@ fn field_count(message: &[u8], at: usize, units: u64, bytes: u64) -> ClassRead
 }
 
 // The class name and the field count of the definition at `at`.
-fn class_head(message: &[u8], known: &[u64; 259], at: usize) -> ClassRead
+fn class_head(message: &[u8], known: &[u64; KNOWN], at: usize) -> ClassRead
     requires { ⌜ Led (now message) at lead.Definition × Kept (now known) ⌝ }
     ensures { λ r. ⌜ ClassMet (now (message .entry)) (knownIn (now (known .entry))) at r ⌝ }
 {
-    if 256 <= known[256] {
+    if CLASSES <= known[CLASSES_GIVEN] {
         return ClassRead::Wrong {
-            number: 7,
+            number: CEILING,
             place: at,
         };
     }
@@ -107,7 +116,7 @@ fn field_names(
                 size,
             } => {
                 let name = Row {
-                    kind: 17,
+                    kind: FIELD_NAME,
                     place: here as u64,
                     first: units as u64,
                     second: held as u64,
@@ -123,8 +132,8 @@ fn field_names(
 }
 
 // The class of so many fields gets the next number.
-fn define(known: &mut [u64; 259], fields: usize)
-    requires { ⌜ Kept (now known) × (getD (now known) 256 0 < 256) × (fields ≤ 256) ⌝ }
+fn define(known: &mut [u64; KNOWN], fields: usize)
+    requires { ⌜ Kept (now known) × (getD (now known) classesSlot 0 < base .classes) × (fields ≤ base .fields) ⌝ }
     ensures { λ _. ⌜ Defined (now (known .entry)) fields (now (known .exit)) ⌝ }
 {
     record::known::define(known, fields as u64);
@@ -135,7 +144,7 @@ pub(crate) fn definition(
     message: &[u8],
     numbers: &mut [u64],
     bytes: &mut [u8],
-    known: &mut [u64; 259],
+    known: &mut [u64; KNOWN],
     at: usize,
     rows: usize,
 ) -> Out
@@ -154,14 +163,14 @@ pub(crate) fn definition(
             Names::Past { next: end } => {
                 let after = rows + 2 + fields;
                 let name = Row {
-                    kind: 16,
+                    kind: CLASS_NAME,
                     place: (at + 1) as u64,
                     first: units,
                     second: held,
                     after: (rows + 2) as u64,
                 };
                 let class = Row {
-                    kind: 15,
+                    kind: CLASS,
                     place: at as u64,
                     first: fields as u64,
                     second: 0,

@@ -2,12 +2,31 @@
 //
 // What is known is kept in an array: each class's number of fields; then how many classes, types and references are given.
 use numbers::NumberRead;
+use record::kinds::BYTES;
+use record::kinds::DATE;
+use record::kinds::DOUBLE;
+use record::kinds::FALSE;
+use record::kinds::INT;
+use record::kinds::LONG;
+use record::kinds::NULL;
+use record::kinds::REFERENCE;
+use record::kinds::TEXT;
+use record::kinds::TRUE;
+use record::known::CLASSES_GIVEN;
+use record::known::KNOWN;
+use record::known::REFERENCES_GIVEN;
+use record::known::TYPES_GIVEN;
+use record::limits::TYPES;
 use scalar::Kind;
 use scalar::Lead;
 use scalar::Sort;
+use scalar::refusals::BYTE;
+use scalar::refusals::CEILING;
+use scalar::refusals::CUT;
+use scalar::refusals::NEGATIVE;
+use scalar::refusals::UNGIVEN;
 use texts::StringRead;
 ghost use mathlib.Core.Path.{_≡_};
-ghost use Prim.Native.Nat.{_+_, _^_, _<_};
 ghost use lib.ListN.{length, getD};
 ghost use Rattle.scalar.specs.declared.Lead.the-variants as lead;
 ghost use Rattle.scalar.specs.Scalars.{sortKind};
@@ -15,35 +34,35 @@ ghost use Rattle.scalar.specs.Chart.{leadOf};
 ghost use Rattle.scalar.specs.Answers.{numberAt};
 ghost use Rattle.numbers.specs.Answers.{told};
 ghost use Rattle.reader.specs.declared.heads.Head.the-variants as head;
-ghost use Rattle.record.specs.KnownArray.{Kept, knownIn};
+ghost use Rattle.record.specs.KnownArray.{Kept, knownIn, typesSlot};
 ghost use Rattle.reader.specs.Inside.{At, Led, High, NoName, Holding, CountMet, CountFits, TypeMet, ListAt, ListMet, holderOf, instanceOf, LeafMet, PlainMet, HolderMet, Heads, HeadMet};
 
 // How the values of a list, map or object are counted: so many elements; so many fields of a class; elements up to 5a; keys and
 // values up to 5a.
 pub(crate) const COUNTED: u64 = 0;
 
-pub(crate) const FIELDS: u64 = 1;
+pub(crate) const FIELD_VALUES: u64 = 1;
 
 pub(crate) const OPEN: u64 = 2;
 
 pub(crate) const PAIRS: u64 = 3;
 
 // One of these, with a count and a class: record's `Group` in plain numbers, which are handed on in less time.
-pub struct Plan {
+pub(crate) struct Plan {
     pub shape: u64,
     pub count: u64,
     pub class: u64,
 }
 
 // The type of a list or map: none; a name, by its units and bytes; a number.
-pub enum TypeItem {
+pub(crate) enum TypeItem {
     Untyped,
     Named { units: u64, bytes: u64 },
     Numbered { number: u64 },
 }
 
 // A value's head.
-pub enum Head {
+pub(crate) enum Head {
     // A value with no values inside: its row, and the place past it.
     Leaf {
         kind: u64,
@@ -66,13 +85,13 @@ pub enum Head {
 }
 
 // A count, and the bytes that it takes; or a refusal's number and place.
-pub enum Count {
+pub(crate) enum Count {
     Is { value: u64, size: usize },
     Wrong { number: u8, place: usize },
 }
 
 // A type, and the place past it; or a refusal's number and place.
-pub enum TypeRead {
+pub(crate) enum TypeRead {
     Is { of: TypeItem, next: usize },
     Wrong { number: u8, place: usize },
 }
@@ -89,7 +108,7 @@ pub(crate) fn count_at(message: &[u8], at: usize) -> Count
                 Count::Is { value, size }
             } else {
                 Count::Wrong {
-                    number: 5,
+                    number: NEGATIVE,
                     place: at,
                 }
             }
@@ -98,13 +117,13 @@ pub(crate) fn count_at(message: &[u8], at: usize) -> Count
 }
 
 // The type name at `at`, which gets the next type number.
-fn named_type(message: &[u8], known: &[u64; 259], at: usize) -> TypeRead
+fn named_type(message: &[u8], known: &[u64; KNOWN], at: usize) -> TypeRead
     requires { ⌜ Led (now message) at lead.Text ⌝ }
-    ensures { λ r. ⌜ TypeMet (now (message .entry)) (getD (now (known .entry)) 257 0) at r ⌝ }
+    ensures { λ r. ⌜ TypeMet (now (message .entry)) (getD (now (known .entry)) typesSlot 0) at r ⌝ }
 {
-    if 256 <= known[257] {
+    if TYPES <= known[TYPES_GIVEN] {
         return TypeRead::Wrong {
-            number: 7,
+            number: CEILING,
             place: at,
         };
     }
@@ -121,21 +140,21 @@ fn named_type(message: &[u8], known: &[u64; 259], at: usize) -> TypeRead
 }
 
 // The type number at `at`, where no type name stands.
-fn numbered_type(message: &[u8], known: &[u64; 259], at: usize) -> TypeRead
+fn numbered_type(message: &[u8], known: &[u64; KNOWN], at: usize) -> TypeRead
     requires { ⌜ NoName (now message) at ⌝ }
-    ensures { λ r. ⌜ TypeMet (now (message .entry)) (getD (now (known .entry)) 257 0) at r ⌝ }
+    ensures { λ r. ⌜ TypeMet (now (message .entry)) (getD (now (known .entry)) typesSlot 0) at r ⌝ }
 {
     match numbers::read_number(Sort::Int, message, at) {
         NumberRead::Refused { number, place } => TypeRead::Wrong { number, place },
         NumberRead::Value { value, size } => {
-            if value < known[257] {
+            if value < known[TYPES_GIVEN] {
                 return TypeRead::Is {
                     of: TypeItem::Numbered { number: value },
                     next: at + size,
                 };
             }
             TypeRead::Wrong {
-                number: 6,
+                number: UNGIVEN,
                 place: at,
             }
         }
@@ -143,13 +162,13 @@ fn numbered_type(message: &[u8], known: &[u64; 259], at: usize) -> TypeRead
 }
 
 // The type at `at`.
-fn type_at(message: &[u8], known: &[u64; 259], at: usize) -> TypeRead
+fn type_at(message: &[u8], known: &[u64; KNOWN], at: usize) -> TypeRead
     requires { ⌜ At (now message) at ⌝ }
-    ensures { λ r. ⌜ TypeMet (now (message .entry)) (getD (now (known .entry)) 257 0) at r ⌝ }
+    ensures { λ r. ⌜ TypeMet (now (message .entry)) (getD (now (known .entry)) typesSlot 0) at r ⌝ }
 {
     if message.len() <= at {
         return TypeRead::Wrong {
-            number: 2,
+            number: CUT,
             place: at,
         };
     }
@@ -164,13 +183,13 @@ fn kind_of(sort: Sort) -> u64
     ensures { λ r. ⌜ r ≡ sortKind sort ⌝ }
 {
     match sort {
-        Sort::Null => 0,
-        Sort::False => 1,
-        Sort::True => 2,
-        Sort::Int => 3,
-        Sort::Long => 4,
-        Sort::Double => 5,
-        Sort::Date => 6,
+        Sort::Null => NULL,
+        Sort::False => FALSE,
+        Sort::True => TRUE,
+        Sort::Int => INT,
+        Sort::Long => LONG,
+        Sort::Double => DOUBLE,
+        Sort::Date => DATE,
     }
 }
 
@@ -190,28 +209,24 @@ fn number_leaf(sort: Sort, message: &[u8], at: usize, n: NumberRead) -> Head
     }
 }
 
-// A number with one form, of one byte, and the value 0: the kind of its row is given.
-fn single_leaf(kind: u64, at: usize) -> Head
-    requires { ⌜ at + 1 < 2 ^ 64 ⌝ }
-    ensures { λ r. ⌜ r ≡ head.Leaf kind 0 0 (at + 1) ⌝ }
-{
-    Head::Leaf {
-        kind,
-        first: 0,
-        second: 0,
-        next: at + 1,
-    }
-}
-
 // The head of a number of this kind.
 fn number_head(sort: Sort, message: &[u8], at: usize) -> Head
     requires { ⌜ Led (now message) at (lead.Number sort) ⌝ }
     ensures { λ r. ⌜ LeafMet (now (message .entry)) at r ⌝ }
 {
     match sort {
-        Sort::Null => single_leaf(0, at),
-        Sort::False => single_leaf(1, at),
-        Sort::True => single_leaf(2, at),
+        Sort::Null => {
+            let n = numbers::direct::read_single(Sort::Null, message, at);
+            number_leaf(Sort::Null, message, at, n)
+        }
+        Sort::False => {
+            let n = numbers::direct::read_single(Sort::False, message, at);
+            number_leaf(Sort::False, message, at, n)
+        }
+        Sort::True => {
+            let n = numbers::direct::read_single(Sort::True, message, at);
+            number_leaf(Sort::True, message, at, n)
+        }
         Sort::Int => {
             let n = numbers::direct::read_wide_int(message, at);
             number_leaf(Sort::Int, message, at, n)
@@ -252,7 +267,7 @@ fn text_head(message: &[u8], at: usize) -> Head
     match texts::read_text(message, at) {
         StringRead::Refused { number, place } => Head::Wrong { number, place },
         StringRead::Content { units, bytes, size } => Head::Leaf {
-            kind: 7,
+            kind: TEXT,
             first: units as u64,
             second: bytes as u64,
             next: at + size,
@@ -272,7 +287,7 @@ fn bytes_head(message: &[u8], at: usize) -> Head
             bytes,
             size,
         } => Head::Leaf {
-            kind: 8,
+            kind: BYTES,
             first: bytes as u64,
             second: 0,
             next: at + size,
@@ -281,23 +296,23 @@ fn bytes_head(message: &[u8], at: usize) -> Head
 }
 
 // The head of a reference.
-fn reference_head(message: &[u8], known: &[u64; 259], at: usize) -> Head
+fn reference_head(message: &[u8], known: &[u64; KNOWN], at: usize) -> Head
     requires { ⌜ Led (now message) at lead.Reference ⌝ }
     ensures { λ r. ⌜ PlainMet (now (message .entry)) (knownIn (now (known .entry))) at r ⌝ }
 {
     match numbers::read_number(Sort::Int, message, at + 1) {
         NumberRead::Refused { number, place } => Head::Wrong { number, place },
         NumberRead::Value { value, size } => {
-            if value < known[258] {
+            if value < known[REFERENCES_GIVEN] {
                 return Head::Leaf {
-                    kind: 14,
+                    kind: REFERENCE,
                     first: value,
                     second: 0,
                     next: at + 1 + size,
                 };
             }
             Head::Wrong {
-                number: 6,
+                number: UNGIVEN,
                 place: at,
             }
         }
@@ -356,7 +371,7 @@ fn list_of(message: &[u8], b: u8, open_code: u8, few: u8, of: TypeItem, at: usiz
 }
 
 // The head of an untyped list.
-fn list_head(message: &[u8], known: &[u64; 259], at: usize) -> Head
+fn list_head(message: &[u8], known: &[u64; KNOWN], at: usize) -> Head
     requires { ⌜ Led (now message) at lead.List ⌝ }
     ensures { λ r. ⌜ HolderMet (now (message .entry)) (knownIn (now (known .entry))) at r ⌝ }
 {
@@ -364,7 +379,7 @@ fn list_head(message: &[u8], known: &[u64; 259], at: usize) -> Head
 }
 
 // The head of a typed list.
-fn typed_list_head(message: &[u8], known: &[u64; 259], at: usize) -> Head
+fn typed_list_head(message: &[u8], known: &[u64; KNOWN], at: usize) -> Head
     requires { ⌜ Led (now message) at lead.TypedList ⌝ }
     ensures { λ r. ⌜ HolderMet (now (message .entry)) (knownIn (now (known .entry))) at r ⌝ }
 {
@@ -375,7 +390,7 @@ fn typed_list_head(message: &[u8], known: &[u64; 259], at: usize) -> Head
 }
 
 // The head of a typed map.
-fn typed_map_head(message: &[u8], known: &[u64; 259], at: usize) -> Head
+fn typed_map_head(message: &[u8], known: &[u64; KNOWN], at: usize) -> Head
     requires { ⌜ Led (now message) at lead.TypedMap ⌝ }
     ensures { λ r. ⌜ HolderMet (now (message .entry)) (knownIn (now (known .entry))) at r ⌝ }
 {
@@ -394,15 +409,15 @@ fn typed_map_head(message: &[u8], known: &[u64; 259], at: usize) -> Head
 }
 
 // An object of this class, whose code stands at `at` and whose fields begin at `next`.
-fn instance(known: &[u64; 259], at: usize, class: u64, next: usize) -> Head
+fn instance(known: &[u64; KNOWN], at: usize, class: u64, next: usize) -> Head
     requires { ⌜ Kept (now known) ⌝ }
     ensures { λ r. ⌜ r ≡ instanceOf (now (known .entry)) at class next ⌝ }
 {
-    if class < known[256] {
+    if class < known[CLASSES_GIVEN] {
         let k = class as usize;
         return Head::Holder {
             plan: Plan {
-                shape: FIELDS,
+                shape: FIELD_VALUES,
                 count: known[k],
                 class,
             },
@@ -411,13 +426,13 @@ fn instance(known: &[u64; 259], at: usize, class: u64, next: usize) -> Head
         };
     }
     Head::Wrong {
-        number: 6,
+        number: UNGIVEN,
         place: at,
     }
 }
 
 // The head of an object.
-fn object_head(message: &[u8], known: &[u64; 259], at: usize) -> Head
+fn object_head(message: &[u8], known: &[u64; KNOWN], at: usize) -> Head
     requires { ⌜ Led (now message) at lead.Object × Kept (now known) ⌝ }
     ensures { λ r. ⌜ HolderMet (now (message .entry)) (knownIn (now (known .entry))) at r ⌝ }
 {
@@ -432,13 +447,13 @@ fn object_head(message: &[u8], known: &[u64; 259], at: usize) -> Head
 }
 
 // The head of a list or map, where as many as allowed may still open.
-fn opening(message: &[u8], known: &[u64; 259], at: usize, allowed: usize, l: Lead) -> Head
+fn opening(message: &[u8], known: &[u64; KNOWN], at: usize, allowed: usize, l: Lead) -> Head
     requires { ⌜ Led (now message) at l × Holding l × Kept (now known) ⌝ }
     ensures { λ r. ⌜ Heads allowed (now (message .entry)) (knownIn (now (known .entry))) at r ⌝ }
 {
     if allowed == 0 {
         return Head::Wrong {
-            number: 7,
+            number: CEILING,
             place: at,
         };
     }
@@ -476,12 +491,12 @@ fn wrong(number: u8, place: usize) -> Head
 }
 
 // What stands at `at`: a class definition, or the head of a value, where as many lists, maps and objects as allowed may still open.
-pub(crate) fn head_at(message: &[u8], known: &[u64; 259], at: usize, allowed: usize) -> Head
+pub(crate) fn head_at(message: &[u8], known: &[u64; KNOWN], at: usize, allowed: usize) -> Head
     requires { ⌜ At (now message) at × Kept (now known) ⌝ }
     ensures { λ r. ⌜ HeadMet allowed (now (message .entry)) (knownIn (now (known .entry))) at r ⌝ }
 {
     if message.len() <= at {
-        return wrong(2, at);
+        return wrong(CUT, at);
     }
     let b = message[at];
     if 0x80 <= b {
@@ -494,10 +509,10 @@ pub(crate) fn head_at(message: &[u8], known: &[u64; 259], at: usize, allowed: us
         Lead::Bytes => bytes_head(message, at),
         Lead::Reference => reference_head(message, known, at),
         Lead::Definition => Head::Definition,
-        Lead::Close | Lead::Reserved => wrong(3, at),
+        Lead::Close | Lead::Reserved => wrong(BYTE, at),
         Lead::Object => {
             if allowed == 0 {
-                return wrong(7, at);
+                return wrong(CEILING, at);
             }
             object_head(message, known, at)
         }

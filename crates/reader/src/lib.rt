@@ -1,26 +1,25 @@
 // Reads a message into a table of rows. What a message reads as is in record's specs/Records.antt, what the reader answers in its
 // specs/Answers.antt.
-pub mod definitions;
-pub mod heads;
-pub mod rows;
-pub mod values;
+pub(crate) mod definitions;
+pub(crate) mod heads;
+pub(crate) mod rows;
+pub(crate) mod values;
 
 use crate::heads::COUNTED;
 use crate::heads::Plan;
 use crate::values::Values;
 use record::ROW_BYTES;
 use record::ROW_NUMBERS;
+use record::known::KNOWN;
+use record::limits::CONTAINERS;
+use record::limits::LONGEST;
+use scalar::refusals::AFTER;
+use scalar::refusals::LENGTH;
 ghost use mathlib.Core.Path.{_≡_};
 ghost use Rattle.record.specs.Answers.{base, asNumbers, asBytes, readReport, readTable};
 ghost use Rattle.reader.specs.Answers.{report};
 ghost use Rattle.reader.specs.declared.Judged.the-variants as judged;
 ghost use Rattle.reader.specs.Inside.{OneMet, Judges, ReadsInto};
-
-// The longest message.
-const LONGEST: usize = 262_144;
-
-// How many lists, maps and objects may be open at once.
-const ALLOWANCE: usize = 32;
 
 // What reading a message comes to: the rows and the bytes read; a refusal's number and place; the rows needed, where fewer are lent.
 pub enum ReadAnswer {
@@ -30,7 +29,7 @@ pub enum ReadAnswer {
 }
 
 // Whether a message is accepted, with how many rows; or a refusal's number and place.
-pub enum Judged {
+pub(crate) enum Judged {
     Record { rows: usize },
     Refused { number: u8, place: usize },
 }
@@ -39,13 +38,13 @@ pub enum Judged {
 fn read_value(message: &[u8], numbers: &mut [u64], bytes: &mut [u8]) -> Values
     ensures { λ r. ⌜ OneMet (now (message .entry)) (now (numbers .entry)) (now (bytes .entry)) r (now (numbers .exit)) (now (bytes .exit)) ⌝ }
 {
-    let mut known = [0u64; 259];
+    let mut known = [0u64; KNOWN];
     let one = Plan {
         shape: COUNTED,
         count: 1,
         class: 0,
     };
-    values::read_values(message, numbers, bytes, &mut known, 0, 0, one, ALLOWANCE)
+    values::read_values(message, numbers, bytes, &mut known, 0, 0, one, CONTAINERS)
 }
 
 // A refusal.
@@ -61,10 +60,10 @@ fn judge(message: &[u8]) -> Judged
 {
     let len = message.len();
     if len == 0 {
-        return refused(1, 0);
+        return refused(LENGTH, 0);
     }
     if LONGEST < len {
-        return refused(1, 0);
+        return refused(LENGTH, 0);
     }
     let mut numbers = [0u64; 1];
     let mut bytes = [0u8; 1];
@@ -76,7 +75,7 @@ fn judge(message: &[u8]) -> Judged
             count: _,
         } => {
             if next < len {
-                return refused(8, next);
+                return refused(AFTER, next);
             }
             Judged::Record { rows }
         }
@@ -104,7 +103,10 @@ fn read_into(message: &[u8], numbers: &mut [u64], bytes: &mut [u8], lent: usize)
 
 // Reads the message into a table of five numbers a row.
 pub fn read(message: &[u8], table: &mut [u64]) -> ReadAnswer
-    ensures { λ r. ⌜ (report r ≡ readReport base 32 262144 asNumbers (now (message .entry)) (now (table .entry))) × (now (table .exit) ≡ readTable base 32 262144 asNumbers (now (message .entry)) (now (table .entry))) ⌝ }
+    ensures { λ r. ⌜
+        (report r ≡ readReport base asNumbers (now (message .entry)) (now (table .entry)))
+        × (now (table .exit) ≡ readTable base asNumbers (now (message .entry)) (now (table .entry)))
+        ⌝ }
 {
     let lent = table.len() / ROW_NUMBERS;
     let mut bytes = [0u8; 1];
@@ -113,7 +115,10 @@ pub fn read(message: &[u8], table: &mut [u64]) -> ReadAnswer
 
 // Reads the message into a table of 40 bytes a row, each number as eight bytes, the highest first.
 pub fn read_bytes(message: &[u8], table: &mut [u8]) -> ReadAnswer
-    ensures { λ r. ⌜ (report r ≡ readReport base 32 262144 asBytes (now (message .entry)) (now (table .entry))) × (now (table .exit) ≡ readTable base 32 262144 asBytes (now (message .entry)) (now (table .entry))) ⌝ }
+    ensures { λ r. ⌜
+        (report r ≡ readReport base asBytes (now (message .entry)) (now (table .entry)))
+        × (now (table .exit) ≡ readTable base asBytes (now (message .entry)) (now (table .entry)))
+        ⌝ }
 {
     let lent = table.len() / ROW_BYTES;
     let mut numbers = [0u64; 1];

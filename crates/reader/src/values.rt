@@ -1,12 +1,21 @@
 // Values: class definitions, a head, and the values inside. The laws of their meaning are in record's specs/Runs.antt and Values.antt.
 use crate::definitions::Out;
-use crate::heads::FIELDS;
+use crate::heads::FIELD_VALUES;
 use crate::heads::Head;
 use crate::heads::OPEN;
 use crate::heads::PAIRS;
 use crate::heads::Plan;
 use crate::heads::TypeItem;
 use record::Row;
+use record::kinds::LIST;
+use record::kinds::MAP;
+use record::kinds::OBJECT;
+use record::kinds::TYPE_NAME;
+use record::kinds::TYPE_NUMBER;
+use record::known::KNOWN;
+use record::known::REFERENCES_GIVEN;
+use record::known::TYPES_GIVEN;
+use scalar::refusals::BYTE;
 ghost use mathlib.Core.Path.{_≡_};
 ghost use Prim.Native.Nat.{_+_, _^_, _<_};
 ghost use lib.ListN.{length, getD};
@@ -14,12 +23,12 @@ ghost use Rattle.record.specs.Records.{itemRow};
 ghost use Rattle.record.specs.Runs.{closes, stops, past, parts};
 ghost use Rattle.record.specs.RowLaws.{rowOf};
 ghost use Rattle.record.specs.Values.{heading};
-ghost use Rattle.record.specs.KnownArray.{Kept};
+ghost use Rattle.record.specs.KnownArray.{Kept, typesSlot, referencesSlot};
 ghost use Rattle.reader.specs.Inside.{groupOf, Ready, Laid, Opens, Opened, HeadFits, BegunBy, typeOf, typeRows, typeTag, typeSecond, TypeRoom, Entered, BeginMet, ValuesMet};
 
 // How a value begins: it is read; a list, map or object stands at `at`, where so many types were given, its row is `row`, and its values
 // begin at `next`, with rows from `rows` on; or a refusal.
-pub enum Begun {
+pub(crate) enum Begun {
     Past {
         next: usize,
         rows: usize,
@@ -40,7 +49,7 @@ pub enum Begun {
 }
 
 // What reading values comes to: the place past them, the rows so far, and how many they are; or a refusal's number and place.
-pub enum Values {
+pub(crate) enum Values {
     Done {
         next: usize,
         rows: usize,
@@ -101,7 +110,7 @@ fn store_type(numbers: &mut [u64], bytes: &mut [u8], index: usize, place: usize,
             bytes: size_of,
         } => {
             let name = Row {
-                kind: 18,
+                kind: TYPE_NAME,
                 place: place as u64,
                 first: units,
                 second: size_of,
@@ -111,7 +120,7 @@ fn store_type(numbers: &mut [u64], bytes: &mut [u8], index: usize, place: usize,
         }
         TypeItem::Numbered { number } => {
             let by_number = Row {
-                kind: 19,
+                kind: TYPE_NUMBER,
                 place: place as u64,
                 first: number,
                 second: 0,
@@ -151,9 +160,9 @@ fn holder_row(place: usize, plan: Plan, of: TypeItem, given: u64, i: u64, after:
         rowOf r ≡ itemRow place after (heading (groupOf plan) (typeOf given of) (parts (groupOf plan) i))
         ⌝ }
 {
-    if plan.shape == FIELDS {
+    if plan.shape == FIELD_VALUES {
         return Row {
-            kind: 13,
+            kind: OBJECT,
             place: place as u64,
             first: plan.class,
             second: i,
@@ -162,7 +171,7 @@ fn holder_row(place: usize, plan: Plan, of: TypeItem, given: u64, i: u64, after:
     }
     if plan.shape < PAIRS {
         return Row {
-            kind: 9 + type_tag(of),
+            kind: LIST + type_tag(of),
             place: place as u64,
             first: i,
             second: type_second(of, given),
@@ -170,7 +179,7 @@ fn holder_row(place: usize, plan: Plan, of: TypeItem, given: u64, i: u64, after:
         };
     }
     Row {
-        kind: 11 + type_tag(of),
+        kind: MAP + type_tag(of),
         place: place as u64,
         first: i / 2,
         second: type_second(of, given),
@@ -180,15 +189,17 @@ fn holder_row(place: usize, plan: Plan, of: TypeItem, given: u64, i: u64, after:
 
 // A list, map or object of this type opens: it gets the next reference number, and a type name the next type number. How many rows
 // its type has.
-fn enter(known: &mut [u64; 259], of: TypeItem) -> usize
-    requires { ⌜ Kept (now known) × (getD (now known) 258 0 + 1 < 2 ^ 64) × TypeRoom of (getD (now known) 257 0) ⌝ }
+fn enter(known: &mut [u64; KNOWN], of: TypeItem) -> usize
+    requires { ⌜
+        Kept (now known) × (getD (now known) referencesSlot 0 + 1 < 2 ^ 64) × TypeRoom of (getD (now known) typesSlot 0)
+        ⌝ }
     ensures { λ r. ⌜ Entered (now (known .entry)) of (now (known .exit)) r ⌝ }
 {
-    known[258] = known[258] + 1;
+    known[REFERENCES_GIVEN] = known[REFERENCES_GIVEN] + 1;
     match of {
         TypeItem::Untyped => 0,
         TypeItem::Named { units: _, bytes: _ } => {
-            known[257] = known[257] + 1;
+            known[TYPES_GIVEN] = known[TYPES_GIVEN] + 1;
             1
         }
         TypeItem::Numbered { number: _ } => 1,
@@ -199,7 +210,7 @@ fn enter(known: &mut [u64; 259], of: TypeItem) -> usize
 fn within(
     numbers: &mut [u64],
     bytes: &mut [u8],
-    known: &mut [u64; 259],
+    known: &mut [u64; KNOWN],
     at: usize,
     row: usize,
     plan: Plan,
@@ -210,7 +221,7 @@ fn within(
     ensures { λ r. ⌜ Opened (now (known .entry)) (now (numbers .entry)) (now (bytes .entry)) at row plan next of r (now (known .exit)) (now (numbers .exit)) (now (bytes .exit)) ⌝ }
 {
     store_type(numbers, bytes, row + 1, at + 1, of);
-    let given = known[257];
+    let given = known[TYPES_GIVEN];
     let more = enter(known, of);
     Begun::Within {
         at,
@@ -227,7 +238,7 @@ fn within(
 fn by_head(
     numbers: &mut [u64],
     bytes: &mut [u8],
-    known: &mut [u64; 259],
+    known: &mut [u64; KNOWN],
     at: usize,
     row: usize,
     head: Head,
@@ -256,7 +267,7 @@ fn by_head(
         }
         Head::Holder { plan, next, of } => within(numbers, bytes, known, at, row, plan, next, of),
         Head::Definition => Begun::Fault {
-            number: 3,
+            number: BYTE,
             place: at,
         },
     }
@@ -267,7 +278,7 @@ fn begin(
     message: &[u8],
     numbers: &mut [u64],
     bytes: &mut [u8],
-    known: &mut [u64; 259],
+    known: &mut [u64; KNOWN],
     from: usize,
     row: usize,
     allowed: usize,
@@ -300,7 +311,7 @@ pub(crate) fn read_values(
     message: &[u8],
     numbers: &mut [u64],
     bytes: &mut [u8],
-    known: &mut [u64; 259],
+    known: &mut [u64; KNOWN],
     from: usize,
     row: usize,
     plan: Plan,

@@ -10,7 +10,7 @@ use lib.ListN.{length}
 use borrow.Author.Tests.{le-ltb, lt-ltb, ltb-true, ltb-false}
 use Rattle.flow.specs.Tests.{pick-true, pick-false, pick-either}
 use Rattle.flow.specs.Flow.{Bytes, Outcome, Done, Fault, One, items}
-use Rattle.record.specs.Records.{Item, Known, start, Ceilings, message, Row, rows}
+use Rattle.record.specs.Records.{Item, Known, start, Limits, message, Row, rows}
 use Rattle.record.specs.Meaning.{message-all}
 use Rattle.record.specs.Answers.{ReadAnswer, Accept, Refuse, judged, read, WriteAnswer, Wrote, Refused, shortestOf}
 use Rattle.record.specs.Shorthands.{answered, stored}
@@ -21,88 +21,88 @@ use Rattle.record.specs.Writing.{judged-done, done-judged}
 pub never : {A : Type 0} → _≡_ {A = ℕ} 0 1 → A
 never z = absurd (omega arith)
 
-module _ (ℓ : Ceilings) (d longest : ℕ) where
+module _ (ℓ : Limits) where
   -- ---- the reader
-  pub reads-accepts : (m : List ℕ) (r : List Item) → length m ≤ longest → Reads ℓ d m r → Accepts ℓ d longest m r
-  reads-accepts m r l x = go (message ℓ d start 0 m) refl (x .accepted)
+  pub reads-accepts : (m : List ℕ) (r : List Item) → length m ≤ ℓ .longest → Reads ℓ m r → Accepts ℓ m r
+  reads-accepts m r l x = go (message ℓ start 0 m) refl (x .accepted)
     where
-      go : (o : Outcome Known Item One) → message ℓ d start 0 m ≡ o → Accepted r o → Accepts ℓ d longest m r
+      go : (o : Outcome Known Item One) → message ℓ start 0 m ≡ o → Accepted r o → Accepts ℓ m r
       go (Done n u es c) e a =
-          let all = message-all ℓ d m (x .bytes) n u es c e in
-          record { entries = es; known = c; done = done-judged ℓ d longest m (length m) es c l (e ∙ ap (λ (k : ℕ). Done k tt es c) all); reads-as = a }
+          let all = message-all ℓ m (x .bytes) n u es c e in
+          record { entries = es; known = c; done = done-judged ℓ m (length m) es c l (e ∙ ap (λ (k : ℕ). Done k tt es c) all); reads-as = a }
       go (Fault y o) e a = absurd a
 
   module _ (m : List ℕ) where
     -- the message is empty or too long
     abbrev pub Misfit : Type 0
-    Misfit = (length m ≡ 0) ⊎ (longest < length m)
+    Misfit = (length m ≡ 0) ⊎ (ℓ .longest < length m)
 
     -- why refusal x is given, at o
     abbrev Why : ℕ → ℕ → Type 0
     Why x o = (Misfit × (_≡_ {A = Outcome Known Item One} (Fault 1 0) (Fault x o))) ⊎ Numbered x
 
-    faulted : (x o : ℕ) → judged ℓ d longest m ≡ Fault x o → Why x o
+    faulted : (x o : ℕ) → judged ℓ m ≡ Fault x o → Why x o
     unfolding judged
     faulted x o = go m refl
       where
-        go : (n : List ℕ) → m ≡ n → judged ℓ d longest n ≡ Fault x o → Why x o
+        go : (n : List ℕ) → m ≡ n → judged ℓ n ≡ Fault x o → Why x o
         go [] q = λ e. inl (inl (ap length q), e)
-        go (b ∷ n) q = pick-either (λ z. z ≡ Fault x o → Why x o) (ltb longest (length (b ∷ n)))
-            (λ t e. inl (inr (subst (λ (k : List ℕ). longest < length k) (sym q) (ltb-true longest (length (b ∷ n)) t)), e))
-            (λ t e. inr (message-numbered ℓ d x o (b ∷ n) e))
+        go (b ∷ n) q = pick-either (λ z. z ≡ Fault x o → Why x o) (ltb (ℓ .longest) (length (b ∷ n)))
+            (λ t e. inl (inr (subst (λ (k : List ℕ). ℓ .longest < length k) (sym q) (ltb-true (ℓ .longest) (length (b ∷ n)) t)), e))
+            (λ t e. inr (message-numbered ℓ x o (b ∷ n) e))
 
-    pub misfit-judged : Misfit → judged ℓ d longest m ≡ Fault 1 0
+    pub misfit-judged : Misfit → judged ℓ m ≡ Fault 1 0
     unfolding judged
     misfit-judged = go m
       where
-        go : (n : List ℕ) → (length n ≡ 0) ⊎ (longest < length n) → judged ℓ d longest n ≡ Fault 1 0
+        go : (n : List ℕ) → (length n ≡ 0) ⊎ (ℓ .longest < length n) → judged ℓ n ≡ Fault 1 0
         go [] h = refl
         go (b ∷ n) (inl h) = absurd (omega arith)
-        go (b ∷ n) (inr h) = pick-true _ _ (lt-ltb longest (length (b ∷ n)) h)
+        go (b ∷ n) (inr h) = pick-true _ _ (lt-ltb (ℓ .longest) (length (b ∷ n)) h)
 
   module _ (lent : ℕ) (m : List ℕ) where
     pub by-read : Bytes m → (P : ReadAnswer → Type 0)
         → (Misfit m → P (Refuse 1 0 0))
         → ((x o : ℕ) → Numbered x → P (Refuse x 0 o))
-        → ((r : List Item) (x : Accepts ℓ d longest m r) → lent < length (x .entries) → P (Refuse 9 (length (x .entries)) 0))
-        → ((r : List Item) (x : Accepts ℓ d longest m r) → length (x .entries) ≤ lent → P (Accept (rows (x .entries)) (length m)))
-        → P (read ℓ d longest lent m)
-    by-read b P misfit fault few enough = go (judged ℓ d longest m) refl
+        → ((r : List Item) (x : Accepts ℓ m r) → lent < length (x .entries) → P (Refuse 9 (length (x .entries)) 0))
+        → ((r : List Item) (x : Accepts ℓ m r) → length (x .entries) ≤ lent → P (Accept (rows (x .entries)) (length m)))
+        → P (read ℓ lent m)
+    by-read b P misfit fault few enough = go (judged ℓ m) refl
       where
         refused : (x o : ℕ) → Why m x o → P (answered lent (Fault x o))
         refused x o (inl h) = subst (λ z. P (answered lent z)) (h .1) (misfit (h .0))
         refused x o (inr h) = fault x o h
 
-        go : (o : Outcome Known Item One) → judged ℓ d longest m ≡ o → P (answered lent o)
+        go : (o : Outcome Known Item One) → judged ℓ m ≡ o → P (answered lent o)
         go (Fault x o) e = refused x o (faulted m x o e)
         go (Done k u es c) e =
-            let p = judged-done ℓ d longest m k es c e in
-            let all = message-all ℓ d m b k u es c (p .1) in
-            let x : Accepts ℓ d longest m (items es) = record { entries = es; known = c; done = e ∙ ap (λ (j : ℕ). Done j tt es c) all; reads-as = refl } in
+            let p = judged-done ℓ m k es c e in
+            let all = message-all ℓ m b k u es c (p .1) in
+            let x : Accepts ℓ m (items es) = record { entries = es; known = c; done = e ∙ ap (λ (j : ℕ). Done j tt es c) all; reads-as = refl } in
             pick-either P (ltb lent (length es)) (λ t. few (items es) x (ltb-true lent (length es) t)) (λ t. subst (λ (j : ℕ). P (Accept (rows es) j)) (sym all) (enough (items es) x (ltb-false lent (length es) t)))
 
   -- ---- the writer
   module _ (openFrom : ℕ) (source : List ℕ) (r : List Row) where
     pub by-answer : (lent : ℕ) (P : WriteAnswer → Type 0)
-        → (longest < length source → P (Refused 1 0))
-        → (length source ≤ longest → shortestOf ℓ openFrom d source r ≡ none → P (Refused 10 0))
-        → (length source ≤ longest → (w : List ℕ) → shortestOf ℓ openFrom d source r ≡ some w → longest < length w → P (Refused 1 0))
-        → (length source ≤ longest → (w : List ℕ) → shortestOf ℓ openFrom d source r ≡ some w → length w ≤ longest → lent < length w → P (Refused 9 (length w)))
-        → (length source ≤ longest → (w : List ℕ) → shortestOf ℓ openFrom d source r ≡ some w → length w ≤ longest → length w ≤ lent → P (Wrote w))
-        → P (write ℓ openFrom d longest lent source r)
+        → (ℓ .longest < length source → P (Refused 1 0))
+        → (length source ≤ ℓ .longest → shortestOf ℓ openFrom source r ≡ none → P (Refused 10 0))
+        → (length source ≤ ℓ .longest → (w : List ℕ) → shortestOf ℓ openFrom source r ≡ some w → ℓ .longest < length w → P (Refused 1 0))
+        → (length source ≤ ℓ .longest → (w : List ℕ) → shortestOf ℓ openFrom source r ≡ some w → length w ≤ ℓ .longest → lent < length w → P (Refused 9 (length w)))
+        → (length source ≤ ℓ .longest → (w : List ℕ) → shortestOf ℓ openFrom source r ≡ some w → length w ≤ ℓ .longest → length w ≤ lent → P (Wrote w))
+        → P (write ℓ openFrom lent source r)
     unfolding write
-    by-answer lent P a b c e f = pick-either P (ltb longest (length source)) (λ t. a (ltb-true longest (length source) t)) (λ t. go (ltb-false longest (length source) t) (shortestOf ℓ openFrom d source r) refl)
+    by-answer lent P a b c e f = pick-either P (ltb (ℓ .longest) (length source)) (λ t. a (ltb-true (ℓ .longest) (length source) t)) (λ t. go (ltb-false (ℓ .longest) (length source) t) (shortestOf ℓ openFrom source r) refl)
       where
-        go : length source ≤ longest → (o : Option (List ℕ)) → shortestOf ℓ openFrom d source r ≡ o → P (stored longest lent o)
+        go : length source ≤ ℓ .longest → (o : Option (List ℕ)) → shortestOf ℓ openFrom source r ≡ o → P (stored ℓ lent o)
         go l none q = b l q
-        go l (some w) q = pick-either P (ltb longest (length w)) (λ t. c l w q (ltb-true longest (length w) t)) (λ t. pick-either P (ltb lent (length w))
-            (λ s. e l w q (ltb-false longest (length w) t) (ltb-true lent (length w) s))
-            (λ s. f l w q (ltb-false longest (length w) t) (ltb-false lent (length w) s)))
+        go l (some w) q = pick-either P (ltb (ℓ .longest) (length w)) (λ t. c l w q (ltb-true (ℓ .longest) (length w) t)) (λ t. pick-either P (ltb lent (length w))
+            (λ s. e l w q (ltb-false (ℓ .longest) (length w) t) (ltb-true lent (length w) s))
+            (λ s. f l w q (ltb-false (ℓ .longest) (length w) t) (ltb-false lent (length w) s)))
 
-    pub wrote-when : (lent : ℕ) (w : List ℕ) → length source ≤ longest → shortestOf ℓ openFrom d source r ≡ some w → length w ≤ longest → length w ≤ lent → write ℓ openFrom d longest lent source r ≡ Wrote w
+    pub wrote-when : (lent : ℕ) (w : List ℕ) → length source ≤ ℓ .longest → shortestOf ℓ openFrom source r ≡ some w → length w ≤ ℓ .longest → length w ≤ lent → write ℓ openFrom lent source r ≡ Wrote w
     unfolding write
-    wrote-when lent w l q i j = pick-false _ _ (le-ltb longest (length source) l) ∙ rw q (pick-false _ _ (le-ltb longest (length w) i) ∙ pick-false _ _ (le-ltb lent (length w) j))
+    wrote-when lent w l q i j = pick-false _ _ (le-ltb (ℓ .longest) (length source) l) ∙ rw q (pick-false _ _ (le-ltb (ℓ .longest) (length w) i) ∙ pick-false _ _ (le-ltb lent (length w) j))
 
-    pub needed-when : (k : ℕ) (w : List ℕ) → length source ≤ longest → shortestOf ℓ openFrom d source r ≡ some w → length w ≤ longest → k < length w → write ℓ openFrom d longest k source r ≡ Refused 9 (length w)
+    pub needed-when : (k : ℕ) (w : List ℕ) → length source ≤ ℓ .longest → shortestOf ℓ openFrom source r ≡ some w → length w ≤ ℓ .longest → k < length w → write ℓ openFrom k source r ≡ Refused 9 (length w)
     unfolding write
-    needed-when k w l q i j = pick-false _ _ (le-ltb longest (length source) l) ∙ rw q (pick-false _ _ (le-ltb longest (length w) i) ∙ pick-true _ _ (lt-ltb k (length w) j))
+    needed-when k w l q i j = pick-false _ _ (le-ltb (ℓ .longest) (length source) l) ∙ rw q (pick-false _ _ (le-ltb (ℓ .longest) (length w) i) ∙ pick-true _ _ (lt-ltb k (length w) j))

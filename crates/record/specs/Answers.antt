@@ -2,10 +2,11 @@
 use mathlib.Core.{Bool.Bool, Bool.cond, Bool._&&_, List.List, List.[], List._∷_, List._++_, Option.Option, Option.none, Option.some}
 use Prim.Native.Nat.{ℕ, zero, suc, _+_, _/_, _^_}
 use lib.{Dec.ltb, Dec.eqb, Dec.leb, ListN.length, ListN.take, ListN.drop, ListN.getD}
+use Rattle.flow.specs.RefusalNumbers.{wrong-length, no-room, no-record}
 use Rattle.flow.specs.Flow.{pick, Outcome, Done, Fault, One, stored, overlay, Report}
 use Rattle.wire.specs.BigEndian.{eightAt, be}
 use Rattle.scalar.specs.Scalars.{shortestScalar, shortestInt, shortestText}
-use Rattle.record.specs.{Records.{Value, Leaf, UntypedList, TypedList, UntypedMap, TypedMap, Object, Reference, Item, Val, Definition, ClassName, FieldName, TypeName, TypeNumber, Known, start, opened, typed, defined, Ceilings, message, Row, row, rows}, Claimed.{onSome, recordOf}}
+use Rattle.record.specs.{Records.{Value, Leaf, UntypedList, TypedList, UntypedMap, TypedMap, Object, Reference, Item, Val, Definition, ClassName, FieldName, TypeName, TypeNumber, Known, start, opened, typed, defined, Limits, message, Row, row, rows}, Claimed.{onSome, recordOf}}
 
 -- ---- the shortest message. It mirrors the reading: each function takes the first of the items, and says the bytes they are written as
 pub data Spelling : Type 0 where  -- the bytes, the items that are left, what is known then; or the items are no record
@@ -66,7 +67,7 @@ objectCode k = cond (ltb k 16) (some ((0x60 + k) ∷ [])) (onSome (λ w. some (0
 abbrev pub putContainer : Option Put → (Put → Put) → Put  -- a list, map or object, where one more may open
 putContainer below body c r = elim below [ none ↦ NoRecord | some g ↦ body g (opened c) r ]
 
-module _ (ℓ : Ceilings) where
+module _ (ℓ : Limits) where
   unfoldable pub putType : ℕ → Put  -- the type whose number is t: a name written out stays written out
   putType t c [] = NoRecord
   putType t c (Val v ∷ r) = NoRecord
@@ -87,7 +88,7 @@ module _ (ℓ : Ceilings) where
   putPreceded (suc k) g c [] = g c []
   putPreceded (suc k) g c (x ∷ r) = elim (definition? x) [ none ↦ g c (x ∷ r) | some n ↦ putThen putDefinition (putPreceded k g) c (x ∷ r) ]
 
-module _ (ℓ : Ceilings) (openFrom : ℕ) where
+module _ (ℓ : Limits) (openFrom : ℕ) where
   -- a value with no definition before it, after its item; `below` puts the values in it, where one more container may open
   unfoldable pub putPlainBy : Option Put → Value → Put
   putPlainBy below (Leaf x) = putBytes (shortestScalar x)
@@ -102,37 +103,51 @@ module _ (ℓ : Ceilings) (openFrom : ℕ) where
   putValue zero = λ c r. putPreceded ℓ (length r) (putItem value? (putPlainBy none)) c r
   putValue (suc d) = λ c r. putPreceded ℓ (length r) (putItem value? (putPlainBy (some (putValue d)))) c r
 
-  unfoldable pub spell : ℕ → List Item → Option (List ℕ)  -- the shortest message of the record r, with no item left, or none
-  spell d r = elim (putValue d start r) [ Spelled w l c ↦ elim l [ [] ↦ some w | x ∷ l ↦ none ] | NoRecord ↦ none ]
+  -- the shortest message of the record r, with no item left, or none
+  unfoldable pub spell : List Item → Option (List ℕ)
+  spell r = elim (putValue (ℓ .containers) start r)
+      [ Spelled w l c ↦ elim l [ [] ↦ some w | x ∷ l ↦ none ] | NoRecord ↦ none ]
 
 pub data ReadAnswer : Type 0 where  -- the reader's answer
   Accept : List Row → ℕ → ReadAnswer  -- the rows, the message's length
   Refuse : ℕ → ℕ → ℕ → ReadAnswer  -- number, count, place
 
--- refusals 1 to 8: an empty message, or one longer than `longest`, is refusal 1; then the first fault from left to right
-unfoldable pub judged : Ceilings → (d longest : ℕ) → List ℕ → Outcome Known Item One
-judged ℓ d longest [] = Fault 1 0
-judged ℓ d longest (b ∷ m) = pick (ltb longest (length (b ∷ m))) (Fault 1 0) (message ℓ d start 0 (b ∷ m))
+-- all refusals but that of room: an empty message, or one longer than may be, has a wrong length; then the first fault
+-- from left to right
+unfoldable pub judged : Limits → List ℕ → Outcome Known Item One
+judged ℓ [] = Fault wrong-length 0
+judged ℓ (b ∷ m) = pick (ltb (ℓ .longest) (length (b ∷ m))) (Fault wrong-length 0) (message ℓ start 0 (b ∷ m))
 
 -- with `lent` rows: too few are refusal 9, which counts the rows needed, for a message otherwise accepted
-abbrev pub read : Ceilings → (d longest lent : ℕ) → List ℕ → ReadAnswer
-read ℓ d longest lent m =
-    elim (judged ℓ d longest m) [ Done n u es c ↦ pick (ltb lent (length es)) (Refuse 9 (length es) 0) (Accept (rows es) n) | Fault x o ↦ Refuse x 0 o ]
+abbrev pub read : Limits → (lent : ℕ) → List ℕ → ReadAnswer
+read ℓ lent m = elim (judged ℓ m) [
+  | Done n u es c ↦ pick (ltb lent (length es)) (Refuse no-room (length es) 0) (Accept (rows es) n)
+  | Fault x o ↦ Refuse x 0 o
+]
 
 pub data WriteAnswer : Type 0 where  -- the writer's answer
   Wrote : List ℕ → WriteAnswer  -- the bytes written
   Refused : ℕ → ℕ → WriteAnswer  -- number, count; the place is 0
 
-unfoldable pub shortestOf : Ceilings → (openFrom d : ℕ) → List ℕ → List Row → Option (List ℕ)  -- the shortest message with the record that the rows claim, or none
-shortestOf ℓ openFrom d source r = onSome (spell ℓ openFrom d) (recordOf source r)
+-- the shortest message with the record that the rows claim, or none
+unfoldable pub shortestOf : Limits → (openFrom : ℕ) → List ℕ → List Row → Option (List ℕ)
+shortestOf ℓ openFrom source r = onSome (spell ℓ openFrom) (recordOf source r)
 
--- the first of these: a source longer than `longest`, refusal 1; no record, 10; a shortest message longer than `longest`, 1, or than the bytes lent, 9
-abbrev pub answeredTo : (longest lent : ℕ) → (source : List ℕ) → Option (List ℕ) → WriteAnswer
-answeredTo longest lent source o = pick (ltb longest (length source)) (Refused 1 0)
-    (elim o [ none ↦ Refused 10 0 | some w ↦ pick (ltb longest (length w)) (Refused 1 0) (pick (ltb lent (length w)) (Refused 9 (length w)) (Wrote w)) ])
+-- the first of these: a source longer than the longest message, refusal 1; no record, 10; a shortest message longer
+-- than the longest one, 1, or than the bytes lent, 9
+abbrev pub answeredTo : Limits → (lent : ℕ) → (source : List ℕ) → Option (List ℕ) → WriteAnswer
+answeredTo ℓ lent source o = pick (ltb (ℓ .longest) (length source)) (Refused wrong-length 0)
+    (elim o [
+      | none ↦ Refused no-record 0
+      | some w ↦ pick (ltb (ℓ .longest) (length w)) (Refused wrong-length 0)
+          (pick (ltb lent (length w)) (Refused no-room (length w)) (Wrote w))
+    ])
 
-abbrev pub base : Ceilings  -- with 32 containers open, 262,144 bytes, and the open form from 48 elements on
-base = record { types = 256; classes = 256; fields = 256 }
+abbrev pub base : Limits  -- 01's limits
+base = record { longest = 262_144; containers = 32; types = 256; classes = 256; fields = 256 }
+
+abbrev pub baseOpenFrom : ℕ  -- a list of so many elements and more takes the open form
+baseOpenFrom = 48
 
 abbrev pub Layout : Type 0  -- how rows lie in a table, so many numbers a row
 Layout = record { width : ℕ; encode : Row → List ℕ; decode : List ℕ → Row }
@@ -162,23 +177,26 @@ rowsOf L (suc n) t = L .decode (take (L .width) t) ∷ rowsOf L n (drop (L .widt
 abbrev pub reportRead : ReadAnswer → Report
 reportRead a = elim a [ Accept rs n ↦ record { number = 0; count = length rs; place = n } | Refuse x k o ↦ record { number = x; count = k; place = o } ]
 
-abbrev pub readReport : Ceilings → (d longest : ℕ) → Layout → List ℕ → List ℕ → Report
-readReport ℓ d longest L m t = reportRead (read ℓ d longest (lentRows L t) m)
+abbrev pub readReport : Limits → Layout → List ℕ → List ℕ → Report
+readReport ℓ L m t = reportRead (read ℓ (lentRows L t) m)
 
 -- the table then holds the rows of an accepted message, and is else unchanged
-abbrev pub readTable : Ceilings → (d longest : ℕ) → Layout → List ℕ → List ℕ → List ℕ
-readTable ℓ d longest L m t = elim (read ℓ d longest (lentRows L t) m) [ Accept rs n ↦ overlay (L .width) (L .encode) t 0 rs | Refuse x k o ↦ t ]
+abbrev pub readTable : Limits → Layout → List ℕ → List ℕ → List ℕ
+readTable ℓ L m t = elim (read ℓ (lentRows L t) m)
+    [ Accept rs n ↦ overlay (L .width) (L .encode) t 0 rs | Refuse x k o ↦ t ]
 
 -- ---- the writer, of the first n rows of a table: accepted are 0, the bytes written, 0; the output past them is unchanged
 abbrev pub reportWritten : WriteAnswer → Report
 reportWritten a = elim a [ Wrote w ↦ record { number = 0; count = length w; place = 0 } | Refused x k ↦ record { number = x; count = k; place = 0 } ]
 
 -- more rows claimed than lent are no record
-unfoldable pub written : Ceilings → (openFrom d longest : ℕ) → Layout → List ℕ → List ℕ → ℕ → (lent : ℕ) → WriteAnswer
-written ℓ openFrom d longest L source t n lent = answeredTo longest lent source (pick (ltb (lentRows L t) n) none (shortestOf ℓ openFrom d source (rowsOf L n t)))
+unfoldable pub written : Limits → (openFrom : ℕ) → Layout → List ℕ → List ℕ → ℕ → (lent : ℕ) → WriteAnswer
+written ℓ openFrom L source t n lent = answeredTo ℓ lent source
+    (pick (ltb (lentRows L t) n) none (shortestOf ℓ openFrom source (rowsOf L n t)))
 
-abbrev pub writeReport : Ceilings → (openFrom d longest : ℕ) → Layout → List ℕ → List ℕ → ℕ → List ℕ → Report
-writeReport ℓ openFrom d longest L source t n out = reportWritten (written ℓ openFrom d longest L source t n (length out))
+abbrev pub writeReport : Limits → (openFrom : ℕ) → Layout → List ℕ → List ℕ → ℕ → List ℕ → Report
+writeReport ℓ openFrom L source t n out = reportWritten (written ℓ openFrom L source t n (length out))
 
-abbrev pub writeOutput : Ceilings → (openFrom d longest : ℕ) → Layout → List ℕ → List ℕ → ℕ → List ℕ → List ℕ
-writeOutput ℓ openFrom d longest L source t n out = elim (written ℓ openFrom d longest L source t n (length out)) [ Wrote w ↦ stored out 0 w | Refused x k ↦ out ]
+abbrev pub writeOutput : Limits → (openFrom : ℕ) → Layout → List ℕ → List ℕ → ℕ → List ℕ → List ℕ
+writeOutput ℓ openFrom L source t n out = elim (written ℓ openFrom L source t n (length out))
+    [ Wrote w ↦ stored out 0 w | Refused x k ↦ out ]

@@ -12,7 +12,7 @@ use Rattle.flow.specs.Grammar.{Phrase, Many, finished, another, Ended, ended, P
 use Rattle.scalar.specs.Grammar.{Spelt, Int, Text}
 use Rattle.scalar.specs.Scalars.{shortestScalar, shortestInt, shortestText}
 use Rattle.scalar.specs.ScalarLaws.{Is, int-is, text-is, scalar-is}
-use Rattle.record.specs.Records.{Value, Leaf, UntypedList, TypedList, UntypedMap, TypedMap, Object, Reference, Item, Val, Definition, ClassName, FieldName, TypeName, TypeNumber, Known, start, opened, typed, defined, Ceilings}
+use Rattle.record.specs.Records.{Value, Leaf, UntypedList, TypedList, UntypedMap, TypedMap, Object, Reference, Item, Val, Definition, ClassName, FieldName, TypeName, TypeNumber, Known, start, opened, typed, defined, Limits}
 use Rattle.record.specs.Grammar.{NameForm, a-name, TypeForm, type-name, type-number, PairForm, a-pair, DefinitionForm, a-definition, PlainForm, a-leaf, a-few, a-counted, an-open, a-few-typed, a-counted-typed, an-open-typed, a-map, a-typed-map, a-few-object, an-object, a-reference, ValueForm, Message}
 use Rattle.record.specs.Answers.{Spelling, Spelled, NoRecord, Put, putThen, putMany, putBytes, putCode, className?, fieldName?, putName, putList, putOpen, objectCode, putContainer, putIf, putType, putPlainBy, putDefinition, putPreceded, putValue, spell}
 use Rattle.record.specs.Shorthands.{prefixed, Nowhere, codeThen, putDefined, putPrecededBy, putPlain, onSpelled, complete}
@@ -166,7 +166,7 @@ list-sound {Q} {G} openFrom few counted opening n most x h = by-test (Sound (Lis
     (λ t₁. sound-as (then-sound (code-sound counted) (then-sound x (then-sound (int-sound n) (many-sound h n)))) (λ c w is c′ y. as-counted (omega (arith, tests)) y))
     (λ t₁. sound-as (map-sound opening n x h) (λ c w is c′ y. as-open y)))
 
-module _ (ℓ : Ceilings) (openFrom : ℕ) (most : openFrom ≤ 48) where
+module _ (ℓ : Limits) (openFrom : ℕ) (most : openFrom ≤ 48) where
   -- ---- types
   type-sound : (t : ℕ) → Sound (λ c w is c′. TypeForm ℓ c w t is c′) (putType ℓ t)
   unfolding putType
@@ -383,11 +383,11 @@ module _ (ℓ : Ceilings) (openFrom : ℕ) (most : openFrom ≤ 48) where
   value-sound (suc d) = preceded-by-sound (plain-sound (some (putValue ℓ openFrom d)) true (ValueForm ℓ d) (tt, value-sound d))
 
   -- the spelling of a record is a message that the grammar derives for it
-  pub message-back : (d : ℕ) (r : List Item) (w : List ℕ) → spell ℓ openFrom d r ≡ some w → Message ℓ d w r
+  pub message-back : (r : List Item) (w : List ℕ) → spell ℓ openFrom r ≡ some w → Message ℓ w r
   unfolding spell
-  message-back d r w e = go (putValue ℓ openFrom d start r) (value-sound d .sound start r) e
+  message-back r w e = go (putValue ℓ openFrom (ℓ .containers) start r) (value-sound (ℓ .containers) .sound start r) e
     where
-      go : (o : Spelling) → Back (ValueForm ℓ d start) r o → complete o ≡ some w → Message ℓ d w r
+      go : (o : Spelling) → Back (ValueForm ℓ (ℓ .containers) start) r o → complete o ≡ some w → Message ℓ w r
       go (Spelled v [] c) p e =
           let q : v ≡ w = cc in
           record { known = c; derived = rw (p .1 ∙ append-nil (p .0), ← q) (p .2) }

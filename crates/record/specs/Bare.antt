@@ -5,7 +5,7 @@ use Prim.Native.Nat.{ℕ, zero, suc, _+_, _-_, _≤_, _<_}
 use native.Mathlib.Omega.{arith}
 use lib.ListN.{length, drop}
 use lib.Seq.{drop-drop}
-use Rattle.record.specs.Records.{Value, Item, Val, Known, Ceilings}
+use Rattle.record.specs.Records.{Value, Item, Val, Known, Limits}
 use Rattle.record.specs.Answers.{Put, value?, putType, putDefinition}
 use Rattle.record.specs.Takes.{Taken, before-taken, NoValue, no-item, no-value, type-takes}
 use Rattle.record.specs.Takes.{ClassItems, class-items, definition-taken}
@@ -28,7 +28,7 @@ class-valueless t (class-items x) = no-value refl (x .valueless)
 abbrev pub NoneIn : List Item → ℕ → ℕ → Type 0
 NoneIn is k p = (j : ℕ) → k ≤ j → j < p → (v : Value) → At is j (Val v) → ⊥
 
-module _ (ℓ : Ceilings) (c : Known) (is : List Item) (k : ℕ) (w : List ℕ) (p : ℕ) (c′ : Known) where
+module _ (ℓ : Limits) (c : Known) (is : List Item) (k : ℕ) (w : List ℕ) (p : ℕ) (c′ : Known) where
   none-in : (f : Put) → ((c : Known) (s : List Item) → Taken NoValue s (f c s)) → walk f c is k ≡ Over w p c′
       → NoneIn is k p
   none-in f h e j l m v a =

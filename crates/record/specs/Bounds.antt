@@ -1,4 +1,5 @@
--- The count and the place that the reader answers lie within the message, and within `longest`; so does the writer's count.
+-- The count and the place that the reader answers lie within the message, and within the longest one; so does the writer's
+-- count.
 use mathlib.Core.Path.{_≡_, refl}
 use mathlib.Core.List.{List, [], _∷_}
 use mathlib.Core.Option.{Option, none, some}
@@ -10,7 +11,7 @@ use borrow.Author.Tests.{ltb-false}
 use Rattle.flow.specs.Flow.{pick, Bytes, Entry, Outcome, Done, Fault, One, items}
 use Rattle.flow.specs.Tests.{pick-either}
 use Rattle.flow.specs.Refusals.{Told}
-use Rattle.record.specs.Records.{Item, Known, start, Ceilings, message}
+use Rattle.record.specs.Records.{Item, Known, start, Limits, message}
 use Rattle.record.specs.Extent.{rows-few}
 use Rattle.record.specs.Answers.{ReadAnswer, judged, read, shortestOf, Layout, lentRows, rowsOf, reportRead, reportWritten, written}
 use Rattle.record.specs.Shorthands.{answered, stored}
@@ -22,40 +23,40 @@ use Rattle.record.specs.Demanded.{read-numbered}
 abbrev Most : ℕ → ReadAnswer → Type 0
 Most k a = (reportRead a .count ≤ k) × (reportRead a .place ≤ k)
 
-module _ (ℓ : Ceilings) (d longest lent : ℕ) where
-  message-most : (k : ℕ) (m : List ℕ) → Bytes m → length m ≤ k → Most k (answered lent (message ℓ d start 0 m))
-  message-most k m b l = go (message ℓ d start 0 m) refl (message-within ℓ d m)
+module _ (ℓ : Limits) (lent : ℕ) where
+  message-most : (k : ℕ) (m : List ℕ) → Bytes m → length m ≤ k → Most k (answered lent (message ℓ start 0 m))
+  message-most k m b l = go (message ℓ start 0 m) refl (message-within ℓ m)
     where
-      go : (o : Outcome Known Item One) → message ℓ d start 0 m ≡ o → Told Numbered (length m) m o → Most k (answered lent o)
+      go : (o : Outcome Known Item One) → message ℓ start 0 m ≡ o → Told Numbered (length m) m o → Most k (answered lent o)
       go (Fault x o) e t = (omega arith, omega (arith, t .1))
       go (Done n u es c) e t =
-          let i : length es ≤ k = omega (arith, rows-few ℓ d m (items es) (record { bytes = b; accepted = rw e refl }), length-map es (λ (e : Entry Item). e .item)) in
+          let i : length es ≤ k = omega (arith, rows-few ℓ m (items es) (record { bytes = b; accepted = rw e refl }), length-map es (λ (e : Entry Item). e .item)) in
           pick-either (Most k) (ltb lent (length es)) (λ q. (i, omega arith)) (λ q. (omega (arith, rows-length es), omega arith))
 
-  read-most : (k : ℕ) (m : List ℕ) → Bytes m → (length m ≤ longest → length m ≤ k) → Most k (read ℓ d longest lent m)
+  read-most : (k : ℕ) (m : List ℕ) → Bytes m → (length m ≤ ℓ .longest → length m ≤ k) → Most k (read ℓ lent m)
   unfolding judged
   read-most k [] b h = (omega arith, omega arith)
-  read-most k (x ∷ m) b h = pick-either (λ o. Most k (answered lent o)) (ltb longest (length (x ∷ m))) (λ q. (omega arith, omega arith)) (λ q. message-most k (x ∷ m) b (h (ltb-false longest (length (x ∷ m)) q)))
+  read-most k (x ∷ m) b h = pick-either (λ o. Most k (answered lent o)) (ltb (ℓ .longest) (length (x ∷ m))) (λ q. (omega arith, omega arith)) (λ q. message-most k (x ∷ m) b (h (ltb-false (ℓ .longest) (length (x ∷ m)) q)))
 
   module _ (m : List ℕ) (b : Bytes m) where
-    pub read-count : reportRead (read ℓ d longest lent m) .count ≤ length m
+    pub read-count : reportRead (read ℓ lent m) .count ≤ length m
     read-count = read-most (length m) m b (λ l. omega arith) .0
 
-    pub read-place : reportRead (read ℓ d longest lent m) .place ≤ length m
+    pub read-place : reportRead (read ℓ lent m) .place ≤ length m
     read-place = read-most (length m) m b (λ l. omega arith) .1
 
     -- so the answer fits three small numbers, whatever the message's length
-    pub answer-small : (reportRead (read ℓ d longest lent m) .count ≤ longest) × (reportRead (read ℓ d longest lent m) .place ≤ longest) × (reportRead (read ℓ d longest lent m) .number ≤ 9)
-    answer-small = let p = read-most longest m b (λ l. l) in (p .0, p .1, read-numbered ℓ d longest lent m b)
+    pub answer-small : (reportRead (read ℓ lent m) .count ≤ ℓ .longest) × (reportRead (read ℓ lent m) .place ≤ ℓ .longest) × (reportRead (read ℓ lent m) .number ≤ 9)
+    answer-small = let p = read-most (ℓ .longest) m b (λ l. l) in (p .0, p .1, read-numbered ℓ lent m b)
 
 -- ---- the count of the writer's answer
-module _ (longest lent : ℕ) where
-  stored-small : (o : Option (List ℕ)) → reportWritten (stored longest lent o) .count ≤ longest
+module _ (ℓ : Limits) (lent : ℕ) where
+  stored-small : (o : Option (List ℕ)) → reportWritten (stored ℓ lent o) .count ≤ ℓ .longest
   stored-small none = omega arith
-  stored-small (some w) = pick-either (λ a. reportWritten a .count ≤ longest) (ltb longest (length w)) (λ t. omega arith)
-      (λ t. let l : length w ≤ longest = ltb-false longest (length w) t in pick-either (λ a. reportWritten a .count ≤ longest) (ltb lent (length w)) (λ s. l) (λ s. l))
+  stored-small (some w) = pick-either (λ a. reportWritten a .count ≤ ℓ .longest) (ltb (ℓ .longest) (length w)) (λ t. omega arith)
+      (λ t. let l : length w ≤ ℓ .longest = ltb-false (ℓ .longest) (length w) t in pick-either (λ a. reportWritten a .count ≤ ℓ .longest) (ltb lent (length w)) (λ s. l) (λ s. l))
 
-pub written-small : (ℓ : Ceilings) (openFrom d longest : ℕ) (L : Layout) (source t : List ℕ) (n lent : ℕ) → reportWritten (written ℓ openFrom d longest L source t n lent) .count ≤ longest
+pub written-small : (ℓ : Limits) (openFrom : ℕ) (L : Layout) (source t : List ℕ) (n lent : ℕ) → reportWritten (written ℓ openFrom L source t n lent) .count ≤ ℓ .longest
 unfolding written
-written-small ℓ openFrom d longest L source t n lent = pick-either (λ a. reportWritten a .count ≤ longest) (ltb longest (length source)) (λ e. omega arith)
-    (λ e. stored-small longest lent (pick (ltb (lentRows L t) n) none (shortestOf ℓ openFrom d source (rowsOf L n t))))
+written-small ℓ openFrom L source t n lent = pick-either (λ a. reportWritten a .count ≤ ℓ .longest) (ltb (ℓ .longest) (length source)) (λ e. omega arith)
+    (λ e. stored-small ℓ lent (pick (ltb (lentRows L t) n) none (shortestOf ℓ openFrom source (rowsOf L n t))))

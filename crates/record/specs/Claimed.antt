@@ -11,31 +11,34 @@ use Rattle.flow.specs.Flow.{pick, sameList}
 use Rattle.scalar.specs.declared.Sort.the-variants as sort
 use Rattle.scalar.specs.declared.Kind.the-variants.{Utf8, Binary}
 use Rattle.scalar.specs.Scalars.{Num, Str}
+use Rattle.record.specs.Kinds.{null-kind, false-kind, true-kind, int-kind, long-kind, double-kind, date-kind, text-kind, bytes-kind}
+use Rattle.record.specs.Kinds.{list-kind, typed-list-kind, map-kind, typed-map-kind, object-kind, reference-kind}
+use Rattle.record.specs.Kinds.{class-kind, class-name-kind, field-name-kind, type-name-kind}
 use Rattle.record.specs.RowLaws.{moved, item-moved}
 use Rattle.record.specs.Records.{Leaf, UntypedList, TypedList, UntypedMap, TypedMap, Object, Reference, Item, Val, Definition, ClassName, FieldName, TypeName, TypeNumber, Row, itemRow, ends, contentOf, contentAt, Claims, ClaimItems, no-rows, a-row, afters, ClaimAll}
 
 -- the item of the row's kind, with the row's numbers or this content
 unfoldable pub ofKind : Row → List ℕ → Item
 ofKind x cs =
-    pick (eqb (x .kind) 0) (Val (Leaf (Num sort.Null (x .first))))
-    (pick (eqb (x .kind) 1) (Val (Leaf (Num sort.False (x .first))))
-    (pick (eqb (x .kind) 2) (Val (Leaf (Num sort.True (x .first))))
-    (pick (eqb (x .kind) 3) (Val (Leaf (Num sort.Int (x .first))))
-    (pick (eqb (x .kind) 4) (Val (Leaf (Num sort.Long (x .first))))
-    (pick (eqb (x .kind) 5) (Val (Leaf (Num sort.Double (x .first))))
-    (pick (eqb (x .kind) 6) (Val (Leaf (Num sort.Date (x .first))))
-    (pick (eqb (x .kind) 7) (Val (Leaf (Str Utf8 cs)))
-    (pick (eqb (x .kind) 8) (Val (Leaf (Str Binary cs)))
-    (pick (eqb (x .kind) 9) (Val (UntypedList (x .first)))
-    (pick (eqb (x .kind) 10) (Val (TypedList (x .first) (x .second)))
-    (pick (eqb (x .kind) 11) (Val (UntypedMap (x .first)))
-    (pick (eqb (x .kind) 12) (Val (TypedMap (x .first) (x .second)))
-    (pick (eqb (x .kind) 13) (Val (Object (x .first) (x .second)))
-    (pick (eqb (x .kind) 14) (Val (Reference (x .first)))
-    (pick (eqb (x .kind) 15) (Definition (x .first))
-    (pick (eqb (x .kind) 16) (ClassName cs)
-    (pick (eqb (x .kind) 17) (FieldName cs)
-    (pick (eqb (x .kind) 18) (TypeName cs)
+    pick (eqb (x .kind) null-kind) (Val (Leaf (Num sort.Null (x .first))))
+    (pick (eqb (x .kind) false-kind) (Val (Leaf (Num sort.False (x .first))))
+    (pick (eqb (x .kind) true-kind) (Val (Leaf (Num sort.True (x .first))))
+    (pick (eqb (x .kind) int-kind) (Val (Leaf (Num sort.Int (x .first))))
+    (pick (eqb (x .kind) long-kind) (Val (Leaf (Num sort.Long (x .first))))
+    (pick (eqb (x .kind) double-kind) (Val (Leaf (Num sort.Double (x .first))))
+    (pick (eqb (x .kind) date-kind) (Val (Leaf (Num sort.Date (x .first))))
+    (pick (eqb (x .kind) text-kind) (Val (Leaf (Str Utf8 cs)))
+    (pick (eqb (x .kind) bytes-kind) (Val (Leaf (Str Binary cs)))
+    (pick (eqb (x .kind) list-kind) (Val (UntypedList (x .first)))
+    (pick (eqb (x .kind) typed-list-kind) (Val (TypedList (x .first) (x .second)))
+    (pick (eqb (x .kind) map-kind) (Val (UntypedMap (x .first)))
+    (pick (eqb (x .kind) typed-map-kind) (Val (TypedMap (x .first) (x .second)))
+    (pick (eqb (x .kind) object-kind) (Val (Object (x .first) (x .second)))
+    (pick (eqb (x .kind) reference-kind) (Val (Reference (x .first)))
+    (pick (eqb (x .kind) class-kind) (Definition (x .first))
+    (pick (eqb (x .kind) class-name-kind) (ClassName cs)
+    (pick (eqb (x .kind) field-name-kind) (FieldName cs)
+    (pick (eqb (x .kind) type-name-kind) (TypeName cs)
     (TypeNumber (x .first))))))))))))))))))))
 
 abbrev pub sameRow : Row → Row → Bool  -- but for their fifth numbers

@@ -16,7 +16,7 @@ use Rattle.scalar.specs.declared.Kind.the-variants.{Utf8}
 use Rattle.scalar.specs.Answers.{numberAt}
 use Rattle.scalar.specs.Answers.{Sizes, sized, measuredAt}
 use Rattle.record.specs.declared.Group.the-variants.{Counted}
-use Rattle.record.specs.Records.{Definition, ClassName, FieldName, Known, defined, Ceilings, Reader, Opening, count, name, plainFrom, fieldNames, definition, valueFrom, Row, row}
+use Rattle.record.specs.Records.{Definition, ClassName, FieldName, Known, defined, Limits, Reader, Opening, count, name, plainFrom, fieldNames, definition, valueFrom, Row, row}
 use Rattle.record.specs.Placed.{Placed, Got, Lost, run, front, on, through, topped, on-same, run-give, run-fail, run-byte, run-end, run-changing, run-asking, run-test, run-headed, run-mapped, run-bind, run-bounded, run-same}
 use Rattle.record.specs.Runs.{rest, rest-stop, rest-step, rest-many}
 use Rattle.record.specs.Parts.{laid, sizesRow, name-laid, count-got, count-negative, count-lost}
@@ -111,7 +111,7 @@ module _ (n i : ℕ) (c : Known) (m : List ℕ) (p : ℕ) where
     names-lost x o q = names-on (Fault x o) q
 
 -- ---- a class definition after its 43, at p: the name at q, the count after it
-module _ (ℓ : Ceilings) (p : ℕ) (c : Known) (m : List ℕ) (q : ℕ) where
+module _ (ℓ : Limits) (p : ℕ) (c : Known) (m : List ℕ) (q : ℕ) where
   definition-by : run (definition ℓ p) c m q ≡ pick (ltb (length (c .classes)) (ℓ .classes)) (topped p Definition (run (after (byteAt (name ClassName)) (count (fieldNames ℓ))) c m q)) (Lost 7 p)
   unfolding definition
   definition-by =
@@ -179,7 +179,7 @@ module _ (ℓ : Ceilings) (p : ℕ) (c : Known) (m : List ℕ) (q : ℕ) where
           definition-got e j rs a = names-in (Got e j rs c) a ∙ ap (λ (l : List Row). Got e tt (row 15 p n 0 (suc (suc (length l))) ∷ row 16 q u b 1 ∷ l) (defined n c)) (append-nil rs)
 
 -- ---- a value: any number of definitions, and then what its first byte says
-module _ (ℓ : Ceilings) where
+module _ (ℓ : Limits) where
   -- what reads the values in a value, where d more containers may open
   unfoldable pub below : ℕ → Option (Opening One)
   below zero = none

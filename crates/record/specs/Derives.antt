@@ -14,7 +14,7 @@ use Rattle.flow.specs.Laws.{Makes, give-makes, byte-makes, bind-makes, map-make
 use Rattle.scalar.specs.Scalars.{Scalar, isText, scalarFrom, intFrom, textFrom}
 use Rattle.scalar.specs.Grammar.{Int}
 use Rattle.scalar.specs.ScalarLaws.{isScalar, scalar-makes, int-makes, text-makes, scalar-owned, text-first, int-first, scalar-shut}
-use Rattle.record.specs.Records.{Leaf, UntypedList, TypedList, UntypedMap, TypedMap, Object, Reference, Item, Val, Definition, ClassName, FieldName, TypeName, TypeNumber, Known, opened, typed, defined, Ceilings, Reader, Opening, int, count, name, container, fieldValues, pair, typeFrom, withType, fieldNames, plainFrom, definition, valueFrom}
+use Rattle.record.specs.Records.{Leaf, UntypedList, TypedList, UntypedMap, TypedMap, Object, Reference, Item, Val, Definition, ClassName, FieldName, TypeName, TypeNumber, Known, opened, typed, defined, Limits, Reader, Opening, int, count, name, container, fieldValues, pair, typeFrom, withType, fieldNames, plainFrom, definition, valueFrom}
 use Rattle.record.specs.Forms.{Form, leaf, few, few-typed, few-object, counted, counted-typed, open-list, open-typed, open-map, typed-map, object, reference, formOf, plainBy, plain-is, few-form, few-typed-form, few-object-form, singles, leaf-form, no-scalar}
 use Rattle.record.specs.Shorthands.{with-two, Nowhere, typeNumber, referenceTo, typeName}
 use Rattle.record.specs.Grammar.{NameForm, a-name, TypeForm, type-name, type-number, PairForm, a-pair, DefinitionForm, a-definition, PlainForm, a-leaf, a-few, a-counted, an-open, a-few-typed, a-counted-typed, an-open-typed, a-map, a-typed-map, a-few-object, an-object, a-reference, ValueForm}
@@ -54,7 +54,7 @@ pair-makes f G hf c w is c′ (a-pair {c₁ = c₁} {u = u} {v = v} {is = is₁}
 pair-shut : (f : Opening One) (e : ℕ) → Shut f e → Shut (pair f) e
 pair-shut f e x p c at s = rw (x p c at s) refl
 
-module _ (ℓ : Ceilings) where
+module _ (ℓ : Limits) where
   -- ---- types
   type-makes : {c c′ : Known} {w : List ℕ} {t : ℕ} {is : List Item} → TypeForm ℓ c w t is c′ → Leads (typeFrom ℓ) c w t is c′
   unfolding typeFrom

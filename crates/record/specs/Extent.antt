@@ -14,7 +14,7 @@ use Rattle.scalar.specs.Scalars as scalars
 use Rattle.scalar.specs.Grammar as scalar-grammar
 use Rattle.scalar.specs.NumberLaws.{number-some}
 use Rattle.scalar.specs.TextLaws.{string-some}
-use Rattle.record.specs.Records.{Item, FieldName, Known, start, Ceilings, valueFrom}
+use Rattle.record.specs.Records.{Item, FieldName, Known, start, Limits, valueFrom}
 use Rattle.record.specs.Terms.{Reads}
 use Rattle.record.specs.Grammar.{NameForm, a-name, TypeForm, type-name, type-number, PairForm, a-pair, DefinitionForm, a-definition, PlainForm, a-leaf, a-few, a-counted, an-open, a-few-typed, a-counted-typed, an-open-typed, a-map, a-typed-map, a-few-object, an-object, a-reference, ValueForm}
 use Rattle.record.specs.Shorthands.{Nowhere}
@@ -40,18 +40,18 @@ scalar-some (scalar-grammar.a-string x) = string-some x
 name-few : (x : List ℕ → Item) → Few (NameForm x)
 name-few x c w is c′ (a-name r) = omega (arith, string-some r)
 
-type-few : (ℓ : Ceilings) {c c′ : Known} {w : List ℕ} {t : ℕ} {is : List Item} → TypeForm ℓ c w t is c′ → length is ≤ length w
+type-few : (ℓ : Limits) {c c′ : Known} {w : List ℕ} {t : ℕ} {is : List Item} → TypeForm ℓ c w t is c′ → length is ≤ length w
 type-few ℓ (type-name l r) = omega (arith, string-some r)
 type-few ℓ (type-number x l) = omega (arith, number-some x)
 
 pair-few : (G : Phrase Known Item) → Few G → Few (PairForm G)
 pair-few G h c w is c′ (a-pair {c₁ = c₁} {u = u} {v = v} {is = is₁} {js = js} x y) = omega (arith, length-append u v, length-append is₁ js, h c u is₁ c₁ x, h c₁ v js c′ y)
 
-definition-few : (ℓ : Ceilings) → Few (DefinitionForm ℓ)
+definition-few : (ℓ : Limits) → Few (DefinitionForm ℓ)
 definition-few ℓ c w is c′ (a-definition {u = u} {v = v} {w = x} l r i b f y) =
     omega (arith, length-append u (v ++ x), length-append v x, string-some r, number-some i, many-few (NameForm FieldName) (name-few FieldName) y)
 
-module _ (ℓ : Ceilings) (room : Bool) (G : Phrase Known Item) (h : Few G) where
+module _ (ℓ : Limits) (room : Bool) (G : Phrase Known Item) (h : Few G) where
   plain-few : Few (PlainForm ℓ room G)
   plain-few c w is c′ (a-leaf x) = omega (arith, scalar-some x)
   plain-few c w is c′ (a-few r l y) = omega (arith, many-few G h y)
@@ -66,19 +66,19 @@ module _ (ℓ : Ceilings) (room : Bool) (G : Phrase Known Item) (h : Few G) wher
   plain-few c w is c′ (an-object {u = u} {v = v} r q i y) = omega (arith, length-append u v, many-few G h y)
   plain-few c w is c′ (a-reference q l) = omega arith
 
-preceded-few : (ℓ : Ceilings) (G : Phrase Known Item) → Few G → {c c′ : Known} {w : List ℕ} {is : List Item} → Preceded 0x43 (DefinitionForm ℓ) G c w is c′ → length is ≤ length w
+preceded-few : (ℓ : Limits) (G : Phrase Known Item) → Few G → {c c′ : Known} {w : List ℕ} {is : List Item} → Preceded 0x43 (DefinitionForm ℓ) G c w is c′ → length is ≤ length w
 preceded-few ℓ G h (alone {c = c} {c′ = c′} {w = w} {is = is} x) = h c w is c′ x
 preceded-few ℓ G h (first {c = c} {c₁ = c₁} {u = u} {v = v} {is = is} {js = js} x r) = omega (arith, length-append u v, length-append is js, definition-few ℓ c u is c₁ x, preceded-few ℓ G h r)
 
-value-few : (ℓ : Ceilings) (d : ℕ) → Few (ValueForm ℓ d)
+value-few : (ℓ : Limits) (d : ℕ) → Few (ValueForm ℓ d)
 value-few ℓ zero c w is c′ x = preceded-few ℓ (PlainForm ℓ false Nowhere) (plain-few ℓ false Nowhere (λ c w is c′ x. absurd x)) x
 value-few ℓ (suc d) c w is c′ x = preceded-few ℓ (PlainForm ℓ true (ValueForm ℓ d)) (plain-few ℓ true (ValueForm ℓ d) (value-few ℓ d)) x
 
-module _ (ℓ : Ceilings) (d : ℕ) where
-  -- rows are at most as many as bytes
-  pub rows-few : (m : List ℕ) (r : List Item) → Reads ℓ d m r → length r ≤ length m
-  rows-few m r x = let y = reads-derived ℓ d m r x in value-few ℓ d start m r (y .known) (y .derived)
+-- rows are at most as many as bytes
+pub rows-few : (ℓ : Limits) (m : List ℕ) (r : List Item) → Reads ℓ m r → length r ≤ length m
+rows-few ℓ m r x = let y = reads-derived ℓ m r x in value-few ℓ (ℓ .containers) start m r (y .known) (y .derived)
 
+module _ (ℓ : Limits) (d : ℕ) where
   -- ---- what is read lies within the message; its items and what is known do not depend on what follows, nor on the place
   module _ (c : Known) (at : ℕ) (s : List ℕ) (b : Bytes s) (n : ℕ) (u : One) (es : List (Entry Item)) (c′ : Known) (e : byteAt (valueFrom ℓ d) c at s ≡ Done n u es c′) where
     value-form : (n ≤ length s) × ValueForm ℓ d c (take n s) (items es) c′

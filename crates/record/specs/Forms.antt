@@ -11,7 +11,7 @@ use Rattle.flow.specs.Flow.{pick, within, One, mapped, headed, many, untilEnd}
 use Rattle.scalar.specs.Scalars.{scalarFrom}
 use Rattle.scalar.specs.Chart.{ranges, rangeOf, leadOf, kindOf}
 use Rattle.scalar.specs.ScalarLaws.{isScalar}
-use Rattle.record.specs.Records.{Leaf, UntypedList, TypedList, UntypedMap, TypedMap, Object, Reference, Val, Ceilings, Opening, int, count, Reader, container, fieldValues, pair, withType, plainFrom}
+use Rattle.record.specs.Records.{Leaf, UntypedList, TypedList, UntypedMap, TypedMap, Object, Reference, Val, Limits, Opening, int, count, Reader, container, fieldValues, pair, withType, plainFrom}
 use Rattle.record.specs.Shorthands.{with-two, referenceTo}
 
 pub data Form : Type 0 where  -- the first byte of a value
@@ -36,7 +36,7 @@ formOf b =
     (pick (eqb b 0x4f) object
     (pick (eqb b 0x51) reference leaf))))))))))
 
-module _ (ℓ : Ceilings) where
+module _ (ℓ : Limits) where
   -- a value of this form, whose first byte is b, at p
   unfoldable pub plainBy : Option (Opening One) → Form → Opening One
   plainBy below leaf p b = headed p (λ x. Val (Leaf x)) (scalarFrom p b)

@@ -4,13 +4,13 @@ use Prim.Native.Nat.{ℕ, zero, suc, _+_, _^_, _≤_, _<_}
 use lib.{Dec.T, ListN.length, ListN.getD}
 use Rattle.flow.specs.Grammar.{Phrase, Many, Ended, Preceded}
 use Rattle.scalar.specs.{Scalars.Scalar, Grammar.{Spelt, Int, Text}}
-use Rattle.record.specs.Records.{Leaf, UntypedList, TypedList, UntypedMap, TypedMap, Object, Reference, Item, Val, Definition, ClassName, FieldName, TypeName, TypeNumber, Known, start, opened, typed, defined, Ceilings}
+use Rattle.record.specs.Records.{Leaf, UntypedList, TypedList, UntypedMap, TypedMap, Object, Reference, Item, Val, Definition, ClassName, FieldName, TypeName, TypeNumber, Known, start, opened, typed, defined, Limits}
 
 pub data NameForm (x : List ℕ → Item) : Known → List ℕ → List Item → Known → Type 0 where  -- a text, as the item x
   a-name : {c : Known} {w cs : List ℕ} → Text w cs → NameForm x c w (x cs ∷ []) c
 
 -- a type, and its number: a text gets the next one, an int names one given
-pub data TypeForm (ℓ : Ceilings) : Known → List ℕ → ℕ → List Item → Known → Type 0 where
+pub data TypeForm (ℓ : Limits) : Known → List ℕ → ℕ → List Item → Known → Type 0 where
   type-name : {c : Known} {w cs : List ℕ} → c .types < ℓ .types → Text w cs → TypeForm ℓ c w (c .types) (TypeName cs ∷ []) (typed c)
   type-number : {c : Known} {w : List ℕ} {k : ℕ} → Int w k → k < c .types → TypeForm ℓ c w k (TypeNumber k ∷ []) c
 
@@ -18,7 +18,7 @@ pub data PairForm (G : Phrase Known Item) : Known → List ℕ → List Item →
   a-pair : {c c₁ c₂ : Known} {u v : List ℕ} {is js : List Item} → G c u is c₁ → G c₁ v js c₂ → PairForm G c (u ++ v) (is ++ js) c₂
 
 -- a value with no definition before it; `room`: one more container may open; G: the values in it
-pub data PlainForm (ℓ : Ceilings) (room : Bool) (G : Phrase Known Item) : Known → List ℕ → List Item → Known → Type 0 where
+pub data PlainForm (ℓ : Limits) (room : Bool) (G : Phrase Known Item) : Known → List ℕ → List Item → Known → Type 0 where
   -- a text, bytes, an int, a long, a date, a double, null, false, true
   a-leaf : {c : Known} {w : List ℕ} {x : Scalar} → Spelt w x → PlainForm ℓ room G c w (Val (Leaf x) ∷ []) c
   -- 70-77 type; 56 type int; 55 type .. 5a: typed list
@@ -45,14 +45,14 @@ pub data PlainForm (ℓ : Ceilings) (room : Bool) (G : Phrase Known Item) : Know
   -- 51 int: reference
   a-reference : {c : Known} {k : ℕ} {w : List ℕ} → Int w k → k < c .references → PlainForm ℓ room G c (0x51 ∷ w) (Val (Reference k) ∷ []) c
 
-pub data DefinitionForm (ℓ : Ceilings) : Known → List ℕ → List Item → Known → Type 0 where  -- text int text*: a class definition, after its 43
+pub data DefinitionForm (ℓ : Limits) : Known → List ℕ → List Item → Known → Type 0 where  -- text int text*: a class definition, after its 43
   a-definition : {c c₁ : Known} {u v w cs : List ℕ} {n : ℕ} {is : List Item} → length (c .classes) < ℓ .classes → Text u cs → Int v n → n < 2 ^ 63 → n ≤ ℓ .fields
       → Many (NameForm FieldName) n c w is c₁ → DefinitionForm ℓ c (u ++ (v ++ w)) (Definition n ∷ ClassName cs ∷ is) (defined n c₁)
 
 -- definitions, each after its 43, and then a value; d more containers may open
-abbrev pub ValueForm : Ceilings → ℕ → Known → List ℕ → List Item → Known → Type 0
+abbrev pub ValueForm : Limits → ℕ → Known → List ℕ → List Item → Known → Type 0
 ValueForm ℓ zero = Preceded 0x43 (DefinitionForm ℓ) (PlainForm ℓ false (λ c w is c′. ⊥))
 ValueForm ℓ (suc d) = Preceded 0x43 (DefinitionForm ℓ) (PlainForm ℓ true (ValueForm ℓ d))
 
-abbrev pub Message : Ceilings → ℕ → List ℕ → List Item → Type 0  -- the message m has the items r
-Message ℓ d m r = record { known : Known; derived : ValueForm ℓ d start m r known }
+abbrev pub Message : Limits → List ℕ → List Item → Type 0  -- the message m has the items r
+Message ℓ m r = record { known : Known; derived : ValueForm ℓ (ℓ .containers) start m r known }

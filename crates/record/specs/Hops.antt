@@ -4,6 +4,7 @@ use mathlib.Core.Path.{_≡_}
 use mathlib.Core.List.{List, _∷_}
 use Prim.Native.Nat.{ℕ, suc, _≤_, _<_}
 use lib.ListN.{length, drop, getD}
+use Rattle.record.specs.Kinds.{class-kind}
 use Rattle.record.specs.Records.{Item, Row, row, holds}
 
 abbrev pub rowNumber : List Row → ℕ → Row  -- the row number i
@@ -13,9 +14,9 @@ rowNumber r i = getD r i (row 0 0 0 0 0)
 -- a value, a definition is hopped over by its own fifth number
 pub data Hops (r : List Row) : ℕ → ℕ → ℕ → Type 0 where
   arrived : {i : ℕ} → Hops r 0 i i
-  over-definition : {n i j : ℕ} → i < length r → rowNumber r i .kind ≡ 15
+  over-definition : {n i j : ℕ} → i < length r → rowNumber r i .kind ≡ class-kind
       → Hops r (suc n) (rowNumber r i .after) j → Hops r (suc n) i j
-  over-one : {n i j : ℕ} → i < length r → (rowNumber r i .kind ≡ 15 → ⊥)
+  over-one : {n i j : ℕ} → i < length r → (rowNumber r i .kind ≡ class-kind → ⊥)
       → Hops r n (rowNumber r i .after) j → Hops r (suc n) i j
 
 -- the fifth number of the row i, which is the row of the item x

@@ -1,4 +1,4 @@
--- The theorems over items, for every openFrom up to 48, all ceilings and every allowance d of open containers.
+-- The theorems over items, for all limits and every openFrom up to 48.
 use mathlib.Core.Path.{_≡_, refl}
 use mathlib.Core.Logic.{_↔_}
 use mathlib.Core.List.{List}
@@ -6,7 +6,7 @@ use mathlib.Core.Option.{Option, none, some}
 use Prim.Native.Nat.{ℕ, _≤_}
 use native.Mathlib.Omega.{arith}
 use lib.ListN.{length}
-use Rattle.record.specs.Records.{Item, Ceilings}
+use Rattle.record.specs.Records.{Item, Limits}
 use Rattle.record.specs.Terms.{Reads}
 use Rattle.record.specs.Grammar.{Message}
 use Rattle.record.specs.Answers.{spell}
@@ -15,28 +15,28 @@ use Rattle.record.specs.Short.{message-short}
 use Rattle.record.specs.Back.{message-back}
 
 -- a message reads as a record exactly when the grammar derives it
-pub grammar : (ℓ : Ceilings) (d : ℕ) (m : List ℕ) (r : List Item) → Reads ℓ d m r ↔ Message ℓ d m r
-grammar ℓ d m r = (reads-derived ℓ d m r, derived-reads ℓ d m r)
+pub grammar : (ℓ : Limits) (m : List ℕ) (r : List Item) → Reads ℓ m r ↔ Message ℓ m r
+grammar ℓ m r = (reads-derived ℓ m r, derived-reads ℓ m r)
 
-module _ (ℓ : Ceilings) (openFrom : ℕ) (most : openFrom ≤ 48) (d : ℕ) where
+module _ (ℓ : Limits) (openFrom : ℕ) (most : openFrom ≤ 48) where
   -- no message that reads as the record is shorter than its spelling
-  pub no-longer : (m : List ℕ) (r : List Item) → Reads ℓ d m r → (w : List ℕ) × (spell ℓ openFrom d r ≡ some w) × (length w ≤ length m)
-  no-longer m r x = message-short ℓ openFrom most d m r (reads-derived ℓ d m r x)
+  pub no-longer : (m : List ℕ) (r : List Item) → Reads ℓ m r → (w : List ℕ) × (spell ℓ openFrom r ≡ some w) × (length w ≤ length m)
+  no-longer m r x = message-short ℓ openFrom most m r (reads-derived ℓ m r x)
 
   -- the spelling reads back
-  pub reads-back : (r : List Item) (w : List ℕ) → spell ℓ openFrom d r ≡ some w → Reads ℓ d w r
-  reads-back r w e = derived-reads ℓ d w r (message-back ℓ openFrom most d r w e)
+  pub reads-back : (r : List Item) (w : List ℕ) → spell ℓ openFrom r ≡ some w → Reads ℓ w r
+  reads-back r w e = derived-reads ℓ w r (message-back ℓ openFrom most r w e)
 
   -- a record has no spelling exactly when no message reads as it
-  no-message : (r : List Item) → spell ℓ openFrom d r ≡ none → (m : List ℕ) → Reads ℓ d m r → ⊥
+  no-message : (r : List Item) → spell ℓ openFrom r ≡ none → (m : List ℕ) → Reads ℓ m r → ⊥
   no-message r e m x = let p = no-longer m r x in let q = p .1 in absurd (let z : _≡_ {A = ℕ} 0 1 = cc in omega arith)
 
-  none-spelled : (r : List Item) → ((m : List ℕ) → Reads ℓ d m r → ⊥) → spell ℓ openFrom d r ≡ none
-  none-spelled r h = go (spell ℓ openFrom d r) refl
+  none-spelled : (r : List Item) → ((m : List ℕ) → Reads ℓ m r → ⊥) → spell ℓ openFrom r ≡ none
+  none-spelled r h = go (spell ℓ openFrom r) refl
     where
-      go : (o : Option (List ℕ)) → spell ℓ openFrom d r ≡ o → o ≡ none
+      go : (o : Option (List ℕ)) → spell ℓ openFrom r ≡ o → o ≡ none
       go none e = refl
       go (some w) e = absurd (h w (reads-back r w e))
 
-  pub no-record : (r : List Item) → (spell ℓ openFrom d r ≡ none) ↔ ((m : List ℕ) → Reads ℓ d m r → ⊥)
+  pub no-record : (r : List Item) → (spell ℓ openFrom r ≡ none) ↔ ((m : List ℕ) → Reads ℓ m r → ⊥)
   no-record r = (no-message r, none-spelled r)

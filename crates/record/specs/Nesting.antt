@@ -18,7 +18,7 @@ use Rattle.scalar.specs.Grammar.{Spelt, Int, Text}
 use Rattle.scalar.specs.ScalarLaws.{scalar-scans, int-scans, text-scans}
 use Rattle.record.specs.Records.{Leaf, UntypedList, TypedList, UntypedMap, TypedMap, Object, Reference, Value}
 use Rattle.record.specs.Records.{Item, Val, Definition, ClassName, FieldName, TypeName, TypeNumber, Known, start}
-use Rattle.record.specs.Records.{Ceilings, Reader, Opening, int, count, name, container, fieldValues, pair}
+use Rattle.record.specs.Records.{Limits, Reader, Opening, int, count, name, container, fieldValues, pair}
 use Rattle.record.specs.Records.{typeFrom, withType, fieldNames, plainFrom, definition, valueFrom, message}
 use Rattle.record.specs.Records.{holds, begins}
 use Rattle.record.specs.Forms.{Form, leaf, few, few-typed, few-object, counted, counted-typed, open-list}
@@ -245,7 +245,7 @@ module _ (m : List ℕ) where
         cond-yields (ltb j (length (c .classes)))
         (map-yields (λ u. n) (many-yields trees-grow h n k)) (fail-yields 6 p))
 
-    module _ (ℓ : Ceilings) where
+    module _ (ℓ : Limits) where
       type-yields : Anywhere Tree (byteAt (typeFrom ℓ))
       unfolding typeFrom
       type-yields = byte-yields (λ p b e. cond-yields (isText b)
@@ -359,12 +359,12 @@ module _ (m : List ℕ) where
           go c [] = refl
           go c (b ∷ s) = tt
 
-      message-yields : (d : ℕ) → Yields 0 Tree (message ℓ d)
+      message-yields : Yields 0 Tree (message ℓ)
       unfolding message
-      message-yields d = bind-yields (byte-yields (value-yields d) 0) (λ u. end-of-message)
+      message-yields = bind-yields (byte-yields (value-yields (ℓ .containers)) 0) (λ u. end-of-message)
           (λ u v es fs x y. rw (y, append-nil) x)
 
 -- the entries of a message that is accepted
-pub message-forest : (ℓ : Ceilings) (d : ℕ) (m : List ℕ) → Bytes m → (n : ℕ) (es : List (Entry Item)) (c : Known)
-    → message ℓ d start 0 m ≡ Done n tt es c → EntryForest m 1 es
-message-forest ℓ d m bytes n es c e = subst (OfOutcome (Tree m)) e (message-yields m bytes ℓ d .yields start)
+pub message-forest : (ℓ : Limits) (m : List ℕ) → Bytes m → (n : ℕ) (es : List (Entry Item)) (c : Known)
+    → message ℓ start 0 m ≡ Done n tt es c → EntryForest m 1 es
+message-forest ℓ m bytes n es c e = subst (OfOutcome (Tree m)) e (message-yields m bytes ℓ .yields start)

@@ -8,7 +8,7 @@ use native.Mathlib.Omega.{arith}
 use lib.ListN.{length, length-append}
 use Rattle.flow.specs.Flow.{Bytes}
 use Rattle.flow.specs.Grammar.{Phrase, Many, finished, another, Ended, ended, Preceded, alone, first}
-use Rattle.record.specs.Records.{Item, FieldName, Known, start, Ceilings}
+use Rattle.record.specs.Records.{Item, FieldName, Known, start, Limits}
 use Rattle.record.specs.Grammar.{NameForm, a-name, TypeForm, type-name, type-number, PairForm, a-pair, PlainForm, a-leaf, a-few-typed, a-counted-typed, an-open-typed, a-few, a-counted, an-open, a-typed-map, a-map, a-few-object, an-object, a-reference, DefinitionForm, a-definition, ValueForm}
 use Rattle.record.specs.Shorthands.{Nowhere}
 use Rattle.record.specs.Answers.{definition?}
@@ -56,7 +56,7 @@ pair-adds : (G : Phrase Known Item) → Adds G → Adds (PairForm G)
 pair-adds G h c w is c′ (a-pair {c₁ = c₁} {u = u} {v = v} {is = is₁} {js = js} x y) =
     (omega (arith, length-append is₁ js, h c u is₁ c₁ x .0), seam c c₁ c′ is₁ js (h c u is₁ c₁ x .1) (h c₁ v js c′ y .1))
 
-type-adds : (ℓ : Ceilings) {c c′ : Known} {w : List ℕ} {t : ℕ} {is : List Item} → TypeForm ℓ c w t is c′ → After c is c′
+type-adds : (ℓ : Limits) {c c′ : Known} {w : List ℕ} {t : ℕ} {is : List Item} → TypeForm ℓ c w t is c′ → After c is c′
 type-adds ℓ (type-name {c = c} l r) = sym (append-nil (c .classes))
 type-adds ℓ (type-number {c = c} x l) = sym (append-nil (c .classes))
 
@@ -65,12 +65,12 @@ names-add : {n : ℕ} {c c′ : Known} {w : List ℕ} {is : List Item} → Many 
 names-add finished = (refl, refl)
 names-add (another (a-name t) r) = names-add r
 
-definition-adds : (ℓ : Ceilings) → Adds (DefinitionForm ℓ)
+definition-adds : (ℓ : Limits) → Adds (DefinitionForm ℓ)
 definition-adds ℓ c w is c′ (a-definition {n = n} l r i b f y) =
     let p = names-add y in
     (omega arith, ap (λ (z : List ℕ). z ++ (n ∷ [])) (p .0) ∙ ap (λ (z : List ℕ). c .classes ++ (n ∷ z)) (sym (p .1)))
 
-module _ (ℓ : Ceilings) (room : Bool) (G : Phrase Known Item) (h : Adds G) where
+module _ (ℓ : Limits) (room : Bool) (G : Phrase Known Item) (h : Adds G) where
   plain-adds : Adds (PlainForm ℓ room G)
   plain-adds c w is c′ (a-leaf x) = (omega arith, sym (append-nil (c .classes)))
   plain-adds c w is c′ (a-few r l y) = (omega arith, many-adds G h y)
@@ -85,18 +85,18 @@ module _ (ℓ : Ceilings) (room : Bool) (G : Phrase Known Item) (h : Adds G) whe
   plain-adds c w is c′ (an-object r q i y) = (omega arith, many-adds G h y)
   plain-adds c w is c′ (a-reference q l) = (omega arith, sym (append-nil (c .classes)))
 
-preceded-adds : (ℓ : Ceilings) (G : Phrase Known Item) → Adds G → {c c′ : Known} {w : List ℕ} {is : List Item} → Preceded 0x43 (DefinitionForm ℓ) G c w is c′ → (0 < length is) × After c is c′
+preceded-adds : (ℓ : Limits) (G : Phrase Known Item) → Adds G → {c c′ : Known} {w : List ℕ} {is : List Item} → Preceded 0x43 (DefinitionForm ℓ) G c w is c′ → (0 < length is) × After c is c′
 preceded-adds ℓ G h (alone {c = c} {c′ = c′} {w = w} {is = is} x) = h c w is c′ x
 preceded-adds ℓ G h (first {c = c} {c₁ = c₁} {c₂ = c₂} {u = u} {is = is} {js = js} x r) =
     let p = definition-adds ℓ c u is c₁ x in
     (omega (arith, length-append is js, p .0), seam c c₁ c₂ is js (p .1) (preceded-adds ℓ G h r .1))
 
-value-adds : (ℓ : Ceilings) (d : ℕ) → Adds (ValueForm ℓ d)
+value-adds : (ℓ : Limits) (d : ℕ) → Adds (ValueForm ℓ d)
 value-adds ℓ zero c w is c′ x = preceded-adds ℓ (PlainForm ℓ false Nowhere) (plain-adds ℓ false Nowhere (λ c w is c′ x. absurd x)) x
 value-adds ℓ (suc d) c w is c′ x = preceded-adds ℓ (PlainForm ℓ true (ValueForm ℓ d)) (plain-adds ℓ true (ValueForm ℓ d) (value-adds ℓ d)) x
 
-pub accepted-adds : (ℓ : Ceilings) (d longest : ℕ) (m : List ℕ) → Bytes m → (r : List Item) (x : Accepts ℓ d longest m r) → (0 < length r) × (x .known .classes ≡ definitions r)
-accepted-adds ℓ d longest m b r x =
-    let p = judged-done ℓ d longest m (length m) (x .entries) (x .known) (x .done) in
-    let v = message-form ℓ d m b (length m) tt (x .entries) (x .known) (p .1) in
-    subst (λ (z : List Item). (0 < length z) × (x .known .classes ≡ definitions z)) (x .reads-as) (value-adds ℓ d start m _ (x .known) v)
+pub accepted-adds : (ℓ : Limits) (m : List ℕ) → Bytes m → (r : List Item) (x : Accepts ℓ m r) → (0 < length r) × (x .known .classes ≡ definitions r)
+accepted-adds ℓ m b r x =
+    let p = judged-done ℓ m (length m) (x .entries) (x .known) (x .done) in
+    let v = message-form ℓ m b (length m) tt (x .entries) (x .known) (p .1) in
+    subst (λ (z : List Item). (0 < length z) × (x .known .classes ≡ definitions z)) (x .reads-as) (value-adds ℓ (ℓ .containers) start m _ (x .known) v)

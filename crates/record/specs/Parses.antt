@@ -15,7 +15,7 @@ use Rattle.flow.specs.Laws as Laws
 use Rattle.scalar.specs.Scalars.{isText, scalarFrom, intFrom, textFrom}
 use Rattle.scalar.specs.Grammar.{Spelt, Int, Text}
 use Rattle.scalar.specs.ScalarLaws.{scalar-scans, int-scans, text-scans}
-use Rattle.record.specs.Records.{Leaf, UntypedList, TypedList, UntypedMap, TypedMap, Object, Reference, Item, Val, Definition, ClassName, FieldName, TypeName, TypeNumber, Known, opened, typed, defined, Ceilings, Reader, Opening, int, count, name, container, fieldValues, pair, typeFrom, withType, fieldNames, plainFrom, definition, valueFrom}
+use Rattle.record.specs.Records.{Leaf, UntypedList, TypedList, UntypedMap, TypedMap, Object, Reference, Item, Val, Definition, ClassName, FieldName, TypeName, TypeNumber, Known, opened, typed, defined, Limits, Reader, Opening, int, count, name, container, fieldValues, pair, typeFrom, withType, fieldNames, plainFrom, definition, valueFrom}
 use Rattle.record.specs.Forms.{Form, leaf, few, few-typed, few-object, counted, counted-typed, open-list, open-typed, open-map, typed-map, object, reference, formOf, plainBy, plain-is, FormFact, form-fact}
 use Rattle.record.specs.Shorthands.{Two, with-two, Nowhere, typeNumber, referenceTo}
 use Rattle.record.specs.Grammar.{NameForm, a-name, TypeForm, type-name, type-number, PairForm, a-pair, DefinitionForm, a-definition, PlainForm, a-leaf, a-few, a-counted, an-open, a-few-typed, a-counted-typed, an-open-typed, a-map, a-typed-map, a-few-object, an-object, a-reference, ValueForm}
@@ -66,7 +66,7 @@ typedMap x = Val (TypedMap (x .1) (x .0))
 abbrev objectOf : Two → Item
 objectOf x = Val (Object (x .0) (x .1))
 
-module _ (ℓ : Ceilings) where
+module _ (ℓ : Limits) where
   -- ---- types
   types : (c : Known) (at : ℕ) (s : List ℕ) → Bytes s → Parsed (λ w t is c′. TypeForm ℓ c w t is c′) s (byteAt (typeFrom ℓ) c at s)
   unfolding typeFrom

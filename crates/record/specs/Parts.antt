@@ -21,7 +21,7 @@ use Rattle.scalar.specs.Answers.{numberAt}
 use Rattle.scalar.specs.NumberAt.{number-lifts}
 use Rattle.scalar.specs.TextLaws.{string-lifts}
 use Rattle.scalar.specs.Answers.{Sizes, sized, sizes, measuredAt}
-use Rattle.record.specs.Records.{Item, TypeName, TypeNumber, Known, typed, Ceilings, Reader, Opening, int, count, name, typeFrom, Row, row, textRow, itemRow}
+use Rattle.record.specs.Records.{Item, TypeName, TypeNumber, Known, typed, Limits, Reader, Opening, int, count, name, typeFrom, Row, row, textRow, itemRow}
 use Rattle.record.specs.Shorthands.{typeNumber, typeName}
 use Rattle.record.specs.Placed.{Placed, Got, Lost, placed, run, on, through, topped, front-none, run-give, run-fail, run-byte, run-end, run-changing, run-asking, run-test, run-headed, run-mapped, run-bind}
 
@@ -135,7 +135,7 @@ module _ (c : Known) (m : List ℕ) (p : ℕ) where
     name-lost y o h = name-laid (Fault y o) h
 
 -- ---- a type
-module _ (ℓ : Ceilings) (c : Known) (m : List ℕ) (p : ℕ) where
+module _ (ℓ : Limits) (c : Known) (m : List ℕ) (p : ℕ) where
   pub type-end : length m ≤ p → run (byteAt (typeFrom ℓ)) c m p ≡ Lost 2 p
   type-end l = run-end (typeFrom ℓ) c m p l
 

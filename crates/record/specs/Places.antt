@@ -5,7 +5,7 @@ use mathlib.Core.List.{List, [], _∷_, _++_}
 use Prim.Native.Nat.{ℕ, _<_}
 use lib.ListN.{length, drop}
 use Rattle.flow.specs.Flow.{Bytes, Entry, Done}
-use Rattle.record.specs.Records.{Item, Known, start, Ceilings, message}
+use Rattle.record.specs.Records.{Item, Known, start, Limits, message}
 use Rattle.record.specs.Forest.{Opens, EntryForest, no-entries, entries-beside, entry-over, entries-behind}
 use Rattle.record.specs.Nesting.{message-forest}
 
@@ -26,6 +26,6 @@ module _ (m : List ℕ) where
   forest-open (entries-behind {es = es} {fs = fs} l x e y) = (l, tt, append-open es fs (forest-open x) (forest-open y))
 
 -- every item's place lies in the message and opens its content
-pub places : (ℓ : Ceilings) (d : ℕ) (m : List ℕ) → Bytes m → (n : ℕ) (es : List (Entry Item)) (c : Known)
-    → message ℓ d start 0 m ≡ Done n tt es c → EntriesOpen m es
-places ℓ d m bytes n es c e = forest-open m (message-forest ℓ d m bytes n es c e)
+pub places : (ℓ : Limits) (m : List ℕ) → Bytes m → (n : ℕ) (es : List (Entry Item)) (c : Known)
+    → message ℓ start 0 m ≡ Done n tt es c → EntriesOpen m es
+places ℓ m bytes n es c e = forest-open m (message-forest ℓ m bytes n es c e)

@@ -2,8 +2,11 @@
 use mathlib.Core.{Path._≡_, Bool.cond, Bool._||_, List.List, List.[], List._∷_, List._++_, List.map, Option.Option, Option.none, Option.some}
 use Prim.Native.Nat.{ℕ, zero, suc, _+_, _-_, _*_, _^_}
 use lib.{Dec.ltb, Dec.eqb, ListN.length, ListN.take, ListN.drop, ListN.getD}
+use Rattle.flow.specs.RefusalNumbers.{negative, ungiven, over-ceiling, bytes-after}
 use Rattle.flow.specs.Flow.{pick, within, Entry, Outcome, Done, Fault, Read, From, One, give, fail, byteAt, changing, asking, mapped, headed, bind, after, many, untilEnd, precededBy}
 use Rattle.scalar.specs.{declared.Kind.the-variants.{Utf8, Binary}, Scalars.{sortKind, units, stringAt, Scalar, Num, Str, isText, scalarFrom, intFrom, textFrom}}
+use Rattle.record.specs.Kinds.{text-kind, bytes-kind, list-kind, typed-list-kind, map-kind, typed-map-kind, object-kind, reference-kind}
+use Rattle.record.specs.Kinds.{class-kind, class-name-kind, field-name-kind, type-name-kind, type-number-kind}
 
 -- a value, by the kind of its row: 0 to 8 a scalar; 9 a list of so many elements; 10 one of a type number; 11 a map of so many
 -- pairs; 12 one of a type number; 13 an object of a class number, with so many fields; 14 a reference to a number
@@ -34,9 +37,10 @@ typed c = record { references = c .references; types = suc (c .types); classes =
 abbrev pub defined : ℕ → Known → Known  -- a definition of n fields is complete: it gets the next class number
 defined n c = record { references = c .references; types = c .types; classes = c .classes ++ (n ∷ []) }
 
--- the ceilings: type names, class definitions, fields of one class. Containers open at once, and the length, are arguments
-abbrev pub Ceilings : Type 0
-Ceilings = record { types : ℕ; classes : ℕ; fields : ℕ }
+-- the ceilings: bytes of the longest message; lists, maps and objects open at once; type names; class definitions;
+-- fields of one class
+abbrev pub Limits : Type 0
+Limits = record { longest : ℕ; containers : ℕ; types : ℕ; classes : ℕ; fields : ℕ }
 
 -- ---- what a message reads as: items with their places, or the first refusal from left to right
 abbrev pub Reader : Type 0 → Type 0
@@ -49,27 +53,27 @@ abbrev pub int : {A : Type 0} → (ℕ → ℕ → Reader A) → Reader A  -- an
 int g = byteAt (λ p b. bind (intFrom p b) (g p))
 
 abbrev pub count : {A : Type 0} → (ℕ → ℕ → Reader A) → Reader A  -- a count: a negative one is refusal 5 at its first byte
-count g = int (λ o n. cond (ltb n (2 ^ 63)) (g o n) (fail 5 o))
+count g = int (λ o n. cond (ltb n (2 ^ 63)) (g o n) (fail negative o))
 
 abbrev pub name : (List ℕ → Item) → Opening One  -- a text, as the item x
 name x p b = headed p x (textFrom p b)
 
 -- a list, map or object whose opening code stands at p: refusal 7 there where no more may open, before all else about it
 abbrev pub container : Option (Opening One) → ℕ → (Opening One → Reader One) → Reader One
-container below p body = elim below [ none ↦ fail 7 p | some f ↦ changing opened (body f) ]
+container below p body = elim below [ none ↦ fail over-ceiling p | some f ↦ changing opened (body f) ]
 
 -- the fields of an object of class k, and how many: an ungiven class is refusal 6 at the object's code, at p
 abbrev pub fieldValues : Opening One → ℕ → ℕ → Reader ℕ
-fieldValues f p k = asking (λ c. cond (ltb k (length (c .classes))) (mapped (λ u. getD (c .classes) k 0) (many f (getD (c .classes) k 0))) (fail 6 p))
+fieldValues f p k = asking (λ c. cond (ltb k (length (c .classes))) (mapped (λ u. getD (c .classes) k 0) (many f (getD (c .classes) k 0))) (fail ungiven p))
 
 abbrev pub pair : Opening One → Opening One  -- a key and its value
 pair f p b = after (f p b) (byteAt f)
 
-module _ (ℓ : Ceilings) where
+module _ (ℓ : Limits) where
   -- a type, and its number: a text gets the next one, and one too many is refusal 7 at p; an int names one, and an ungiven one is refusal 6 there
   unfoldable pub typeFrom : Opening ℕ
-  typeFrom p b = cond (isText b) (asking (λ c. cond (ltb (c .types) (ℓ .types)) (mapped (λ u. c .types) (changing typed (name TypeName p b))) (fail 7 p)))
-      (bind (intFrom p b) (λ k. asking (λ c. cond (ltb k (c .types)) (mapped (λ u. k) (headed p TypeNumber (give k))) (fail 6 p))))
+  typeFrom p b = cond (isText b) (asking (λ c. cond (ltb (c .types) (ℓ .types)) (mapped (λ u. c .types) (changing typed (name TypeName p b))) (fail over-ceiling p)))
+      (bind (intFrom p b) (λ k. asking (λ c. cond (ltb k (c .types)) (mapped (λ u. k) (headed p TypeNumber (give k))) (fail ungiven p))))
 
   abbrev pub withType : {A : Type 0} → (ℕ → Reader A) → Reader A  -- a type, and then what its number says
   withType g = bind (byteAt typeFrom) g
@@ -88,22 +92,23 @@ module _ (ℓ : Ceilings) where
       (pick (eqb b 0x48) (container below p (λ f. headed p (λ n. Val (UntypedMap n)) (untilEnd 0x5a (pair f))))
       (pick (within 0x60 0x70 b) (container below p (λ f. headed p (λ n. Val (Object (b - 0x60) n)) (fieldValues f p (b - 0x60))))
       (pick (eqb b 0x4f) (container below p (λ f. headed p (λ (x : ℕ × ℕ). Val (Object (x .0) (x .1))) (int (λ o k. mapped (λ n. (k, n)) (fieldValues f p k)))))
-      (pick (eqb b 0x51) (headed p (λ k. Val (Reference k)) (int (λ o k. asking (λ c. cond (ltb k (c .references)) (give k) (fail 6 p)))))
+      (pick (eqb b 0x51) (headed p (λ k. Val (Reference k)) (int (λ o k. asking (λ c. cond (ltb k (c .references)) (give k) (fail ungiven p)))))
       (headed p (λ x. Val (Leaf x)) (scalarFrom p b))))))))))))
 
   -- the field names of a class, whose count n stands at o: too many are refusal 7 there. The class number is given when they are read
   abbrev pub fieldNames : ℕ → ℕ → Reader ℕ
-  fieldNames o n = cond (ltb (ℓ .fields) n) (fail 7 o) (after (many (name FieldName) n) (changing (defined n) (give n)))
+  fieldNames o n = cond (ltb (ℓ .fields) n) (fail over-ceiling o) (after (many (name FieldName) n) (changing (defined n) (give n)))
 
   unfoldable pub definition : ℕ → Reader One  -- a class definition, after its 43, at p: one too many is refusal 7 there
-  definition p = asking (λ c. cond (ltb (length (c .classes)) (ℓ .classes)) (headed p Definition (after (byteAt (name ClassName)) (count fieldNames))) (fail 7 p))
+  definition p = asking (λ c. cond (ltb (length (c .classes)) (ℓ .classes)) (headed p Definition (after (byteAt (name ClassName)) (count fieldNames))) (fail over-ceiling p))
 
   unfoldable pub valueFrom : (allowance : ℕ) → Opening One  -- any number of class definitions, and then a value; `allowance` more containers may open
   valueFrom zero = precededBy 0x43 definition (plainFrom none)
   valueFrom (suc d) = precededBy 0x43 definition (plainFrom (some (valueFrom d)))
 
-  unfoldable pub message : ℕ → Reader One  -- a message: one record, and nothing after it: a byte there is refusal 8
-  message d = after (byteAt (valueFrom d)) (λ c at s. elim s [ [] ↦ Done 0 tt [] c | b ∷ t ↦ Fault 8 at ])
+  -- a message: one record, and nothing after it: a byte there is refusal 8
+  unfoldable pub message : Reader One
+  message = after (byteAt (valueFrom (ℓ .containers))) (λ c at s. elim s [ [] ↦ Done 0 tt [] c | b ∷ t ↦ Fault bytes-after at ])
 
 -- ---- rows: kind, place, first, second, after. An unused first or second is 0; after is the number of the row just
 -- after the value, definition or single item that the row opens, where a record's rows are numbered from 0
@@ -120,19 +125,19 @@ textRow k p e cs = row k p (units Utf8 cs) (length cs) e
 -- 2 true, 3 int, 4 long, 5 double, 6 date, 7 text, 8 bytes
 abbrev pub itemRow : ℕ → ℕ → Item → Row
 itemRow p e (Val (Leaf (Num s v))) = row (sortKind s) p v 0 e
-itemRow p e (Val (Leaf (Str Utf8 cs))) = textRow 7 p e cs
-itemRow p e (Val (Leaf (Str Binary cs))) = row 8 p (length cs) 0 e
-itemRow p e (Val (UntypedList n)) = row 9 p n 0 e
-itemRow p e (Val (TypedList n t)) = row 10 p n t e
-itemRow p e (Val (UntypedMap n)) = row 11 p n 0 e
-itemRow p e (Val (TypedMap n t)) = row 12 p n t e
-itemRow p e (Val (Object k n)) = row 13 p k n e
-itemRow p e (Val (Reference k)) = row 14 p k 0 e
-itemRow p e (Definition n) = row 15 p n 0 e
-itemRow p e (ClassName cs) = textRow 16 p e cs
-itemRow p e (FieldName cs) = textRow 17 p e cs
-itemRow p e (TypeName cs) = textRow 18 p e cs
-itemRow p e (TypeNumber k) = row 19 p k 0 e
+itemRow p e (Val (Leaf (Str Utf8 cs))) = textRow text-kind p e cs
+itemRow p e (Val (Leaf (Str Binary cs))) = row bytes-kind p (length cs) 0 e
+itemRow p e (Val (UntypedList n)) = row list-kind p n 0 e
+itemRow p e (Val (TypedList n t)) = row typed-list-kind p n t e
+itemRow p e (Val (UntypedMap n)) = row map-kind p n 0 e
+itemRow p e (Val (TypedMap n t)) = row typed-map-kind p n t e
+itemRow p e (Val (Object k n)) = row object-kind p k n e
+itemRow p e (Val (Reference k)) = row reference-kind p k 0 e
+itemRow p e (Definition n) = row class-kind p n 0 e
+itemRow p e (ClassName cs) = textRow class-name-kind p e cs
+itemRow p e (FieldName cs) = textRow field-name-kind p e cs
+itemRow p e (TypeName cs) = textRow type-name-kind p e cs
+itemRow p e (TypeNumber k) = row type-number-kind p k 0 e
 
 abbrev pub rowsFrom : ℕ → List (Entry Item) → List Row  -- the rows of entries, numbered from k
 rowsFrom k [] = []
@@ -200,10 +205,14 @@ contentOf x = elim x [ Val v ↦ valueContent v | Definition n ↦ [] | ClassNam
 abbrev pub told : Outcome One One (List ℕ) → Option (List ℕ)
 told a = elim a [ Done n cs es c ↦ some cs | Fault x o ↦ none ]
 
--- the content that a row of the kind k and the place p has in the source: 7, 16, 17 and 18 a text's, 8 a byte string's, the others an empty one;
--- none where no complete item of its kind is opened there
+-- the content that a row of the kind k and the place p has in the source: a text or a name (the kinds from a class name's
+-- to below a type number's) a text's, a byte string its bytes, the others an empty one; none where no complete item of
+-- its kind is opened there
 unfoldable pub contentAt : List ℕ → ℕ → ℕ → Option (List ℕ)
-contentAt source k p = pick (eqb k 8) (told (stringAt Binary source p)) (pick (eqb k 7 || within 16 19 k) (told (stringAt Utf8 source p)) (some []))
+contentAt source k p =
+    pick (eqb k bytes-kind) (told (stringAt Binary source p))
+    (pick (eqb k text-kind || within class-name-kind type-number-kind k) (told (stringAt Utf8 source p))
+    (some []))
 
 -- a row claims an item: it is the item's row at its own place, which opens the item's content
 abbrev pub Claims : List ℕ → Row → Item → Type 0

@@ -11,7 +11,7 @@ use Rattle.flow.specs.Flow.{Fault, One, give, fail, byteAt, changing, mapped, h
 use Rattle.flow.specs.Refusals as tell
 use Rattle.scalar.specs.Scalars.{isText, scalarFrom, intFrom, textFrom}
 use Rattle.scalar.specs.Refusals.{scalar-tells, int-tells, text-tells}
-use Rattle.record.specs.Records.{Leaf, UntypedList, TypedList, UntypedMap, TypedMap, Object, Reference, Item, Val, Definition, ClassName, FieldName, TypeName, TypeNumber, Known, start, typed, defined, Ceilings, Reader, Opening, int, count, name, container, fieldValues, pair, typeFrom, withType, fieldNames, plainFrom, definition, valueFrom, message}
+use Rattle.record.specs.Records.{Leaf, UntypedList, TypedList, UntypedMap, TypedMap, Object, Reference, Item, Val, Definition, ClassName, FieldName, TypeName, TypeNumber, Known, start, typed, defined, Limits, Reader, Opening, int, count, name, container, fieldValues, pair, typeFrom, withType, fieldNames, plainFrom, definition, valueFrom, message}
 use Rattle.record.specs.Forms.{Form, leaf, few, few-typed, few-object, counted, counted-typed, open-list, open-typed, open-map, typed-map, object, reference, formOf, plainBy, plain-is}
 use Rattle.record.specs.Shorthands.{with-two, typeNumber, referenceTo, typeName, ending}
 
@@ -66,7 +66,7 @@ module _ (end : ℕ) where
   container-part none h p m body k c at s l = ((omega arith, omega arith), m)
   container-part (some f) h p m body k c at s l = k f h _ at s l
 
-  module _ (ℓ : Ceilings) where
+  module _ (ℓ : Limits) where
     type-name-part : TellsFrom (typeName ℓ)
     type-name-part p b m c at s =
         tell.cond-tells Numbered end (ltb (c .types) (ℓ .types)) (mapped (λ u. c .types) (changing typed (name TypeName p b))) (fail 7 p)
@@ -121,14 +121,14 @@ module _ (end : ℕ) where
     value-part zero = tell.precededBy-tells Numbered end two 0x43 (definition ℓ) (plainFrom ℓ none) definition-part (from-part none tt)
     value-part (suc d) = tell.precededBy-tells Numbered end two 0x43 (definition ℓ) (plainFrom ℓ (some (valueFrom ℓ d))) definition-part (from-part (some (valueFrom ℓ d)) (value-part d))
 
-    message-tells : (d : ℕ) → Tells (message ℓ d)
+    message-tells : Tells (message ℓ)
     unfolding message
-    message-tells d = tell.bind-tells Numbered end (byteAt (valueFrom ℓ d)) (λ u. ending) (tell.byte-tells Numbered end two (valueFrom ℓ d) (value-part d)) (λ u. ending-part)
+    message-tells = tell.bind-tells Numbered end (byteAt (valueFrom ℓ (ℓ .containers))) (λ u. ending) (tell.byte-tells Numbered end two (valueFrom ℓ (ℓ .containers)) (value-part (ℓ .containers))) (λ u. ending-part)
 
 -- the refusals of a message that is neither empty nor too long, and how far it is read
-module _ (ℓ : Ceilings) (d : ℕ) where
-  pub message-within : (m : List ℕ) → tell.Told Numbered (length m) m (message ℓ d start 0 m)
-  message-within m = message-tells (length m) ℓ d start 0 m (omega arith)
+module _ (ℓ : Limits) where
+  pub message-within : (m : List ℕ) → tell.Told Numbered (length m) m (message ℓ start 0 m)
+  message-within m = message-tells (length m) ℓ start 0 m (omega arith)
 
-  pub message-numbered : (x o : ℕ) (m : List ℕ) → message ℓ d start 0 m ≡ Fault x o → Numbered x
+  pub message-numbered : (x o : ℕ) (m : List ℕ) → message ℓ start 0 m ≡ Fault x o → Numbered x
   message-numbered x o m e = subst (tell.Told Numbered (length m) m) e (message-within m) .0

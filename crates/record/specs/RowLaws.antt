@@ -1,10 +1,18 @@
 -- Rows: the struct of the code, and that a row's other numbers do not depend on its place and its fifth number.
 use mathlib.Core.Path.{_≡_, refl}
 use Prim.Native.Nat.{ℕ}
+use Rattle.scalar.specs.declared.Sort.the-variants as sort
 use Rattle.scalar.specs.declared.Kind.the-variants.{Utf8, Binary}
-use Rattle.scalar.specs.Scalars.{Num, Str}
+use Rattle.scalar.specs.Scalars.{sortKind, Num, Str}
+use Rattle.record.specs.Kinds.{null-kind, false-kind, true-kind, int-kind, long-kind, double-kind, date-kind}
 use Rattle.record.specs.Records.{Leaf, UntypedList, TypedList, UntypedMap, TypedMap, Object, Reference, Item, Val, Definition, ClassName, FieldName, TypeName, TypeNumber, Row, row, itemRow}
 use Rattle.record.specs.declared.Row as code
+
+-- the kinds of single values, by their sorts
+pub sort-kinds : (sortKind sort.Null ≡ null-kind) × (sortKind sort.False ≡ false-kind) × (sortKind sort.True ≡ true-kind)
+    × (sortKind sort.Int ≡ int-kind) × (sortKind sort.Long ≡ long-kind) × (sortKind sort.Double ≡ double-kind)
+    × (sortKind sort.Date ≡ date-kind)
+sort-kinds = (refl, refl, refl, refl, refl, refl, refl)
 
 -- the row that is held in the code's struct
 abbrev pub rowOf : code.Row → Row

@@ -3,7 +3,7 @@ use mathlib.Core.Path.{_≡_, refl, sym, _∙_, ap, ap₂}
 use mathlib.Core.Logic.{_↔_}
 use mathlib.Core.List.{List, [], _∷_}
 use Prim.Native.Nat.{ℕ}
-use Rattle.record.specs.Records.{Item, Ceilings, Row, row, contentAt, Claims, ClaimItems, no-rows, a-row, afters, ClaimAll}
+use Rattle.record.specs.Records.{Item, Limits, Row, row, contentAt, Claims, ClaimItems, no-rows, a-row, afters, ClaimAll}
 use Rattle.record.specs.RowLaws.{moved, item-moved}
 use Rattle.record.specs.Answers.{spell, shortestOf}
 use Rattle.record.specs.Claimed.{onSome, all-claimed}
@@ -48,6 +48,6 @@ same-exactly s t {r} {is} c q = (λ h. record { each = forward (c .each) h; fift
     backward (a-row {x = x} {i = i} c cs) (a-row {x = y} d ds) e = same-row (claims-same s t x y i (cc) c d) (backward cs ds (cc))
 
 -- so two tables of the same record have one shortest message: true copies are equal byte for byte
-pub one-message : (ℓ : Ceilings) (openFrom d : ℕ) (s t : List ℕ) {r : List Row} {is : List Item} → ClaimAll s r is → (q : List Row) → SameRecord s t r q → shortestOf ℓ openFrom d s r ≡ shortestOf ℓ openFrom d t q
+pub one-message : (ℓ : Limits) (openFrom : ℕ) (s t : List ℕ) {r : List Row} {is : List Item} → ClaimAll s r is → (q : List Row) → SameRecord s t r q → shortestOf ℓ openFrom s r ≡ shortestOf ℓ openFrom t q
 unfolding shortestOf
-one-message ℓ openFrom d s t c q h = ap (onSome (spell ℓ openFrom d)) (all-claimed s c ∙ sym (all-claimed t (same-exactly s t c q .0 h)))
+one-message ℓ openFrom s t c q h = ap (onSome (spell ℓ openFrom)) (all-claimed s c ∙ sym (all-claimed t (same-exactly s t c q .0 h)))

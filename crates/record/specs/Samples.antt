@@ -9,17 +9,27 @@ use Rattle.scalar.specs.Scalars.{scaled, whole, magnitude, widened, value, form
 use Rattle.scalar.specs.Scalars.{partHead, lastHeads, charLead, paired, stringFrom, stringAt, longest, content}
 use Rattle.scalar.specs.Scalars.{shortestString, scalarFrom, intFrom, textFrom, shortestScalar}
 use Rattle.scalar.specs.Guesses.{wholeSize, wholeGuess, narrowMagnitude, narrowed, guess}
-use Rattle.record.specs.Records.{typeFrom, plainFrom, definition, valueFrom, message, Row, row, rows, spans, span, contentAt}
-use Rattle.record.specs.Answers.{objectCode, putType, putDefinition, putPlainBy, putValue, spell, ReadAnswer, Accept, Refuse, judged, read, WriteAnswer, Wrote, Refused, shortestOf, base}
+use Rattle.record.specs.Records.{Limits, typeFrom, plainFrom, definition, valueFrom, message, Row, row, rows, spans, span, contentAt}
+use Rattle.record.specs.Answers.{objectCode, putType, putDefinition, putPlainBy, putValue, spell, ReadAnswer, Accept, Refuse, judged, read, WriteAnswer, Wrote, Refused, shortestOf, base, baseOpenFrom}
 use Rattle.record.specs.Terms.{write}
 use Rattle.record.specs.Claimed.{ofKind, itemAt, ended}
 
--- ---- the base: 32 containers open, 262,144 bytes, the open form from 48 elements on
+-- ---- the base
 abbrev pub baseRead : (lent : ℕ) → List ℕ → ReadAnswer
-baseRead = read base 32 262_144
+baseRead = read base
 
 abbrev pub baseWrite : (lent : ℕ) → List ℕ → List Row → WriteAnswer
-baseWrite = write base 48 32 262_144
+baseWrite = write base baseOpenFrom
+
+-- but for the longest message, which has so many bytes
+abbrev baseTo : ℕ → Limits
+baseTo n = record {
+  longest = n;
+  containers = base .containers;
+  types = base .types;
+  classes = base .classes;
+  fields = base .fields;
+}
 
 -- ---- what a sample says
 -- what becomes of a message: the writer's message for its own rows, or a refusal's number and place
@@ -32,7 +42,10 @@ rewritten (Wrote w) = Becomes w
 rewritten (Refused x n) = IsRefused x 0
 
 abbrev pub shortened : List ℕ → Shortened
-shortened m = elim (judged base 32 262_144 m) [ Done n u es c ↦ rewritten (baseWrite (length m) m (rows es)) | Fault x o ↦ IsRefused x o ]
+shortened m = elim (judged base m) [
+  | Done n u es c ↦ rewritten (baseWrite (length m) m (rows es))
+  | Fault x o ↦ IsRefused x o
+]
 
 -- a sample: what is given, and what comes of it
 pub data Sample : Type 0 where
@@ -382,8 +395,11 @@ unfolding judged message valueFrom plainFrom definition typeFrom pick scalarFrom
 fifths-hold = refl
 
 -- lengths: a message too long for the ceiling, fewer rows lent than needed; a source too long, a shortest message too long, fewer bytes lent than needed
-pub lengths : (read base 32 3 9 (0x7b ∷ 0x90 ∷ 0x90 ∷ 0x90 ∷ []) ≡ Refuse 1 0 0) × (baseRead 1 (0x79 ∷ 0x90 ∷ []) ≡ Refuse 9 2 0)
-    × (write base 48 32 1 9 (0x90 ∷ 0x90 ∷ []) [] ≡ Refused 1 0) × (write base 48 32 1 9 [] (row 3 0 48 0 1 ∷ []) ≡ Refused 1 0) × (baseWrite 1 [] (row 3 0 48 0 1 ∷ []) ≡ Refused 9 2)
+pub lengths : (read (baseTo 3) 9 (0x7b ∷ 0x90 ∷ 0x90 ∷ 0x90 ∷ []) ≡ Refuse 1 0 0)
+    × (baseRead 1 (0x79 ∷ 0x90 ∷ []) ≡ Refuse 9 2 0)
+    × (write (baseTo 1) baseOpenFrom 9 (0x90 ∷ 0x90 ∷ []) [] ≡ Refused 1 0)
+    × (write (baseTo 1) baseOpenFrom 9 [] (row 3 0 48 0 1 ∷ []) ≡ Refused 1 0)
+    × (baseWrite 1 [] (row 3 0 48 0 1 ∷ []) ≡ Refused 9 2)
 unfolding judged message valueFrom plainFrom definition typeFrom pick scalarFrom intFrom textFrom stringFrom formsOf formAt value whole widened magnitude scaled leadingZeros partHead lastHeads charLead
     write shortestOf ended span spans itemAt ofKind contentAt stringAt spell putValue putPlainBy putDefinition putType objectCode shortestScalar shortest guess wholeGuess wholeSize narrowed narrowMagnitude shortestString content longest
 lengths = (refl, refl, refl, refl, refl)

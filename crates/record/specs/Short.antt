@@ -13,7 +13,7 @@ use Rattle.flow.specs.Grammar.{Phrase, Many, finished, another, Ended, ended, P
 use Rattle.scalar.specs.Grammar.{Int, Text}
 use Rattle.scalar.specs.Scalars.{shortestScalar, shortestInt, shortestText}
 use Rattle.scalar.specs.ScalarLaws.{scalar-short, int-short, int-some, small-count, text-short}
-use Rattle.record.specs.Records.{Value, UntypedList, TypedList, UntypedMap, TypedMap, Object, Reference, Item, Val, Definition, ClassName, FieldName, TypeName, TypeNumber, Known, opened, typed, defined, Ceilings}
+use Rattle.record.specs.Records.{Value, UntypedList, TypedList, UntypedMap, TypedMap, Object, Reference, Item, Val, Definition, ClassName, FieldName, TypeName, TypeNumber, Known, opened, typed, defined, Limits}
 use Rattle.record.specs.Grammar.{NameForm, a-name, TypeForm, type-name, type-number, PairForm, a-pair, DefinitionForm, a-definition, PlainForm, a-leaf, a-few, a-counted, an-open, a-few-typed, a-counted-typed, an-open-typed, a-map, a-typed-map, a-few-object, an-object, a-reference, ValueForm, Message}
 use Rattle.record.specs.Shorthands.{onSpelled, prefixed, complete, Nowhere, codeThen, putDefined, putPrecededBy, putPlain}
 use Rattle.record.specs.Answers.{Spelling, Spelled, Put, putThen, putMany, putBytes, putCode, className?, fieldName?, putName, putList, putOpen, objectCode, putContainer, putIf, putType, putPlainBy, putDefinition, putPreceded, putValue, spell}
@@ -92,7 +92,7 @@ int-code {u} {k} x =
     let p = int-short x in
     by-test (λ (o : Option (List ℕ)). Short o (suc (length u))) (ltb k 16) (λ t. ((0x60 + k) ∷ [], refl, omega arith)) (λ t. (0x4f ∷ p .0, rw (p .1) refl, omega arith))
 
-module _ (ℓ : Ceilings) (openFrom : ℕ) (most : openFrom ≤ 48) where
+module _ (ℓ : Limits) (openFrom : ℕ) (most : openFrom ≤ 48) where
   -- ---- lists: the form chosen is no longer than another
   module _ (b₀ b₁ b₂ n : ℕ) {q body : Put} {c c₁ c₂ : Known} {is js : List Item} {m k : ℕ} (x : Spells q c is m c₁) (y : Spells body c₁ js k c₂) where
     one-byte : Spells (putThen (putCode (b₀ + n)) (putThen q body)) c (is ++ js) (1 + (m + k)) c₂
@@ -277,6 +277,6 @@ module _ (ℓ : Ceilings) (openFrom : ℕ) (most : openFrom ≤ 48) where
   }
 
   -- a record that the grammar derives has a spelling, of no more bytes
-  pub message-short : (d : ℕ) (m : List ℕ) (r : List Item) → Message ℓ d m r → (w : List ℕ) × (spell ℓ openFrom d r ≡ some w) × (length w ≤ length m)
+  pub message-short : (m : List ℕ) (r : List Item) → Message ℓ m r → (w : List ℕ) × (spell ℓ openFrom r ≡ some w) × (length w ≤ length m)
   unfolding spell
-  message-short d m r x = let p = value-spells d .covers (x .derived) .spells [] in (p .0, ap complete (rw append-nil at (p .1)), p .2)
+  message-short m r x = let p = value-spells (ℓ .containers) .covers (x .derived) .spells [] in (p .0, ap complete (rw append-nil at (p .1)), p .2)

@@ -4,7 +4,7 @@ use Prim.Native.Nat.{ℕ}
 use lib.{Dec.ltb, ListN.length}
 use Rattle.flow.specs.Flow.{pick, Outcome, Done, Fault, One, stored as storedIn, overlay, give, fail, changing, asking, mapped, headed}
 use Rattle.flow.specs.Grammar.{Phrase}
-use Rattle.record.specs.Records.{Item, TypeName, TypeNumber, Known, typed, defined, Ceilings, Reader, Opening, name, rows}
+use Rattle.record.specs.Records.{Item, TypeName, TypeNumber, Known, typed, defined, Limits, Reader, Opening, name, rows}
 use Rattle.record.specs.Answers.{Spelling, Spelled, NoRecord, Put, putItem, value?, putPreceded, putPlainBy, ReadAnswer, Accept, Refuse, WriteAnswer, Wrote, Refused, Layout}
 use Rattle.record.specs.Claimed.{onSome}
 
@@ -28,7 +28,7 @@ abbrev pub Nowhere : Phrase Known Item
 Nowhere c w is c′ = ⊥
 
 -- a type name after its first byte b, at p, and the number that it gets
-abbrev pub typeName : Ceilings → Opening ℕ
+abbrev pub typeName : Limits → Opening ℕ
 typeName ℓ p b = asking (λ c. cond (ltb (c .types) (ℓ .types)) (mapped (λ u. c .types) (changing typed (name TypeName p b))) (fail 7 p))
 
 -- the type of number k, whose int stands at p
@@ -48,11 +48,11 @@ abbrev pub putDefined : ℕ → Put
 putDefined n c r = Spelled [] r (defined n c)
 
 -- class definitions, as many as there are, and then a value
-abbrev pub putPrecededBy : Ceilings → Put → Put
+abbrev pub putPrecededBy : Limits → Put → Put
 putPrecededBy ℓ g c r = putPreceded ℓ (length r) g c r
 
 -- a value with no definition before it
-abbrev pub putPlain : Ceilings → ℕ → Option Put → Put
+abbrev pub putPlain : Limits → ℕ → Option Put → Put
 putPlain ℓ openFrom below = putItem value? (putPlainBy ℓ openFrom below)
 
 -- the bytes, where no item is left
@@ -64,8 +64,12 @@ abbrev pub answered : ℕ → Outcome Known Item One → ReadAnswer
 answered lent o = elim o [ Done n u es c ↦ pick (ltb lent (length es)) (Refuse 9 (length es) 0) (Accept (rows es) n) | Fault x o ↦ Refuse x 0 o ]
 
 -- the writer's answer for the shortest message, or none, where the source is not too long
-abbrev pub stored : (longest lent : ℕ) → Option (List ℕ) → WriteAnswer
-stored longest lent o = elim o [ none ↦ Refused 10 0 | some w ↦ pick (ltb longest (length w)) (Refused 1 0) (pick (ltb lent (length w)) (Refused 9 (length w)) (Wrote w)) ]
+abbrev pub stored : Limits → (lent : ℕ) → Option (List ℕ) → WriteAnswer
+stored ℓ lent o = elim o [
+  | none ↦ Refused 10 0
+  | some w ↦ pick (ltb (ℓ .longest) (length w)) (Refused 1 0)
+      (pick (ltb lent (length w)) (Refused 9 (length w)) (Wrote w))
+]
 
 -- the end of the message
 abbrev pub ending : Reader One

@@ -7,7 +7,7 @@ use native.Mathlib.Omega.{arith}
 use lib.ListN.{length, length-append, length-map}
 use Rattle.flow.specs.Flow.{Bytes, Entry, Done, items}
 use Rattle.flow.specs.Laws.{items-append}
-use Rattle.record.specs.Records.{Item, Known, start, Ceilings, message, Row, rowsFrom, rows, span, ends, afters}
+use Rattle.record.specs.Records.{Item, Known, start, Limits, message, Row, rowsFrom, rows, span, ends, afters}
 use Rattle.record.specs.RowLaws.{item-moved}
 use Rattle.record.specs.Forest.{EntryForest, no-entries, entries-beside, entry-over, entries-behind}
 use Rattle.record.specs.Forest.{items-forest, forest-span}
@@ -60,12 +60,12 @@ fifths-from k (e ∷ es) h =
     ap₂ (λ (n : ℕ) (l : List ℕ). n ∷ l) (s ∙ ap (λ (n : ℕ). k + n) r) (fifths-from (suc k) es (h .1))
 
 -- ---- the entries of a message
-module _ (ℓ : Ceilings) (d : ℕ) (m : List ℕ) (bytes : Bytes m) (n : ℕ) (es : List (Entry Item)) (c : Known)
-    (e : message ℓ d start 0 m ≡ Done n tt es c) where
+module _ (ℓ : Limits) (m : List ℕ) (bytes : Bytes m) (n : ℕ) (es : List (Entry Item)) (c : Known)
+    (e : message ℓ start 0 m ≡ Done n tt es c) where
   -- no fifth number is past the last row
   pub own-nested : Nested es
-  own-nested = forest-nested (message-forest ℓ d m bytes n es c e)
+  own-nested = forest-nested (message-forest ℓ m bytes n es c e)
 
   -- the fifth numbers of a message's own rows are those of its items
   pub own-fifths : afters (rows es) ≡ ends 0 (items es)
-  own-fifths = fifths-from 0 es (forest-right (message-forest ℓ d m bytes n es c e) [])
+  own-fifths = fifths-from 0 es (forest-right (message-forest ℓ m bytes n es c e) [])

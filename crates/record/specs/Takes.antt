@@ -11,7 +11,7 @@ use lib.ListN.{length, getD, length-append}
 use Rattle.scalar.specs.Scalars.{shortestScalar, shortestInt, shortestText}
 use Rattle.record.specs.Records.{Value, Leaf, UntypedList, TypedList, UntypedMap, TypedMap, Object, Reference}
 use Rattle.record.specs.Records.{Item, Val, Definition, ClassName, FieldName, TypeName, TypeNumber, Known}
-use Rattle.record.specs.Records.{opened, typed, defined, Ceilings, holds, begins}
+use Rattle.record.specs.Records.{opened, typed, defined, Limits, holds, begins}
 use Rattle.record.specs.Answers.{Spelling, Spelled, NoRecord, Put, putThen, putMany, putBytes, putCode, putIf}
 use Rattle.record.specs.Answers.{putItem, value?, definition?, className?, fieldName?, putName, putOpen, putList}
 use Rattle.record.specs.Answers.{objectCode, putContainer, putType, putDefinition, putPreceded, putPlainBy}
@@ -194,7 +194,7 @@ pub data ClassItems : List Item → Type 0 where
 class-behind : (s t : List Item) → ClassItems s → Forest 1 t → Forest 1 (s ++ t)
 class-behind s t (class-items x) y = behind (x .forest) (x .counted) y
 
-module _ (ℓ : Ceilings) where
+module _ (ℓ : Limits) where
   pub type-takes : (t : ℕ) → Takes names 1 (putType ℓ t)
   unfolding putType
   type-takes t = record { takes = go }
@@ -258,7 +258,7 @@ module _ (ℓ : Ceilings) where
 abbrev pub BelowTakes : Option Put → Type 0
 BelowTakes below = Whenever (λ g. Takes forests 1 g) below
 
-module _ (ℓ : Ceilings) (openFrom : ℕ) where
+module _ (ℓ : Limits) (openFrom : ℕ) where
   open-takes : (b : ℕ) {j n : ℕ} {q body : Put} → Takes forests j q → Takes forests n body
       → Takes forests (j + n) (putOpen b q body)
   open-takes b {j} {n} h i = as-takes (j + n) (omega arith)

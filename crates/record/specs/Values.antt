@@ -25,7 +25,7 @@ use Rattle.scalar.specs.Answers.{Sizes, sized, sizes, measuredAt}
 use Rattle.scalar.specs.ScalarLaws.{isScalar, scalar-shut}
 use Rattle.record.specs.declared.Group.{Group}
 use Rattle.record.specs.declared.Group.the-variants.{Counted, Fields, Open, Pairs}
-use Rattle.record.specs.Records.{Leaf, UntypedList, TypedList, UntypedMap, TypedMap, Object, Reference, Item, Val, Known, opened, Ceilings, Reader, Opening, int, count, fieldValues, pair, typeFrom, withType, plainFrom, Row, row, itemRow}
+use Rattle.record.specs.Records.{Leaf, UntypedList, TypedList, UntypedMap, TypedMap, Object, Reference, Item, Val, Known, opened, Limits, Reader, Opening, int, count, fieldValues, pair, typeFrom, withType, plainFrom, Row, row, itemRow}
 use Rattle.record.specs.Forms.{Form, leaf, few, few-typed, few-object, counted, counted-typed, open-list, open-typed, open-map, typed-map, object, reference, formOf, plainBy, plain-is}
 use Rattle.record.specs.Shorthands.{Two, with-two, referenceTo}
 use Rattle.record.specs.Placed.{Placed, Got, Lost, placed, run, front, on, through, topped, topped-through, run-give, run-fail, run-changing, run-asking, run-test, run-headed, run-mapped, run-bind}
@@ -43,10 +43,10 @@ stringRow Utf8 p s = row 7 p (s .units) (s .bytes) 1
 stringRow Binary p s = row 8 p (s .bytes) 0 1
 
 -- the reading by the form of the first byte
-run-plain : (ℓ : Ceilings) (below : Option (Opening One)) (c : Known) (m : List ℕ) (p : ℕ) (x : Form) → formOf (getD m p 0) ≡ x → run (plainFrom ℓ below p (getD m p 0)) c m (p + 1) ≡ run (plainBy ℓ below x p (getD m p 0)) c m (p + 1)
+run-plain : (ℓ : Limits) (below : Option (Opening One)) (c : Known) (m : List ℕ) (p : ℕ) (x : Form) → formOf (getD m p 0) ≡ x → run (plainFrom ℓ below p (getD m p 0)) c m (p + 1) ≡ run (plainBy ℓ below x p (getD m p 0)) c m (p + 1)
 run-plain ℓ below c m p x h = ap (λ (r : Reader One). run r c m (p + 1)) (plain-is ℓ below p (getD m p 0) ∙ ap (λ (y : Form). plainBy ℓ below y p (getD m p 0)) h)
 
-module _ (ℓ : Ceilings) (below : Option (Opening One)) (c : Known) (m : List ℕ) (p : ℕ) (l : p < length m) (h : formOf (getD m p 0) ≡ leaf) where
+module _ (ℓ : Limits) (below : Option (Opening One)) (c : Known) (m : List ℕ) (p : ℕ) (l : p < length m) (h : formOf (getD m p 0) ≡ leaf) where
   leaf-by : (x : Lead) → leadOf (getD m p 0) ≡ x → run (plainFrom ℓ below p (getD m p 0)) c m (p + 1) ≡ topped p (λ x. Val (Leaf x)) (run (scalarBy x p (getD m p 0)) c m (p + 1))
   unfolding plainBy run
   leaf-by x e =
@@ -104,7 +104,7 @@ module _ (ℓ : Ceilings) (below : Option (Opening One)) (c : Known) (m : List �
       ∙ ap (λ (o : Outcome Known Item Scalar). placed (p + 1) (top p (λ x. Val (Leaf x)) o)) (scalar-shut Item (getD m p 0) (rw t tt) p c (p + 1) (drop (p + 1) m))
 
 -- ---- a reference
-module _ (ℓ : Ceilings) (below : Option (Opening One)) (c : Known) (m : List ℕ) (p : ℕ) (l : p < length m) (h : formOf (getD m p 0) ≡ reference) where
+module _ (ℓ : Limits) (below : Option (Opening One)) (c : Known) (m : List ℕ) (p : ℕ) (l : p < length m) (h : formOf (getD m p 0) ≡ reference) where
   reference-by : run (plainFrom ℓ below p (getD m p 0)) c m (p + 1) ≡ topped p (λ k. Val (Reference k)) (run (int (λ o. referenceTo p)) c m (p + 1))
   unfolding plainBy
   reference-by = run-plain ℓ below c m p reference h ∙ run-headed p (λ k. Val (Reference k)) (int (λ o. referenceTo p)) c m (p + 1)
@@ -179,7 +179,7 @@ module _ (f : Opening One) (p k : ℕ) (c : Known) (m : List ℕ) (q : ℕ) wher
   pub fields-ungiven : length (c .classes) ≤ k → run (fieldValues f p k) c m q ≡ Lost 6 p
   fields-ungiven s = fields-test ∙ pick-false _ _ (le-ltb k (length (c .classes)) s)
 
-module _ (ℓ : Ceilings) (below : Option (Opening One)) (c : Known) (m : List ℕ) (p : ℕ) (l : p < length m) where
+module _ (ℓ : Limits) (below : Option (Opening One)) (c : Known) (m : List ℕ) (p : ℕ) (l : p < length m) where
   -- where no more may open
   pub form-full : (x : Form) → formOf (getD m p 0) ≡ x → T (holds x) → below ≡ none → run (plainFrom ℓ below p (getD m p 0)) c m (p + 1) ≡ Lost 7 p
   unfolding plainBy run

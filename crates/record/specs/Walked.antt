@@ -16,6 +16,7 @@ use Rattle.scalar.specs.declared.Sort.the-variants as sort
 use Rattle.scalar.specs.declared.Kind.the-variants.{Utf8, Binary}
 use Rattle.scalar.specs.Scalars.{Num, Str}
 use Rattle.flow.specs.Tests.{split, pick-true, pick-false, pick-either}
+use Rattle.record.specs.Kinds.{list-kind, reference-kind, class-kind}
 use Rattle.record.specs.Records.{Value, Leaf, UntypedList, TypedList, UntypedMap, TypedMap, Object, Reference, Item, Val, Definition, ClassName, FieldName, TypeName, TypeNumber, Known, Row, row, itemRow, span, ends, afters}
 use Rattle.record.specs.Answers.{Spelling, Spelled, NoRecord, Put, putThen, putMany, putBytes, putIf, putItem}
 use Rattle.record.specs.Shorthands.{prefixed, onSpelled}
@@ -39,7 +40,10 @@ claimedBy (some i) is = i ∷ is
 
 -- the fifth number of the row k, where it is not judged by what the row holds: a definition's is past its names, that of a single item past itself
 abbrev pub plainly : ℕ → Row → Bool
-plainly k x = pick (within 9 14 (x .kind)) true (pick (eqb (x .kind) 15) (eqb (x .after) (k + 2 + x .first)) (eqb (x .after) (k + 1)))
+plainly k x =
+    pick (within list-kind reference-kind (x .kind)) true
+    (pick (eqb (x .kind) class-kind) (eqb (x .after) (k + 2 + x .first))
+    (eqb (x .after) (k + 1)))
 
 module _ (source : List ℕ) where
   abbrev pub claimAt : ℕ → Row → Option Item

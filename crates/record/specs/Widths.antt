@@ -15,7 +15,7 @@ use Rattle.scalar.specs.Grammar.{Spelt, a-number, a-string, Text}
 use Rattle.scalar.specs.NumberLaws.{number-some}
 use Rattle.scalar.specs.TextLaws.{string-some}
 use Rattle.scalar.specs.Bits.{number-bits, content-length, units-few}
-use Rattle.record.specs.Records.{Leaf, Item, Val, FieldName, Known, start, opened, typed, defined, Ceilings, row, itemRow, rowsFrom, rows}
+use Rattle.record.specs.Records.{Leaf, Item, Val, FieldName, Known, start, opened, typed, defined, Limits, row, itemRow, rowsFrom, rows}
 use Rattle.record.specs.Grammar.{NameForm, a-name, TypeForm, type-name, type-number, PairForm, a-pair, DefinitionForm, a-definition, PlainForm, a-leaf, a-few, a-counted, an-open, a-few-typed, a-counted-typed, an-open-typed, a-map, a-typed-map, a-few-object, an-object, a-reference, ValueForm}
 use Rattle.record.specs.Shorthands.{Nowhere}
 use Rattle.record.specs.RowLaws.{item-moved}
@@ -130,11 +130,11 @@ pair-bounds G h N c w is c′ (a-pair {c₁ = c₁} {u = u} {v = v} {is = is₁}
 name-bounds : Bounds (NameForm FieldName)
 name-bounds N c w is c′ (a-name r) a l = record { some = omega (arith, string-some r); known = more (omega arith) a; narrow = (text-fits (omega arith) r (omega arith), tt) }
 
-type-bounds : (ℓ : Ceilings) {c c′ : Known} {w : List ℕ} {t : ℕ} {is : List Item} → TypeForm ℓ c w t is c′ → (N : ℕ) → Within N c → N + length w < 2 ^ 63 → (t ≤ N) × Bounded N 1 w is c′
+type-bounds : (ℓ : Limits) {c c′ : Known} {w : List ℕ} {t : ℕ} {is : List Item} → TypeForm ℓ c w t is c′ → (N : ℕ) → Within N c → N + length w < 2 ^ 63 → (t ≤ N) × Bounded N 1 w is c′
 type-bounds ℓ (type-name r x) N a l = (a .types, record { some = omega (arith, string-some x); known = more (omega (arith, string-some x)) (type-within a); narrow = (text-fits (omega arith) x (omega arith), tt) })
 type-bounds ℓ (type-number x r) N a l = (omega arith, record { some = omega (arith, number-some x); known = more (omega arith) a; narrow = (fits (omega arith) (omega arith) (omega arith), tt) })
 
-module _ (ℓ : Ceilings) where
+module _ (ℓ : Limits) where
   -- a definition, after its 43
   definition-bounds : {c c′ : Known} {w : List ℕ} {is : List Item} → DefinitionForm ℓ c w is c′ → (N : ℕ) → Within N c → N + 1 + length w < 2 ^ 63 → Bounded (N + 1) 1 w is c′
   definition-bounds (a-definition {u = u} {v = v} {w = w} r x i b f y) N a l =
@@ -200,11 +200,11 @@ entries-fit m l k (e ∷ es) f h n i =
     )
 
 -- of a message of fewer than 2 ^ 63 bytes
-pub rows-fit : (ℓ : Ceilings) (d longest : ℕ) (m : List ℕ) → Bytes m → length m < 2 ^ 63 → (r : List Item) (x : Accepts ℓ d longest m r) → All Fits (rows (x .entries))
-rows-fit ℓ d longest m b l r x =
-    let e = judged-done ℓ d longest m (length m) (x .entries) (x .known) (x .done) .1 in
-    let reads = own-reads ℓ d m b (length m) (x .entries) (x .known) e in
-    let y = reads-derived ℓ d m (items (x .entries)) reads in
+pub rows-fit : (ℓ : Limits) (m : List ℕ) → Bytes m → length m < 2 ^ 63 → (r : List Item) (x : Accepts ℓ m r) → All Fits (rows (x .entries))
+rows-fit ℓ m b l r x =
+    let e = judged-done ℓ m (length m) (x .entries) (x .known) (x .done) .1 in
+    let reads = own-reads ℓ m b (length m) (x .entries) (x .known) e in
+    let y = reads-derived ℓ m (items (x .entries)) reads in
     let nothing : Within 0 start = record { references = omega arith; types = omega arith; classes = omega arith; fields = λ k. omega arith } in
-    entries-fit m l 0 (x .entries) (omega (arith, rows-few ℓ d m (items (x .entries)) reads, length-map (x .entries) (λ (e : Entry Item). e .item))) (places ℓ d m b (length m) (x .entries) (x .known) e)
-    (own-nested ℓ d m b (length m) (x .entries) (x .known) e) (value-bounds ℓ d 0 start m (items (x .entries)) (y .known) (y .derived) nothing (omega arith) .narrow)
+    entries-fit m l 0 (x .entries) (omega (arith, rows-few ℓ m (items (x .entries)) reads, length-map (x .entries) (λ (e : Entry Item). e .item))) (places ℓ m b (length m) (x .entries) (x .known) e)
+    (own-nested ℓ m b (length m) (x .entries) (x .known) e) (value-bounds ℓ (ℓ .containers) 0 start m (items (x .entries)) (y .known) (y .derived) nothing (omega arith) .narrow)

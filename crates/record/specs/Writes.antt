@@ -10,7 +10,7 @@ use lib.Dec.{ltb, eqb}
 use lib.ListN.{length, getD}
 use borrow.Author.Tests.{lt-ltb, le-ltb}
 use Rattle.scalar.specs.Scalars.{Scalar, shortestScalar, shortestInt}
-use Rattle.record.specs.Records.{Value, Leaf, UntypedList, TypedList, UntypedMap, TypedMap, Object, Reference, Item, Val, Known, opened, Ceilings}
+use Rattle.record.specs.Records.{Value, Leaf, UntypedList, TypedList, UntypedMap, TypedMap, Object, Reference, Item, Val, Known, opened, Limits}
 use Rattle.record.specs.Answers.{Put, putThen, putMany, putBytes, putCode, putIf, value?, putOpen, putList, objectCode, putContainer, putType, putPlainBy}
 use Rattle.record.specs.Shorthands.{codeThen, putPlain}
 use Rattle.record.specs.Takes.{Drops}
@@ -96,7 +96,7 @@ abbrev pub ended : Walked → Walked
 ended o = onOver o (λ e c. Over (0x5a ∷ []) e c)
 
 -- ---- a value by its item
-module _ (ℓ : Ceilings) (openFrom : ℕ) (below : Option Put) (c : Known) (is : List Item) (k : ℕ) where
+module _ (ℓ : Limits) (openFrom : ℕ) (below : Option Put) (c : Known) (is : List Item) (k : ℕ) where
   -- what is written of the value at k
   abbrev Here : Walked
   Here = walk (putPlain ℓ openFrom below) c is k

@@ -17,7 +17,7 @@ use Rattle.scalar.specs.declared.Kind.the-variants.{Utf8, Binary}
 use Rattle.scalar.specs.Scalars.{stringFrom, stringAt, Num, Str}
 use Rattle.scalar.specs.Grammar.{String, Spelt, a-string}
 use Rattle.scalar.specs.TextLaws.{string-makes}
-use Rattle.record.specs.Records.{Leaf, UntypedList, TypedList, UntypedMap, TypedMap, Object, Reference, Item, Val, Definition, ClassName, FieldName, TypeName, TypeNumber, Known, start, Ceilings, message, Row, itemRow, rowsFrom, rows, contentOf, told, contentAt, ClaimItems, no-rows, a-row, ClaimAll}
+use Rattle.record.specs.Records.{Leaf, UntypedList, TypedList, UntypedMap, TypedMap, Object, Reference, Item, Val, Definition, ClassName, FieldName, TypeName, TypeNumber, Known, start, Limits, message, Row, itemRow, rowsFrom, rows, contentOf, told, contentAt, ClaimItems, no-rows, a-row, ClaimAll}
 use Rattle.record.specs.RowLaws.{item-moved}
 use Rattle.record.specs.Answers.{spell, judged, shortestOf, Wrote}
 use Rattle.record.specs.Terms.{write, Has, Accepted, Reads}
@@ -29,26 +29,26 @@ use Rattle.record.specs.Spans.{own-fifths}
 use Rattle.record.specs.Claimed.{onSome, recordOf, all-claimed, claims-exactly}
 
 -- ---- the writer, of any rows
-module _ (ℓ : Ceilings) (openFrom : ℕ) (most : openFrom ≤ 48) (d : ℕ) (source : List ℕ) (r : List Row) where
+module _ (ℓ : Limits) (openFrom : ℕ) (most : openFrom ≤ 48) (source : List ℕ) (r : List Row) where
   -- no message that has the record claimed is shorter than the one written
-  pub rows-no-longer : (m : List ℕ) → Has ℓ d source r m → (w : List ℕ) × (shortestOf ℓ openFrom d source r ≡ some w) × (length w ≤ length m)
+  pub rows-no-longer : (m : List ℕ) → Has ℓ source r m → (w : List ℕ) × (shortestOf ℓ openFrom source r ≡ some w) × (length w ≤ length m)
   unfolding shortestOf
-  rows-no-longer m x = let p = no-longer ℓ openFrom most d m (x .record-of) (x .read-as) in (p .0, rw (all-claimed source (x .claimed)) (p .1), p .2)
+  rows-no-longer m x = let p = no-longer ℓ openFrom most m (x .record-of) (x .read-as) in (p .0, rw (all-claimed source (x .claimed)) (p .1), p .2)
 
   -- the message written has the record claimed
-  pub rows-back : (w : List ℕ) → shortestOf ℓ openFrom d source r ≡ some w → Has ℓ d source r w
+  pub rows-back : (w : List ℕ) → shortestOf ℓ openFrom source r ≡ some w → Has ℓ source r w
   unfolding shortestOf
   rows-back w e = go (recordOf source r) refl e
     where
-      go : (o : Option (List Item)) → recordOf source r ≡ o → onSome (spell ℓ openFrom d) o ≡ some w → Has ℓ d source r w
+      go : (o : Option (List Item)) → recordOf source r ≡ o → onSome (spell ℓ openFrom) o ≡ some w → Has ℓ source r w
       go none q e = absurd (let z : _≡_ {A = ℕ} 0 1 = cc in omega arith)
-      go (some is) q e = record { record-of = is; claimed = claims-exactly source r is .1 q; read-as = reads-back ℓ openFrom most d is w e }
+      go (some is) q e = record { record-of = is; claimed = claims-exactly source r is .1 q; read-as = reads-back ℓ openFrom most is w e }
 
   -- there is none exactly when no message has the record claimed: the cause of refusal 10
-  pub rows-none : (shortestOf ℓ openFrom d source r ≡ none) ↔ ((m : List ℕ) → Has ℓ d source r m → ⊥)
-  rows-none = (λ e m x. let p = rows-no-longer m x in let q = p .1 in absurd (let z : _≡_ {A = ℕ} 0 1 = cc in omega arith), λ h. go h (shortestOf ℓ openFrom d source r) refl)
+  pub rows-none : (shortestOf ℓ openFrom source r ≡ none) ↔ ((m : List ℕ) → Has ℓ source r m → ⊥)
+  rows-none = (λ e m x. let p = rows-no-longer m x in let q = p .1 in absurd (let z : _≡_ {A = ℕ} 0 1 = cc in omega arith), λ h. go h (shortestOf ℓ openFrom source r) refl)
     where
-      go : ((m : List ℕ) → Has ℓ d source r m → ⊥) → (o : Option (List ℕ)) → shortestOf ℓ openFrom d source r ≡ o → o ≡ none
+      go : ((m : List ℕ) → Has ℓ source r m → ⊥) → (o : Option (List ℕ)) → shortestOf ℓ openFrom source r ≡ o → o ≡ none
       go h none e = refl
       go h (some w) e = absurd (h w (rows-back w e))
 
@@ -101,92 +101,92 @@ entries-claim m k (e ∷ es) h =
     }) (entries-claim m (suc k) es (h .2))
 
 -- a message's own rows claim the record that it reads as
-module _ (ℓ : Ceilings) (d : ℕ) (m : List ℕ) (bytes : Bytes m) (n : ℕ) (es : List (Entry Item)) (c : Known) (e : message ℓ d start 0 m ≡ Done n tt es c) where
+module _ (ℓ : Limits) (m : List ℕ) (bytes : Bytes m) (n : ℕ) (es : List (Entry Item)) (c : Known) (e : message ℓ start 0 m ≡ Done n tt es c) where
   pub own-rows : ClaimAll m (rows es) (items es)
-  own-rows = record { each = entries-claim m 0 es (places ℓ d m bytes n es c e); fifths = own-fifths ℓ d m bytes n es c e }
+  own-rows = record { each = entries-claim m 0 es (places ℓ m bytes n es c e); fifths = own-fifths ℓ m bytes n es c e }
 
   pub own-record : recordOf m (rows es) ≡ some (items es)
   own-record = all-claimed m own-rows
 
-  pub own-reads : Reads ℓ d m (items es)
+  pub own-reads : Reads ℓ m (items es)
   own-reads = record { bytes = bytes; accepted = rw e refl }
 
 -- ---- what the writer makes of a message's own rows
 -- an accepted message is not longer than the ceiling
-pub judged-done : (ℓ : Ceilings) (d longest : ℕ) (m : List ℕ) (n : ℕ) (es : List (Entry Item)) (c : Known) → judged ℓ d longest m ≡ Done n tt es c
-    → (length m ≤ longest) × (message ℓ d start 0 m ≡ Done n tt es c)
+pub judged-done : (ℓ : Limits) (m : List ℕ) (n : ℕ) (es : List (Entry Item)) (c : Known) → judged ℓ m ≡ Done n tt es c
+    → (length m ≤ ℓ .longest) × (message ℓ start 0 m ≡ Done n tt es c)
 unfolding judged
-judged-done ℓ d longest [] n es c e = absurd (let z : _≡_ {A = ℕ} 0 1 = cc in omega arith)
-judged-done ℓ d longest (b ∷ m) n es c e =
-    pick-either (λ (o : Outcome Known Item One). o ≡ Done n tt es c → (length (b ∷ m) ≤ longest) × (message ℓ d start 0 (b ∷ m) ≡ Done n tt es c)) (ltb longest (length (b ∷ m)))
-    (λ t q. absurd (let z : _≡_ {A = ℕ} 0 1 = cc in omega arith)) (λ t q. (ltb-false longest (length (b ∷ m)) t, q)) e
+judged-done ℓ [] n es c e = absurd (let z : _≡_ {A = ℕ} 0 1 = cc in omega arith)
+judged-done ℓ (b ∷ m) n es c e =
+    pick-either (λ (o : Outcome Known Item One). o ≡ Done n tt es c → (length (b ∷ m) ≤ ℓ .longest) × (message ℓ start 0 (b ∷ m) ≡ Done n tt es c)) (ltb (ℓ .longest) (length (b ∷ m)))
+    (λ t q. absurd (let z : _≡_ {A = ℕ} 0 1 = cc in omega arith)) (λ t q. (ltb-false (ℓ .longest) (length (b ∷ m)) t, q)) e
 
-pub done-judged : (ℓ : Ceilings) (d longest : ℕ) (m : List ℕ) (n : ℕ) (es : List (Entry Item)) (c : Known) → length m ≤ longest → message ℓ d start 0 m ≡ Done n tt es c
-    → judged ℓ d longest m ≡ Done n tt es c
+pub done-judged : (ℓ : Limits) (m : List ℕ) (n : ℕ) (es : List (Entry Item)) (c : Known) → length m ≤ ℓ .longest → message ℓ start 0 m ≡ Done n tt es c
+    → judged ℓ m ≡ Done n tt es c
 unfolding judged message
-done-judged ℓ d longest [] n es c l e = absurd (let z : _≡_ {A = ℕ} 0 1 = cc in omega arith)
-done-judged ℓ d longest (b ∷ m) n es c l e = pick-false _ _ (le-ltb longest (length (b ∷ m)) l) ∙ e
+done-judged ℓ [] n es c l e = absurd (let z : _≡_ {A = ℕ} 0 1 = cc in omega arith)
+done-judged ℓ (b ∷ m) n es c l e = pick-false _ _ (le-ltb (ℓ .longest) (length (b ∷ m)) l) ∙ e
 
-module _ (ℓ : Ceilings) (openFrom : ℕ) (most : openFrom ≤ 48) (d longest : ℕ) where
+module _ (ℓ : Limits) (openFrom : ℕ) (most : openFrom ≤ 48) where
   -- the message m, accepted with the entries es, is written anew from its rows
   pub record Rewritten (m : List ℕ) (es : List (Entry Item)) : Type 0 where
     pub written : List ℕ
     -- wherever there is room for it
-    pub wrote : (lent : ℕ) → length written ≤ lent → write ℓ openFrom d longest lent m (rows es) ≡ Wrote written
+    pub wrote : (lent : ℕ) → length written ≤ lent → write ℓ openFrom lent m (rows es) ≡ Wrote written
     pub no-longer-than : length written ≤ length m
     -- it is accepted, and has the same record
     pub entries : List (Entry Item)
     pub known : Known
-    pub reread : judged ℓ d longest written ≡ Done (length written) tt entries known
+    pub reread : judged ℓ written ≡ Done (length written) tt entries known
     pub same-record : recordOf written (rows entries) ≡ recordOf m (rows es)
     -- no message that has the same record is shorter
-    pub shortest : (w : List ℕ) → Bytes w → (n : ℕ) (fs : List (Entry Item)) (c : Known) → message ℓ d start 0 w ≡ Done n tt fs c → recordOf w (rows fs) ≡ recordOf m (rows es)
+    pub shortest : (w : List ℕ) → Bytes w → (n : ℕ) (fs : List (Entry Item)) (c : Known) → message ℓ start 0 w ≡ Done n tt fs c → recordOf w (rows fs) ≡ recordOf m (rows es)
         → length written ≤ length w
 
   -- demand 3: so is every message for which none of refusals 1 to 8 is given
-  pub rewrites : (m : List ℕ) → Bytes m → (n : ℕ) (es : List (Entry Item)) (c : Known) → judged ℓ d longest m ≡ Done n tt es c → Rewritten m es
+  pub rewrites : (m : List ℕ) → Bytes m → (n : ℕ) (es : List (Entry Item)) (c : Known) → judged ℓ m ≡ Done n tt es c → Rewritten m es
   unfolding write shortestOf
-  rewrites m bytes n es c e = go (message ℓ d start 0 w) refl (back .accepted)
+  rewrites m bytes n es c e = go (message ℓ start 0 w) refl (back .accepted)
     where
-      done : (length m ≤ longest) × (message ℓ d start 0 m ≡ Done n tt es c)
-      done = judged-done ℓ d longest m n es c e
+      done : (length m ≤ ℓ .longest) × (message ℓ start 0 m ≡ Done n tt es c)
+      done = judged-done ℓ m n es c e
 
       own : recordOf m (rows es) ≡ some (items es)
-      own = own-record ℓ d m bytes n es c (done .1)
+      own = own-record ℓ m bytes n es c (done .1)
 
-      short : (w : List ℕ) × (spell ℓ openFrom d (items es) ≡ some w) × (length w ≤ length m)
-      short = no-longer ℓ openFrom most d m (items es) (own-reads ℓ d m bytes n es c (done .1))
+      short : (w : List ℕ) × (spell ℓ openFrom (items es) ≡ some w) × (length w ≤ length m)
+      short = no-longer ℓ openFrom most m (items es) (own-reads ℓ m bytes n es c (done .1))
 
       w : List ℕ
       w = short .0
 
-      back : Reads ℓ d w (items es)
-      back = reads-back ℓ openFrom most d (items es) w (short .1)
+      back : Reads ℓ w (items es)
+      back = reads-back ℓ openFrom most (items es) w (short .1)
 
-      fits : length w ≤ longest
+      fits : length w ≤ ℓ .longest
       fits = omega (arith, short .2, done .0)
 
-      least : (v : List ℕ) → Bytes v → (k : ℕ) (fs : List (Entry Item)) (c : Known) → message ℓ d start 0 v ≡ Done k tt fs c → recordOf v (rows fs) ≡ recordOf m (rows es) → length w ≤ length v
+      least : (v : List ℕ) → Bytes v → (k : ℕ) (fs : List (Entry Item)) (c : Known) → message ℓ start 0 v ≡ Done k tt fs c → recordOf v (rows fs) ≡ recordOf m (rows es) → length w ≤ length v
       least v b k fs c q same =
-          let a = own-record ℓ d v b k fs c q in
+          let a = own-record ℓ v b k fs c q in
           let is : items fs ≡ items es = cc (own) in
-          let p = no-longer ℓ openFrom most d v (items fs) (own-reads ℓ d v b k fs c q) in
+          let p = no-longer ℓ openFrom most v (items fs) (own-reads ℓ v b k fs c q) in
           let i = p .1 in
           let j = short .1 in
           let x : p .0 ≡ w = cc in
           omega (arith, p .2, ap length x)
 
-      go : (o : Outcome Known Item One) → message ℓ d start 0 w ≡ o → Accepted (items es) o → Rewritten m es
+      go : (o : Outcome Known Item One) → message ℓ start 0 w ≡ o → Accepted (items es) o → Rewritten m es
       go (Fault x o) q a = absurd a
       go (Done k tt fs c′) q a =
-          let all = message-all ℓ d w (back .bytes) k tt fs c′ q in
+          let all = message-all ℓ w (back .bytes) k tt fs c′ q in
           record {
             written = w;
-            wrote = λ lent l. pick-false _ _ (le-ltb longest (length m) (done .0)) ∙ rw (own, short .1) (pick-false _ _ (le-ltb longest (length w) fits) ∙ pick-false _ _ (le-ltb lent (length w) l));
+            wrote = λ lent l. pick-false _ _ (le-ltb (ℓ .longest) (length m) (done .0)) ∙ rw (own, short .1) (pick-false _ _ (le-ltb (ℓ .longest) (length w) fits) ∙ pick-false _ _ (le-ltb lent (length w) l));
             no-longer-than = short .2;
             entries = fs;
             known = c′;
-            reread = done-judged ℓ d longest w (length w) fs c′ fits (subst (λ (z : ℕ). message ℓ d start 0 w ≡ Done z tt fs c′) all q);
-            same-record = own-record ℓ d w (back .bytes) k fs c′ q ∙ ap {B = Option (List Item)} some a ∙ sym own;
+            reread = done-judged ℓ w (length w) fs c′ fits (subst (λ (z : ℕ). message ℓ start 0 w ≡ Done z tt fs c′) all q);
+            same-record = own-record ℓ w (back .bytes) k fs c′ q ∙ ap {B = Option (List Item)} some a ∙ sym own;
             shortest = least;
           }

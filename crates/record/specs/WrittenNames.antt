@@ -9,7 +9,7 @@ use lib.Dec.{ltb, eqb, leb}
 use lib.ListN.{length, drop}
 use borrow.Author.Tests.{lt-ltb, le-ltb, le-leb, lt-leb, eq-eqb, ne-eqb}
 use Rattle.scalar.specs.Scalars.{shortestInt, shortestText}
-use Rattle.record.specs.Records.{Item, Val, Definition, ClassName, FieldName, TypeName, TypeNumber, Known, typed, defined, Ceilings}
+use Rattle.record.specs.Records.{Item, Val, Definition, ClassName, FieldName, TypeName, TypeNumber, Known, typed, defined, Limits}
 use Rattle.record.specs.Answers.{Put, putThen, putMany, putBytes, putIf, definition?, className?, fieldName?, putName, putType, putDefinition}
 use Rattle.record.specs.Shorthands.{putDefined}
 use Rattle.record.specs.Walked.{At, End, at-within, Walked, Over, Stuck, walked, walk, behind, onOver, behind-behind, walk-then, walk-bytes, walk-none, walk-both, walk-unless-one, walk-unless-other, walk-if-none, walk-item, walk-other, walk-over, walk-same, walk-within, walk-first, walk-first-none}
@@ -26,7 +26,7 @@ isType (FieldName cs) = false
 isType (TypeName cs) = true
 isType (TypeNumber j) = true
 
-module _ (ℓ : Ceilings) (t : ℕ) (c : Known) (is : List Item) (k : ℕ) where
+module _ (ℓ : Limits) (t : ℕ) (c : Known) (is : List Item) (k : ℕ) where
   -- what is written of the type at k
   abbrev Type-here : Walked
   Type-here = walk (putType ℓ t) c is k
@@ -143,7 +143,7 @@ module _ (n j : ℕ) (c : Known) (is : List Item) (k : ℕ) where
     names-stuck x = left-stuck (putName fieldName?) (takes-drops field-takes) is (Elements n) j names-more (omega arith) c k x
 
 -- ---- a class definition: its item at k, its name after it, and then its field names
-module _ (ℓ : Ceilings) (c : Known) (is : List Item) (k : ℕ) where
+module _ (ℓ : Limits) (c : Known) (is : List Item) (k : ℕ) where
   abbrev Definition-here : Walked
   Definition-here = walk (putDefinition ℓ) c is k
 

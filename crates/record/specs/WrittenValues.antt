@@ -5,7 +5,7 @@ use mathlib.Core.Option.{Option, none, some}
 use Prim.Native.Nat.{ℕ, zero, suc, _+_, _-_, _≤_, _<_}
 use native.Mathlib.Omega.{arith}
 use lib.ListN.{length, drop, length-drop, drop-of-length-le}
-use Rattle.record.specs.Records.{Value, Item, Val, Definition, Known, Ceilings, span}
+use Rattle.record.specs.Records.{Value, Item, Val, Definition, Known, Limits, span}
 use Rattle.record.specs.Answers.{Put, putThen, value?, definition?, putDefinition, putPreceded}
 use Rattle.record.specs.Answers.{putPlainBy, putValue}
 use Rattle.record.specs.Shorthands.{putPrecededBy, putPlain}
@@ -16,7 +16,7 @@ use Rattle.record.specs.Takes.{BelowTakes, by-takes, value-takes}
 use Rattle.record.specs.Writes.{plain-end}
 
 -- ---- class definitions before another
-module _ (ℓ : Ceilings) (g : Put) (is : List Item) where
+module _ (ℓ : Limits) (g : Put) (is : List Item) where
   abbrev after : ℕ → Known → ℕ → Walked
   after m c k = walk (putPreceded ℓ m g) c is k
 
@@ -97,7 +97,7 @@ module _ (ℓ : Ceilings) (g : Put) (is : List Item) where
           ∙ ap (λ (o : Walked). onOver o (λ p c′. walk (putPrecededBy ℓ g) c′ is p)) x
 
 -- ---- a value, where d more containers may open
-module _ (ℓ : Ceilings) (openFrom : ℕ) where
+module _ (ℓ : Limits) (openFrom : ℕ) where
   -- what writes the values in a value
   unfoldable pub below : ℕ → Option Put
   below zero = none

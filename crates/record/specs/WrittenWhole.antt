@@ -10,7 +10,7 @@ use lib.ListN.{length, drop, length-append, length-drop}
 use lib.Seq.{drop-drop}
 use borrow.Author.Tests.{lt-ltb, le-ltb}
 use Rattle.flow.specs.Tests.{pick-true, pick-false, by-test}
-use Rattle.record.specs.Records.{Value, Item, Val, Known, start, Ceilings, Row, span, ends, afters}
+use Rattle.record.specs.Records.{Value, Item, Val, Known, start, Limits, Row, span, ends, afters}
 use Rattle.record.specs.Answers.{Spelling, Spelled, NoRecord, putValue, spell, Refused, shortestOf}
 use Rattle.record.specs.Shorthands.{complete, stored}
 use Rattle.record.specs.Terms.{write}
@@ -62,29 +62,29 @@ rest-of : (is : List Item) (j : ℕ) (v : Value) (js : List Item) → drop j is 
 rest-of is j v js a = let e : j + 1 ≡ suc j = omega arith in sym (sym (ap (λ (m : ℕ). drop m is) e) ∙ sym (drop-drop 1 j is) ∙ ap (drop 1) a)
 
 -- ---- the message of the rows
-module _ (ℓ : Ceilings) (openFrom d : ℕ) (source : List ℕ) (r : List Row) where
+module _ (ℓ : Limits) (openFrom : ℕ) (source : List ℕ) (r : List Row) where
   -- what is written of the value at the first row
   abbrev Whole : Walked
-  Whole = walk (putValue ℓ openFrom d) start (claimed source r) 0
+  Whole = walk (putValue ℓ openFrom (ℓ .containers)) start (claimed source r) 0
 
   -- by the items that the rows claim
-  by-items : (P : Option (List ℕ) → Type 0) → P none → ((is : List Item) → itemsOf source r ≡ some is → afters r ≡ ends 0 is → P (spell ℓ openFrom d is)) → P (shortestOf ℓ openFrom d source r)
+  by-items : (P : Option (List ℕ) → Type 0) → P none → ((is : List Item) → itemsOf source r ≡ some is → afters r ≡ ends 0 is → P (spell ℓ openFrom is)) → P (shortestOf ℓ openFrom source r)
   unfolding shortestOf ended
   by-items P n f = go (itemsOf source r) refl
     where
-      go : (o : Option (List Item)) → itemsOf source r ≡ o → P (onSome (spell ℓ openFrom d) (onSome (ended r) o))
+      go : (o : Option (List Item)) → itemsOf source r ≡ o → P (onSome (spell ℓ openFrom) (onSome (ended r) o))
       go none q = n
-      go (some is) q = by-test (λ (o : Option (List Item)). P (onSome (spell ℓ openFrom d) o)) (sameList (afters r) (ends 0 is)) (λ t. f is q (same-eq (afters r) (ends 0 is) t)) (λ t. n)
+      go (some is) q = by-test (λ (o : Option (List Item)). P (onSome (spell ℓ openFrom) o)) (sameList (afters r) (ends 0 is)) (λ t. f is q (same-eq (afters r) (ends 0 is) t)) (λ t. n)
 
   -- up to the last row, the fifth numbers of lists, maps and objects being right
-  pub whole-written : (w : List ℕ) (e : ℕ) (c : Known) → Whole ≡ Over w e c → e ≡ length r → Rights source r (claimed source r) 0 e → shortestOf ℓ openFrom d source r ≡ some w
+  pub whole-written : (w : List ℕ) (e : ℕ) (c : Known) → Whole ≡ Over w e c → e ≡ length r → Rights source r (claimed source r) 0 e → shortestOf ℓ openFrom source r ≡ some w
   unfolding shortestOf spell walk
   whole-written w e c h l f = go (itemsOf source r) refl
     where
       inside : e ≤ length (claimed source r)
-      inside = walk-within start (claimed source r) 0 (putValue ℓ openFrom d) w e c h
+      inside = walk-within start (claimed source r) 0 (putValue ℓ openFrom (ℓ .containers)) w e c h
 
-      go : (o : Option (List Item)) → itemsOf source r ≡ o → onSome (spell ℓ openFrom d) (onSome (ended r) o) ≡ some w
+      go : (o : Option (List Item)) → itemsOf source r ≡ o → onSome (spell ℓ openFrom) (onSome (ended r) o) ≡ some w
       go none q = absurd (omega (arith, claimed-short source r q, inside))
       go (some is) q =
           let full = claimed-full source r is q (omega (arith, inside)) in
@@ -92,41 +92,41 @@ module _ (ℓ : Ceilings) (openFrom d : ℕ) (source : List ℕ) (r : List Row) 
           let n = record-length source r is q in
           let fifths = full .1 (λ j v js a t. subst (λ (is : List Item). Rights source r is 0 e) same f j (omega arith) (omega (arith, ap length a, length-drop j is)) v
           (a ∙ ap {B = List Item} (λ l. Val v ∷ l) (rest-of is j v js a)) t ∙ ap (λ (l : List Item). j + span (Val v) l) (sym (rest-of is j v js a))) in
-          ap (onSome (spell ℓ openFrom d)) (ended-right source r is fifths)
-          ∙ complete-all is (putValue ℓ openFrom d start is) (value-takes ℓ openFrom d .takes start is) w e c
-          (subst (λ (is : List Item). walk (putValue ℓ openFrom d) start is 0 ≡ Over w e c) same h)
+          ap (onSome (spell ℓ openFrom)) (ended-right source r is fifths)
+          ∙ complete-all is (putValue ℓ openFrom (ℓ .containers) start is) (value-takes ℓ openFrom (ℓ .containers) .takes start is) w e c
+          (subst (λ (is : List Item). walk (putValue ℓ openFrom (ℓ .containers)) start is 0 ≡ Over w e c) same h)
           (omega (arith, n))
 
   -- rows are left
-  pub whole-short : (w : List ℕ) (e : ℕ) (c : Known) → Whole ≡ Over w e c → e < length r → shortestOf ℓ openFrom d source r ≡ none
+  pub whole-short : (w : List ℕ) (e : ℕ) (c : Known) → Whole ≡ Over w e c → e < length r → shortestOf ℓ openFrom source r ≡ none
   unfolding spell walk
   whole-short w e c h l = by-items (λ o. o ≡ none) refl
-      (λ is q f. complete-short is (putValue ℓ openFrom d start is) w e c
-      (subst (λ (is : List Item). walk (putValue ℓ openFrom d) start is 0 ≡ Over w e c) (claimed-all source r is q f) h)
+      (λ is q f. complete-short is (putValue ℓ openFrom (ℓ .containers) start is) w e c
+      (subst (λ (is : List Item). walk (putValue ℓ openFrom (ℓ .containers)) start is 0 ≡ Over w e c) (claimed-all source r is q f) h)
       (omega (arith, record-length source r is q)))
 
-  pub whole-stuck : Whole ≡ Stuck → shortestOf ℓ openFrom d source r ≡ none
+  pub whole-stuck : Whole ≡ Stuck → shortestOf ℓ openFrom source r ≡ none
   unfolding spell walk
   whole-stuck h = by-items (λ o. o ≡ none) refl
-      (λ is q f. complete-none is (putValue ℓ openFrom d start is) (subst (λ (is : List Item). walk (putValue ℓ openFrom d) start is 0 ≡ Stuck) (claimed-all source r is q f) h))
+      (λ is q f. complete-none is (putValue ℓ openFrom (ℓ .containers) start is) (subst (λ (is : List Item). walk (putValue ℓ openFrom (ℓ .containers)) start is 0 ≡ Stuck) (claimed-all source r is q f) h))
 
   -- the fifth number of a list, map or object is another than the items say
-  pub whole-wrong : Wrong source r (claimed source r) → shortestOf ℓ openFrom d source r ≡ none
+  pub whole-wrong : Wrong source r (claimed source r) → shortestOf ℓ openFrom source r ≡ none
   whole-wrong x = by-items (λ o. o ≡ none) refl (λ is q f. absurd (x .other
       (ends-at source 0 r (claimed source r) (f ∙ ap (ends 0) (sym (claimed-all source r is q f))) (x .row) (Val (x .value)) (drop (suc (x .row)) (claimed source r)) (x .stands)
       ∙ ap (λ (m : ℕ). m + span (Val (x .value)) (drop (suc (x .row)) (claimed source r))) (zero-add (x .row)))))
 
 -- ---- what the writer answers where it writes nothing
-module _ (ℓ : Ceilings) (openFrom d longest lent : ℕ) (source : List ℕ) (r : List Row) where
-  pub write-source-long : longest < length source → write ℓ openFrom d longest lent source r ≡ Refused 1 0
+module _ (ℓ : Limits) (openFrom lent : ℕ) (source : List ℕ) (r : List Row) where
+  pub write-source-long : ℓ .longest < length source → write ℓ openFrom lent source r ≡ Refused 1 0
   unfolding write
-  write-source-long l = pick-true _ _ (lt-ltb longest (length source) l)
+  write-source-long l = pick-true _ _ (lt-ltb (ℓ .longest) (length source) l)
 
-  module _ (l : length source ≤ longest) where
-    pub write-none : shortestOf ℓ openFrom d source r ≡ none → write ℓ openFrom d longest lent source r ≡ Refused 10 0
+  module _ (l : length source ≤ ℓ .longest) where
+    pub write-none : shortestOf ℓ openFrom source r ≡ none → write ℓ openFrom lent source r ≡ Refused 10 0
     unfolding write
-    write-none q = pick-false _ _ (le-ltb longest (length source) l) ∙ ap (stored longest lent) q
+    write-none q = pick-false _ _ (le-ltb (ℓ .longest) (length source) l) ∙ ap (stored ℓ lent) q
 
-    pub write-long : (w : List ℕ) → shortestOf ℓ openFrom d source r ≡ some w → longest < length w → write ℓ openFrom d longest lent source r ≡ Refused 1 0
+    pub write-long : (w : List ℕ) → shortestOf ℓ openFrom source r ≡ some w → ℓ .longest < length w → write ℓ openFrom lent source r ≡ Refused 1 0
     unfolding write
-    write-long w q i = pick-false _ _ (le-ltb longest (length source) l) ∙ ap (stored longest lent) q ∙ pick-true _ _ (lt-ltb longest (length w) i)
+    write-long w q i = pick-false _ _ (le-ltb (ℓ .longest) (length source) l) ∙ ap (stored ℓ lent) q ∙ pick-true _ _ (lt-ltb (ℓ .longest) (length w) i)

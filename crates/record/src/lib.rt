@@ -1,6 +1,8 @@
-// What a record is, how a message reads, its shortest message, and the theorems stand in specs/: theory, types that code shares, and
-// the array of what is known.
+// What a record is, how a message reads, its shortest message, and the theorems stand in specs/: theory, the limits,
+// the kinds of rows and the types that code shares, and the array of what is known.
+pub mod kinds;
 pub mod known;
+pub mod limits;
 
 // How the values of a list, map or object are counted: so many elements; the fields of an object, with its class and how many;
 // elements up to 5a; keys and values up to 5a.

@@ -10,11 +10,13 @@ use libc::STDIN_FILENO;
 use libc::STDOUT_FILENO;
 use reader::ReadAnswer;
 use record::ROW_NUMBERS;
+use record::limits::LONGEST;
+use scalar::refusals::ROOM;
 use vectors::Scanned;
 use vectors::Step;
 
-// The longest message that is looked at, and the most numbers lent.
-const LARGEST: usize = 270_000;
+// The longest message that is looked at, longer than any that is accepted, and the most numbers lent.
+const LARGEST: usize = LONGEST + 8_000;
 
 const MOST: usize = 8_000;
 
@@ -125,7 +127,7 @@ fn answer(message: &[u8], table: &mut [u64]) {
             say_table(table, 0);
         }
         ReadAnswer::TooFew { needed } => {
-            say_answer(9, needed, 0);
+            say_answer(ROOM, needed, 0);
             say_table(table, 0);
         }
     }

@@ -2,6 +2,7 @@
 use mathlib.Core.{Bool._&&_, List.List, Option.Option, Option.none, Option.some}
 use Prim.Native.Nat.{ℕ, _+_}
 use lib.{Dec.leb, Dec.eqb, ListN.length}
+use Rattle.flow.specs.RefusalNumbers.{no-room, no-record}
 use Rattle.flow.specs.Flow.{pick, Done, Fault, byteAt, stored, Report}
 use Rattle.flow.specs.Steps.{Answer, alone, renamed}
 use Rattle.scalar.specs.declared.{Sort.Sort, Kind.Kind, Written.Written, Written.the-variants.Stored, Written.the-variants.NoRoom, Written.the-variants.NotSuch}
@@ -17,13 +18,13 @@ reported number count = record { number = number; count = count; place = 0 }
 
 abbrev pub report : Written → Report
 report (Stored n) = reported 0 n
-report (NoRoom n) = reported 9 n
-report NotSuch = reported 10 0
+report (NoRoom n) = reported no-room n
+report NotSuch = reported no-record 0
 
 -- what storing a form from the index at on comes to, in a slice of len bytes; and what the slice then holds
 unfoldable pub reportOf : Option (List ℕ) → ℕ → ℕ → Report
-reportOf none len at = reported 10 0
-reportOf (some w) len at = pick (leb (at + length w) len) (reported 0 (length w)) (reported 9 (length w))
+reportOf none len at = reported no-record 0
+reportOf (some w) len at = pick (leb (at + length w) len) (reported 0 (length w)) (reported no-room (length w))
 
 unfoldable pub outputOf : Option (List ℕ) → List ℕ → ℕ → List ℕ
 outputOf none l at = l

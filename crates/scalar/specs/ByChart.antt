@@ -166,3 +166,7 @@ unfolding kindOf
 text-told b = split b 256
     (λ l. same-is (isText b) (eqb (kindOf (leadOf b)) 7) (every-at 256 (λ b. same (isText b) (eqb (kindOf (leadOf b)) 7)) same-texts b l))
     (λ l. heads-none b l Utf8 ∙ ap (λ (x : Lead). eqb (kindOf x) 7) (sym (lead-none b l)))
+
+pub text-there : (b : ℕ) → leadOf b ≡ lead.Text → isText b ≡ true
+unfolding kindOf
+text-there b e = text-told b ∙ ap (λ (x : Lead). eqb (kindOf x) 7) e

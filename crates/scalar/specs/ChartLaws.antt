@@ -4,10 +4,11 @@ use mathlib.Core.Bool.{Bool, not, _&&_}
 use mathlib.Core.List.{List, [], _∷_}
 use Prim.Native.Nat.{ℕ, suc, _+_, _-_, _/_, _%_, _≤_, _<_}
 use native.Mathlib.Omega.{arith}
+use borrow.Author.Tests.{eqb-true, eqb-false}
 use lib.Dec.{T, T-not, eqb, leb, eqb→eq, eqb-refl, leb→le}
 use lib.ListN.{getD}
 use Rattle.flow.specs.Flow.{pick}
-use Rattle.flow.specs.Tests.{every, every-at, and-left, and-right}
+use Rattle.flow.specs.Tests.{by-cases, implies, implied, neqb, every, every-at, and-left, and-right}
 use Rattle.scalar.specs.declared.Sort.{Sort}
 use Rattle.scalar.specs.declared.Sort.the-variants.{Null, False, True, Int, Long, Double, Date}
 use Rattle.scalar.specs.declared.Rule.{Rule}
@@ -63,6 +64,62 @@ opened x b t = kind-is (leadOf b) x (eqb→eq (kindOf (leadOf b)) (kindOf x) t)
 
 pub lead-in : (lo hi : ℕ) (x : Lead) → T (allOpen lo hi x) → (b : ℕ) → lo ≤ b → b ≤ hi → leadOf b ≡ x
 lead-in lo hi x t b h k = opened x b (subst (λ (n : ℕ). T (opens x n)) (omega arith) (every-at (suc hi - lo) (λ i. opens x (lo + i)) t (b - lo) (omega arith)))
+
+-- the upper half opens ints and longs, the lowest bytes texts; one byte opens a class definition
+module _ (b : ℕ) where
+  pub int-lead : 0x80 ≤ b → b < 0xd8 → leadOf b ≡ lead.Number Int
+  unfolding leadOf kindOf rangeOf ranges pick
+  int-lead h k = lead-in 0x80 0xd7 (lead.Number Int) tt b h (omega arith)
+
+  pub long-lead : 0xd8 ≤ b → b < 256 → leadOf b ≡ lead.Number Long
+  unfolding leadOf kindOf rangeOf ranges pick
+  long-lead h k = lead-in 0xd8 0xff (lead.Number Long) tt b h (omega arith)
+
+  pub text-lead : b < 0x20 → leadOf b ≡ lead.Text
+  unfolding leadOf kindOf rangeOf ranges pick
+  text-lead h = lead-in 0 0x1f lead.Text tt b (omega arith) (omega arith)
+
+pub definition-lead : leadOf 0x43 ≡ lead.Definition
+unfolding leadOf rangeOf ranges pick
+definition-lead = refl
+
+pub text-kind : kindOf lead.Text ≡ 7
+unfolding kindOf
+text-kind = refl
+
+-- ---- the bytes that open x: two by themselves, the others from `least` on
+abbrev amongThem : Lead → ℕ → ℕ → ℕ → ℕ → Bool
+amongThem x k j least b = implies (opens x b) (implies (not (eqb b k)) (implies (not (eqb b j)) (leb least b)))
+
+among : (x : Lead) (k j least : ℕ) → T (every 256 (amongThem x k j least)) → (b : ℕ) → b < 256
+    → leadOf b ≡ x → (b ≡ k → ⊥) → (b ≡ j → ⊥) → least ≤ b
+among x k j least t b l e y z =
+    leb→le least b
+    (implied (not (eqb b j)) (leb least b)
+    (implied (not (eqb b k)) (implies (not (eqb b j)) (leb least b))
+    (implied (opens x b) (implies (not (eqb b k)) (implies (not (eqb b j)) (leb least b)))
+    (every-at 256 (amongThem x k j least) t b l) (rw e (eqb-refl (kindOf x))))
+    (neqb b k y))
+    (neqb b j z))
+
+module _ (b : ℕ) (l : b < 256) where
+  pub list-byte : leadOf b ≡ lead.List → (b ≡ 0x57 → ⊥) → (b ≡ 0x58 → ⊥) → 0x78 ≤ b
+  unfolding leadOf kindOf rangeOf ranges pick
+  list-byte = among lead.List 0x57 0x58 0x78 tt b l
+
+  pub typed-list-byte : leadOf b ≡ lead.TypedList → (b ≡ 0x55 → ⊥) → (b ≡ 0x56 → ⊥) → 0x70 ≤ b
+  unfolding leadOf kindOf rangeOf ranges pick
+  typed-list-byte = among lead.TypedList 0x55 0x56 0x70 tt b l
+
+  pub object-byte : leadOf b ≡ lead.Object → (b ≡ 0x4f → ⊥) → 0x60 ≤ b
+  unfolding leadOf kindOf rangeOf ranges pick
+  object-byte e y = among lead.Object 0x4f 0x4f 0x60 tt b l e y y
+
+  pub definition-byte : leadOf b ≡ lead.Definition → b ≡ 0x43
+  unfolding leadOf kindOf rangeOf ranges pick
+  definition-byte e = by-cases (eqb b 0x43)
+      (λ y. eqb-true b 0x43 y)
+      (λ y. let z = eqb-false b 0x43 y in absurd (omega (arith, among lead.Definition 0x43 0x43 256 tt b l e z z)))
 
 -- ---- at most eight bytes follow, so an entry holds the kind and the bytes that follow
 few : T (every 256 (λ b. leb (followOf b) 8))

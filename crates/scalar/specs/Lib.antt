@@ -2,6 +2,7 @@ pub mod Guesses
 pub mod Scalars
 pub mod Grammar
 pub mod Answers
+pub mod AnswerLaws
 pub mod Chart
 pub mod Signed
 pub mod DoubleLaws

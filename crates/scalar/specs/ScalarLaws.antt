@@ -33,6 +33,16 @@ use Rattle.scalar.specs.TextShort.{string-short, string-is, IsString}
 abbrev pub isScalar : ℕ → Bool
 isScalar b = ltb (kindOf (leadOf b)) 9
 
+-- 5a and the reserved bytes open none
+module _ (b : ℕ) where
+  pub close-shut : leadOf b ≡ lead.Close → isScalar b ≡ false
+  unfolding kindOf
+  close-shut e = rw e refl
+
+  pub reserved-shut : leadOf b ≡ lead.Reserved → isScalar b ≡ false
+  unfolding kindOf
+  reserved-shut e = rw e refl
+
 -- ---- the first byte says what the scalar is
 number-begins : {ws : List Form} {t : List ℕ} {v : ℕ} → Number ws t v → First (λ b. T (begins ws b)) t
 number-begins (here {w = w} (held q t l e i)) = rw (within-yes (w .head) (w .head + w .codes) (w .head + q) (omega arith) (omega arith)) tt
@@ -217,6 +227,15 @@ module _ {C : Type 0} (I : Type 0) where
   -- a byte that opens no scalar
   pub scalar-shut : (e : ℕ) → T (not (isScalar e)) → (p : ℕ) (c : C) (at : ℕ) (s : List ℕ) → scalarFrom {I = I} p e c at s ≡ Fault 3 p
   scalar-shut e h p c at s = scalar-by p e c at s ∙ kind-shut p e c at s (leadOf e) h
+
+-- ---- the shortest form, by what the scalar is
+pub number-shortest : (s : Sort) (v : ℕ) → shortestScalar (Num s v) ≡ shortest (formsOf s) v
+unfolding shortestScalar
+number-shortest s v = refl
+
+pub string-shortest : (k : Kind) (cs : List ℕ) → shortestScalar (Str k cs) ≡ shortestString k cs
+unfolding shortestScalar
+string-shortest k cs = refl
 
 -- ---- no form is shorter than the shortest, and the shortest is a form
 abbrev pub Is : (List ℕ → Type 0) → Option (List ℕ) → Type 0

@@ -3,6 +3,7 @@ use mathlib.Core.{Bool.Bool, Bool.true, Bool.false, Bool.cond, Bool._&&_, List.L
 use Prim.Native.Nat.{ℕ, zero, suc, _+_, _*_, _-_, _/_, _%_, _^_, min}
 use lib.{Dec.ltb, Dec.eqb, ListN.length, ListN.take, ListN.drop, Count.leadingZeros, Pow.areBytes, IntN.ℤ, IntN.pos, IntN.negsuc, IntN._-ℤ_, IntN._*ℤ_}
 use mir.{Syntax.w8, Syntax.w16, Syntax.w32, Syntax.w64, Val.ofZ, Val.toZ}
+use Rattle.flow.specs.RefusalNumbers.{cut, wrong-byte, not-utf8}
 use Rattle.flow.specs.Flow.{pick, within, sameList, Outcome, Done, Fault, Read, From, One}
 use Rattle.flow.specs.Flow.{give, fail, byteAt, mapped, bind}
 use Rattle.wire.specs.BigEndian.{be, high, wider}
@@ -82,8 +83,8 @@ module _ {C I : Type 0} where
   bytesOf zero u c at s = give u c at s
   bytesOf (suc k) u c at s = byteAt (λ p b. bytesOf k (256 * u + b)) c at s
 
-  abbrev pub numberFrom : List Form → From C I ℕ  -- a value of one of these forms, whose first byte is b, at p; any other byte is refusal 3
-  numberFrom ws p b = elim (formAt ws b) [ NoForm ↦ fail 3 p | Starts k u r ↦ mapped (value r) (bytesOf k u) ]
+  abbrev pub numberFrom : List Form → From C I ℕ  -- a value of one of these forms, whose first byte is b, at p; any other is a wrong byte
+  numberFrom ws p b = elim (formAt ws b) [ NoForm ↦ fail wrong-byte p | Starts k u r ↦ mapped (value r) (bytesOf k u) ]
 
 -- ---- spelling: the first form that holds the value. `guess` is a candidate for what it holds, right where it stands for v
 abbrev pub spelling : Form → ℕ → List ℕ  -- the bytes of a form that holds u
@@ -149,7 +150,7 @@ units k cs = total (map (weight k) cs)
 module _ {C I : Type 0} where
   -- a byte of the character at o, from lo to below hi, and then f by it; any other byte is refusal 4 at o
   abbrev pub ranged : {A : Type 0} → ℕ → ℕ → ℕ → (ℕ → Read C I A) → Read C I A
-  ranged o lo hi f = byteAt (λ p b. cond (within lo hi b) (f b) (fail 4 o))
+  ranged o lo hi f = byteAt (λ p b. cond (within lo hi b) (f b) (fail not-utf8 o))
 
   -- n bytes more of the character at o, the first from lo to below hi, the others from 80 to bf
   abbrev pub continued : ℕ → ℕ → ℕ → ℕ → Read C I (List ℕ)
@@ -175,7 +176,7 @@ module _ {C I : Type 0} where
   -- 'A high half followed directly, in the same chunk, by a low half shall be read as the one character, two units':
   -- then g. 'A high half with one unit left in its chunk is such a lone half': there is no g, and no byte more is read
   abbrev pub pairThen : ℕ → ℕ → Option (Read C I (List ℕ)) → Read C I (List ℕ)
-  pairThen o d none = fail 4 o
+  pairThen o d none = fail not-utf8 o
   pairThen o d (some g) = chained [] (pairOf o d) g
 
   -- 'A half is known by its second byte': after the byte b = ed at the place p, by the next byte d
@@ -187,16 +188,16 @@ module _ {C I : Type 0} where
   bySecond f g p b q d =
       cond (within 0x80 0xa0 d) (chained (b ∷ d ∷ []) (continued p 1 0x80 0xc0) f)
       (cond (within 0xa0 0xb0 d) (pairThen p d g)
-      (fail 4 p))
+      (fail not-utf8 p))
 
   -- a character after its first byte b, at p, then f where it counts one unit, g where it counts two; no g: one unit is
   -- left
   abbrev pub character : CharLead → Read C I (List ℕ) → Option (Read C I (List ℕ)) → From C I (List ℕ)
   character (Basic k lo hi) f g p b c at s = chained (b ∷ []) (continued p k lo hi) f c at s
-  character (Supplementary lo hi) f none p b c at s = fail 4 p c at s
+  character (Supplementary lo hi) f none p b c at s = fail not-utf8 p c at s
   character (Supplementary lo hi) f (some g) p b c at s = chained (b ∷ []) (continued p 3 lo hi) g c at s
   character Halved f g p b c at s = byteAt (bySecond f g p b) c at s
-  character NoChar f g p b c at s = fail 4 p c at s
+  character NoChar f g p b c at s = fail not-utf8 p c at s
 
   abbrev pub characters : ℕ → Read C I (List ℕ)  -- characters of n units
   characters zero c at s = give [] c at s
@@ -219,7 +220,7 @@ module _ {C I : Type 0} where
       (bind (numberFrom (lastHeads k) p b) (body k))
 
   abbrev pub chunks : Kind → ℕ → Read C I (List ℕ)  -- the number only bounds the recursion
-  chunks k zero c at s = Fault 2 at
+  chunks k zero c at s = Fault cut at
   chunks k (suc j) c at s = byteAt (chunk k (chunks k j)) c at s
 
   unfoldable pub stringFrom : Kind → From C I (List ℕ)  -- a text or byte string, whose first byte is b, at p
@@ -282,10 +283,10 @@ module _ {C I : Type 0} where
   abbrev pub orNumber : Sort → From C I Scalar → From C I Scalar  -- a single value, where b begins one of its kind, or what g reads
   orNumber s g p b = pick (begins (formsOf s) b) (mapped (Num s) (numberFrom (formsOf s) p b)) (g p b)
 
-  -- a scalar whose first byte is b, at p, in the order of 01's table of first bytes; any other byte is refusal 3
+  -- a scalar whose first byte is b, at p, in the order of 01's table of first bytes; any other is a wrong byte
   unfoldable pub scalarFrom : From C I Scalar
   scalarFrom = orString Utf8 (orString Binary
-      (orNumber Int (orNumber Long (orNumber Date (orNumber Double (orNumber Null (orNumber False (orNumber True (λ p b. fail 3 p)))))))))
+      (orNumber Int (orNumber Long (orNumber Date (orNumber Double (orNumber Null (orNumber False (orNumber True (λ p b. fail wrong-byte p)))))))))
 
   unfoldable pub intFrom : From C I ℕ  -- an int: for counts and numbers
   intFrom p b = numberFrom (formsOf Int) p b

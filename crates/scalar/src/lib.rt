@@ -1,4 +1,6 @@
-// The types that the definitions of single values, texts and byte strings share with the code.
+// The types that the definitions of single values, texts and byte strings share with the code, and the numbers of
+// refusals.
+pub mod refusals;
 
 // A kind of single value.
 pub enum Sort {

@@ -6,13 +6,16 @@ use libc::STDIN_FILENO;
 use libc::STDOUT_FILENO;
 use reader::ReadAnswer;
 use record::ROW_NUMBERS;
+use scalar::refusals::LENGTH;
+use scalar::refusals::NO_RECORD;
+use scalar::refusals::ROOM;
 use writer::WriteAnswer;
 
 // The most bytes of a message. Each row has a byte of its own, so there are no more rows, and the shortest message is no longer.
 const MOST: usize = 60_000;
 
 // The numbers of as many rows as bytes, which a message never needs more than.
-const ROOM: usize = MOST * ROW_NUMBERS;
+const TABLE: usize = MOST * ROW_NUMBERS;
 
 fn say(text: &[u8]) {
     io::write_all(STDERR_FILENO, text);
@@ -38,21 +41,21 @@ fn write_shortest(message: &[u8], table: &[u64], rows: usize, output: &mut [u8])
                 io::write_all(STDOUT_FILENO, &output[0..size]);
             }
         }
-        WriteAnswer::TooLong => say_refused(1, 0),
-        WriteAnswer::NoRecord => say_refused(10, 0),
-        WriteAnswer::TooFew { needed: _ } => say_refused(9, 0),
+        WriteAnswer::TooLong => say_refused(LENGTH, 0),
+        WriteAnswer::NoRecord => say_refused(NO_RECORD, 0),
+        WriteAnswer::TooFew { needed: _ } => say_refused(ROOM, 0),
     }
 }
 
 fn shorten(message: &[u8]) {
-    let mut table = [0u64; ROOM];
+    let mut table = [0u64; TABLE];
     let mut output = [0u8; MOST];
     match reader::read(message, &mut table) {
         ReadAnswer::Accepted { rows, length: _ } => {
             write_shortest(message, &table, rows, &mut output)
         }
         ReadAnswer::Refused { number, place } => say_refused(number, place),
-        ReadAnswer::TooFew { needed: _ } => say_refused(9, 0),
+        ReadAnswer::TooFew { needed: _ } => say_refused(ROOM, 0),
     }
 }
 
@@ -60,7 +63,7 @@ fn main() {
     let mut input = [0u8; 60_001];
     let n = io::read_full(STDIN_FILENO, &mut input);
     if MOST < n {
-        say_refused(1, 0);
+        say_refused(LENGTH, 0);
     } else {
         shorten(&input[..n]);
     }

@@ -18,7 +18,7 @@ ghost use Rattle.text_writer.specs.Writing.{Copyable, CopyMet, HeadsOf, 
 
 // Where the content of a text or byte string goes on: the place of its next byte, the bytes left in that chunk, those
 // bytes' units, whether the chunk is the last, and whether its bytes stand in the content as they are.
-pub struct Cursor {
+pub(crate) struct Cursor {
     pub here: usize,
     pub left: usize,
     pub units: usize,
@@ -28,7 +28,7 @@ pub struct Cursor {
 
 // The codes of heads: of a last chunk's, of one byte, up to `few` units, of two and of three bytes; and of another
 // chunk's.
-pub struct Heads {
+pub(crate) struct Heads {
     pub one: u64,
     pub few: usize,
     pub two: u64,
@@ -37,21 +37,21 @@ pub struct Heads {
 }
 
 // Bytes of a chunk that are passed at once: how many, those that the content has for them, and their units.
-pub struct Piece {
+pub(crate) struct Piece {
     pub size: usize,
     pub bytes: usize,
     pub units: usize,
 }
 
 // What is copied of a content: its bytes and its units, and the cursor after it.
-pub struct Copied {
+pub(crate) struct Copied {
     pub next: Cursor,
     pub bytes: usize,
     pub units: usize,
 }
 
 // A text or byte string at a place: where its content begins, its units and its bytes; or there is none.
-pub enum Found {
+pub(crate) enum Found {
     There {
         first: Cursor,
         units: usize,

@@ -5,6 +5,7 @@ use mathlib.Core.List.{List, [], _++_}
 use Prim.Native.Nat.{ℕ, _+_, _-_, _≤_, _<_}
 use lib.Dec.{leb}
 use lib.ListN.{length, take, drop, getD}
+use Rattle.flow.specs.RefusalNumbers.{cut, wrong-byte}
 use Rattle.flow.specs.Flow.{Read, One, Done, Fault, pick}
 use Rattle.flow.specs.Steps.{Answer, renamed}
 use Rattle.wire.specs.BigEndian.{joined}
@@ -78,11 +79,11 @@ chunked k m p h l (Fault x o) = Fault x o
 -- the head at p: none, cut off, or how many bytes it takes, the units that it says, and whether the chunk is the last
 abbrev pub headBy : List ℕ → ℕ → HeadForm → HeadRead
 headBy m p (Starts j u l) =
-    pick (leb (length m - p) j) (head.Refused 2 (length m)) (head.Head (j + 1) (joined u (take j (drop (p + 1) m))) l)
-headBy m p NoHead = head.Refused 3 p
+    pick (leb (length m - p) j) (head.Refused cut (length m)) (head.Head (j + 1) (joined u (take j (drop (p + 1) m))) l)
+headBy m p NoHead = head.Refused wrong-byte p
 
 unfoldable pub headAt : Kind → List ℕ → ℕ → HeadRead
-headAt k m p = pick (leb (length m) p) (head.Refused 2 (length m)) (headBy m p (headForm k (getD m p 0)))
+headAt k m p = pick (leb (length m) p) (head.Refused cut (length m)) (headBy m p (headForm k (getD m p 0)))
 
 -- the same by the string that stands there
 abbrev pub HeadSays : Kind → List ℕ → ℕ → HeadRead → Type 0

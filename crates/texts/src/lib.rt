@@ -1,6 +1,9 @@
 // Texts and byte strings: reading one at a place. The definitions are in scalar's specs/Scalars.antt.
 use scalar::CharLead;
 use scalar::Kind;
+use scalar::refusals::BYTE;
+use scalar::refusals::CUT;
+use scalar::refusals::UTF8;
 ghost use mathlib.Core.Path.{_≡_};
 ghost use mathlib.Core.Bool.{true};
 ghost use mathlib.Core.Logic.{_↔_};
@@ -16,13 +19,13 @@ ghost use Rattle.texts.specs.Ascii.{Ascii, asciiAt, ShortText};
 ghost use Rattle.texts.specs.At.{Opens, Halves, HighHalf};
 
 // How many bytes something takes, and how many its content has; or a refusal's number and place.
-pub enum Extent {
+pub(crate) enum Extent {
     Takes { size: usize, bytes: usize },
     Refused { number: u8, place: usize },
 }
 
 // A character: the bytes that it takes, those that it has in UTF-8, and its units; or a refusal's number and place.
-pub enum CharRead {
+pub(crate) enum CharRead {
     Char {
         size: usize,
         bytes: usize,
@@ -35,13 +38,13 @@ pub enum CharRead {
 }
 
 // What the byte begins as a chunk's head: how many bytes follow, what it holds itself, whether the chunk is the last.
-pub enum HeadForm {
+pub(crate) enum HeadForm {
     Starts { more: usize, held: u64, last: bool },
     NoHead,
 }
 
 // A chunk's head: how many bytes it takes, the units that it counts, and whether the chunk is the last; or a refusal.
-pub enum HeadRead {
+pub(crate) enum HeadRead {
     Head {
         size: usize,
         units: usize,
@@ -158,13 +161,16 @@ fn continued(message: &[u8], place: usize, at: usize, more: usize, from: u8, bel
     while 0 < left {
         if len <= here {
             return Extent::Refused {
-                number: 2,
+                number: CUT,
                 place: len,
             };
         }
         let b = message[here];
         if b < lo || hi <= b {
-            return Extent::Refused { number: 4, place };
+            return Extent::Refused {
+                number: UTF8,
+                place,
+            };
         }
         here += 1;
         left -= 1;
@@ -241,13 +247,13 @@ fn halved(message: &[u8], at: usize, left: usize) -> CharRead
     }
     if 0xb0 <= d {
         return CharRead::Refused {
-            number: 4,
+            number: UTF8,
             place: at,
         };
     }
     if left < 2 {
         return CharRead::Refused {
-            number: 4,
+            number: UTF8,
             place: at,
         };
     }
@@ -262,20 +268,20 @@ fn character(message: &[u8], at: usize, left: usize) -> CharRead
     let len = message.len();
     if len <= at {
         return CharRead::Refused {
-            number: 2,
+            number: CUT,
             place: len,
         };
     }
     match char_lead(message[at]) {
         CharLead::NoChar => CharRead::Refused {
-            number: 4,
+            number: UTF8,
             place: at,
         },
         CharLead::Basic { more, from, below } => opened(message, at, more, from, below, 1),
         CharLead::Supplementary { from, below } => {
             if left == 1 {
                 return CharRead::Refused {
-                    number: 4,
+                    number: UTF8,
                     place: at,
                 };
             }
@@ -469,7 +475,7 @@ fn body(kind: Kind, message: &[u8], at: usize, units: usize) -> Extent
             let len = message.len();
             if len - at < units {
                 Extent::Refused {
-                    number: 2,
+                    number: CUT,
                     place: len,
                 }
             } else {
@@ -574,19 +580,19 @@ fn head(kind: Kind, message: &[u8], at: usize) -> HeadRead
     let len = message.len();
     if len <= at {
         return HeadRead::Refused {
-            number: 2,
+            number: CUT,
             place: len,
         };
     }
     match head_form(kind, message[at]) {
         HeadForm::NoHead => HeadRead::Refused {
-            number: 3,
+            number: BYTE,
             place: at,
         },
         HeadForm::Starts { more, held, last } => {
             if len - at <= more {
                 return HeadRead::Refused {
-                    number: 2,
+                    number: CUT,
                     place: len,
                 };
             }
@@ -728,7 +734,7 @@ pub fn read_string(kind: Kind, message: &[u8], at: usize) -> StringRead
     let len = message.len();
     if len <= at {
         return StringRead::Refused {
-            number: 2,
+            number: CUT,
             place: len,
         };
     }

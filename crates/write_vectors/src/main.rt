@@ -10,12 +10,16 @@
 use libc::STDIN_FILENO;
 use libc::STDOUT_FILENO;
 use record::ROW_NUMBERS;
+use record::limits::LONGEST;
+use scalar::refusals::LENGTH;
+use scalar::refusals::NO_RECORD;
+use scalar::refusals::ROOM;
 use vectors::Scanned;
 use vectors::Step;
 use writer::WriteAnswer;
 
-// The longest source that is looked at, and the most bytes lent.
-const LARGEST: usize = 270_000;
+// The longest source that is looked at, longer than any that is accepted, and the most bytes lent.
+const LARGEST: usize = LONGEST + 8_000;
 
 // The most numbers in a table.
 const MOST: usize = 10_000;
@@ -198,8 +202,8 @@ fn say_number(n: u64) {
 }
 
 // An answer, and the output after it, which is to be unchanged from `from` on.
-fn say_answer(number: u64, count: usize, output: &[u8], from: usize) {
-    say_number(number);
+fn say_answer(number: u8, count: usize, output: &[u8], from: usize) {
+    say_number(wire::wide(number));
     say(b" ");
     say_number(count as u64);
     say(b" 0 ");
@@ -213,9 +217,9 @@ fn answer(source: &[u8], table: &[u64], claimed: u64, output: &mut [u8]) {
     vectors::fill(output);
     match writer::write(source, table, claimed, output) {
         WriteAnswer::Written { size } => say_answer(0, size, output, size),
-        WriteAnswer::TooLong => say_answer(1, 0, output, 0),
-        WriteAnswer::NoRecord => say_answer(10, 0, output, 0),
-        WriteAnswer::TooFew { needed } => say_answer(9, needed, output, 0),
+        WriteAnswer::TooLong => say_answer(LENGTH, 0, output, 0),
+        WriteAnswer::NoRecord => say_answer(NO_RECORD, 0, output, 0),
+        WriteAnswer::TooFew { needed } => say_answer(ROOM, needed, output, 0),
     }
 }
 

@@ -22,7 +22,7 @@ use Rattle.record.specs.WrittenNames.{name-end, name-other, name-got, name-none
 use Rattle.record.specs.Writes.{plain-end}
 use Rattle.record.specs.WrittenValues.{below, value-end, value-plain, value-defined, value-undefined}
 use Rattle.record.specs.Bare.{NoneIn, definition-none}
-use Rattle.record.specs.KnownArray.{knownIn, Kept, definedIn, defined-room, classes-counted, one-class, known-defined, kept-defined, references-stay}
+use Rattle.record.specs.KnownArray.{knownIn, Kept, definedIn, defined-room, classes-counted, one-class, known-defined, kept-defined, references-stay, classesSlot, referencesSlot}
 use Rattle.record.specs.declared.Row as code
 use Rattle.writer.specs.declared.rows.Fetched.{Fetched}
 use Rattle.writer.specs.declared.rows.Fetched.the-variants as fetched
@@ -32,7 +32,7 @@ use Rattle.writer.specs.declared.puts.Step.{Step}
 use Rattle.writer.specs.declared.puts.Step.the-variants as step
 use Rattle.writer.specs.declared.definitions.Found.the-variants as found
 use Rattle.record.specs.RowLaws.{rowOf}
-use Rattle.writer.specs.Inside.{rowsIn, itemsIn, Stands, FetchMet, Puts, PutSays, PutMet, StringMet, WalkSays, Naming, class-name, field-name, NameMet, NamesMet, Ready, Went, StepSays, StepMet, ClassSays, ClassMet, FoundMet}
+use Rattle.writer.specs.Inside.{rowsIn, itemsIn, Stands, FetchMet, Puts, PutSays, PutMet, StringMet, WalkSays, Naming, class-name, field-name, NameMet, NamesMet, Ready, Went, StepSays, StepMet, ClassSays, ClassMet, FoundMet, overLongest}
 use Rattle.writer.proofs.Putting.{puts-none, puts-on}
 use Rattle.writer.proofs.Rowed.{fetched-end, fetched-inside, fetched-stands, stands-either}
 use Rattle.writer.proofs.Texted.{text-put, text-not}
@@ -104,10 +104,10 @@ pub record NamesLeft (is : List Item) (from count : ℕ) (out₀ : List ℕ) (si
   pub counted : from + i ≡ k
   pub few : i ≤ count
   pub within : k ≤ length is
-  pub size-few : s ≤ 262_145
+  pub size-few : s ≤ overLongest
   pub same : length out ≡ length out₀
 
-pub names-begin : (is : List Item) (from count : ℕ) (out : List ℕ) (size : ℕ) → from ≤ length is → size ≤ 262_145 → NamesLeft is from count out size out from size 0
+pub names-begin : (is : List Item) (from count : ℕ) (out : List ℕ) (size : ℕ) → from ≤ length is → size ≤ overLongest → NamesLeft is from count out size out from size 0
 names-begin is from count out size l f = record {
   written = λ c. [];
   left = λ c. sym (behind-none (walk (namesLeft count 0) c is from));
@@ -175,7 +175,7 @@ module _ (is : List Item) (k n : ℕ) (out : List ℕ) (s : ℕ) (o₁ : List �
   class-unnamed e = record { says = λ c i l f. definition-unnamed base c is k n i l (omega arith) f (named c put.NoRecord e) }
 
   module _ (s₂ : ℕ) (e : p ≡ put.Done s₂) where
-    pub class-size : s₂ ≤ 262_145
+    pub class-size : s₂ ≤ overLongest
     class-size = omega (arith, named start (put.Done s₂) e .2 .grows)
 
     pub class-counted : {q : Put} {o₃ : List ℕ} → PutMet (shortestInt n) o₂ s₂ q o₃ → ClassMet is k n out s q o₃
@@ -200,14 +200,14 @@ module _ (source : List ℕ) (is : List Item) (ks : List ℕ) (k s : ℕ) (v : R
     pub definition-inside : k < length is
     definition-inside = omega (arith, at-within is k (Definition (r .first)) stood)
 
-    pub definition-most : {out ks′ out′ : List ℕ} → 256 ≤ getD ks 256 0 → StepMet Defined is (k + 1) s out step.NoRecord ks′ out′
+    pub definition-most : {out ks′ out′ : List ℕ} → base .classes ≤ getD ks classesSlot 0 → StepMet Defined is (k + 1) s out step.NoRecord ks′ out′
     definition-most l = record { says = definition-full base (knownIn ks) is k (r .first) stood (omega (arith, classes-counted (v .kept))) }
 
-    pub definition-broad : {out ks′ out′ : List ℕ} → 256 < r .first → StepMet Defined is (k + 1) s out step.NoRecord ks′ out′
+    pub definition-broad : {out ks′ out′ : List ℕ} → base .fields < r .first → StepMet Defined is (k + 1) s out step.NoRecord ks′ out′
     definition-broad l = record { says = definition-wide base (knownIn ks) is k (r .first) stood l }
 
-    module _ (out : List ℕ) (room : getD ks 256 0 < 256) (few : r .first ≤ 256) (p : Put) (o₁ : List ℕ) (y : ClassMet is k (r .first) out s p o₁) where
-      counts : length (knownIn ks .classes) < 256
+    module _ (out : List ℕ) (room : getD ks classesSlot 0 < base .classes) (few : r .first ≤ base .fields) (p : Put) (o₁ : List ℕ) (y : ClassMet is k (r .first) out s p o₁) where
+      counts : length (knownIn ks .classes) < base .classes
       counts = omega (arith, classes-counted (v .kept))
 
       class-says : (q : Put) → p ≡ q → ClassSays is k (r .first) out s q o₁
@@ -220,7 +220,7 @@ module _ (source : List ℕ) (is : List Item) (ks : List ℕ) (k s : ℕ) (v : R
         head : (w : List ℕ) × (v : List ℕ) × (walk (putName className?) (knownIn ks) is (suc k) ≡ Over w (suc (suc k)) (knownIn ks)) × (shortestInt (r .first) ≡ some v) × Puts out s (0x43 ∷ (w ++ v)) o₁ s₁
         head = class-says (put.Done s₁) e (knownIn ks)
 
-        pub head-size : s₁ ≤ 262_145
+        pub head-size : s₁ ≤ overLongest
         head-size = omega (arith, head .4 .grows)
 
         pub head-inside : k + 2 ≤ length is
@@ -260,7 +260,7 @@ module _ (source : List ℕ) (is : List Item) (ks : List ℕ) (k s : ℕ) (v : R
                     ready = record {
                       kept = subst Kept (sym one) (kept-defined ks (v .kept) (r .first) room);
                       within = names-inside;
-                      references-few = omega (arith, ap (λ (l : List ℕ). getD l 258 0) one, references-stay ks (v .kept) (r .first) room, v .references-few);
+                      references-few = omega (arith, ap (λ (l : List ℕ). getD l referencesSlot 0) one, references-stay ks (v .kept) (r .first) room, v .references-few);
                       size-few = omega (arith, w .2 .grows);
                     };
                     onward = omega arith;

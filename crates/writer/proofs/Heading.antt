@@ -22,7 +22,7 @@ use Rattle.record.specs.Takes.{Drops, takes-drops, bytes-takes, then-takes, man
 use Rattle.record.specs.Walked.{At, at-within, Walked, Over, Stuck, walk, behind, walk-bytes, walk-both, walk-unless-one, walk-unless-other, walk-first, walk-first-none}
 use Rattle.record.specs.Writes.{ended, list-few, list-counted, list-uncounted, list-open, list-stuck, open-body, open-stuck, object-few, object-many, plain-end, plain-list, plain-typed-list, plain-map, plain-typed-map, plain-object}
 use Rattle.record.specs.Contents.{walk-elements, walk-couples}
-use Rattle.record.specs.KnownArray.{knownIn, Kept, classes-counted, references-more, known-opened, kept-opened}
+use Rattle.record.specs.KnownArray.{knownIn, Kept, classes-counted, references-more, known-opened, kept-opened, classesSlot, referencesSlot}
 use Rattle.record.specs.declared.Row as code
 use Rattle.writer.specs.declared.puts.Put.the-variants as put
 use Rattle.writer.specs.declared.puts.Put as puts
@@ -32,7 +32,7 @@ use Rattle.writer.specs.declared.holders.Begun.{Begun}
 use Rattle.writer.specs.declared.holders.Begun.the-variants as begun
 use Rattle.record.specs.Bare.{NoneIn, type-none}
 use Rattle.record.specs.RowLaws.{rowOf}
-use Rattle.writer.specs.Inside.{Stands, Puts, PutMet, Ready, Went, StepMet, typeBy, OpensMet, HolderMet, Holder, fewCode, countedCode, openCode, mapCode, listCode, listBy, mapBy, objectBy, plainBy, ObjectMet}
+use Rattle.writer.specs.Inside.{Stands, Puts, PutMet, Ready, Went, StepMet, typeBy, OpensMet, HolderMet, Holder, fewCode, countedCode, openCode, mapCode, listCode, listBy, mapBy, objectBy, plainBy, ObjectMet, overLongest}
 use Rattle.writer.proofs.Putting.{puts-on}
 
 -- ---- a code before a form
@@ -54,10 +54,10 @@ module _ (j n : ℕ) (ks : List ℕ) (w : Kept ks) (k s : ℕ) (out : List ℕ) 
   abbrev coded : Put → Put
   coded g = putThen (putBytes (objectCode j)) (putMany g n)
 
-  given : (l : j < getD ks 256 0) → getD (knownIn ks .classes) j 0 ≡ getD ks j 0
-  given l = getD-take (getD ks 256 0) ks j 0 l
+  given : (l : j < getD ks classesSlot 0) → getD (knownIn ks .classes) j 0 ≡ getD ks j 0
+  given l = getD-take (getD ks classesSlot 0) ks j 0 l
 
-  pub object-ungiven : getD ks 256 0 ≤ j → (out′ : List ℕ) → ObjectMet j n ks k s out begun.NoRecord out′
+  pub object-ungiven : getD ks classesSlot 0 ≤ j → (out′ : List ℕ) → ObjectMet j n ks k s out begun.NoRecord out′
   object-ungiven l out′ = record {
     says = λ is z. record {
       says = λ g d. walk-unless-other (knownIn ks) is k (coded g) (eqb (getD (knownIn ks .classes) j 0) n) (ltb j (length (knownIn ks .classes))) (le-ltb j (length (knownIn ks .classes)) (omega (arith, classes-counted w)));
@@ -65,7 +65,7 @@ module _ (j n : ℕ) (ks : List ℕ) (w : Kept ks) (k s : ℕ) (out : List ℕ) 
     };
   }
 
-  module _ (l : j < getD ks 256 0) where
+  module _ (l : j < getD ks classesSlot 0) where
     pub object-misfit : (getD ks j 0 ≡ n → ⊥) → (out′ : List ℕ) → ObjectMet j n ks k s out begun.NoRecord out′
     object-misfit x out′ = record {
       says = λ is z. record {
@@ -122,7 +122,7 @@ module _ (typed : Bool) (t : ℕ) (ks : List ℕ) (is : List Item) (k s : ℕ) (
   typed-bare : (p s₂ : ℕ) → r ≡ step.Done p s₂ → NoneIn is k p
   typed-bare p s₂ e = let w = went p s₂ e in bare-by typed t (knownIn ks) is k (z .within) (w .written) p (knownIn ks′) (w .says)
 
-  pub type-few : (p s₂ : ℕ) → r ≡ step.Done p s₂ → s₂ ≤ 262_145
+  pub type-few : (p s₂ : ℕ) → r ≡ step.Done p s₂ → s₂ ≤ overLongest
   type-few p s₂ e = went p s₂ e .ready .size-few
 
   -- ---- a list of n elements
@@ -236,7 +236,7 @@ mapOf false n t = UntypedMap n
 
 -- a reference number more
 abbrev more : List ℕ → List ℕ
-more ks = set ks 258 (getD ks 258 0 + 1)
+more ks = set ks referencesSlot (getD ks referencesSlot 0 + 1)
 
 module _ (f : ℕ) (c : Known) (is : List Item) (k : ℕ) (g : Put) where
   list-is : (typed : Bool) (n t : ℕ) → At is k (Val (listOf typed n t)) → plainBy f c is k g ≡ listBy typed t f n (opened c) is (suc k) g

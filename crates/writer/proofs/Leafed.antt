@@ -13,6 +13,7 @@ use Rattle.scalar.specs.declared.Sort.{Sort}
 use Rattle.scalar.specs.declared.Sort.the-variants as sort
 use Rattle.scalar.specs.declared.Kind.the-variants.{Utf8, Binary}
 use Rattle.scalar.specs.Scalars.{shortest, formsOf, units, stringAt, Scalar, Num, Str, shortestScalar, shortestInt, sortKind}
+use Rattle.scalar.specs.ScalarLaws.{number-shortest, string-shortest}
 use Rattle.record.specs.Records.{Value, Leaf, UntypedList, TypedList, UntypedMap, TypedMap, Object, Reference, Item, Val, Definition, ClassName, FieldName, TypeName, TypeNumber, Row, itemRow, told}
 use Rattle.record.specs.Answers.{value?, base}
 use Rattle.record.specs.Claimed.{itemAt, claims-back}
@@ -86,8 +87,11 @@ module _ (source : List ℕ) (r : code.Row) (references : ℕ) (out : List ℕ) 
 -- ---- a number
 module _ (x : Sort) (r : code.Row) (out : List ℕ) (s : ℕ) (p : Put) (out′ : List ℕ) where
   pub number-put : r .second ≡ 0 → PutMet (shortest (formsOf x) (r .first)) out s p out′ → NumberMet x r out s p out′
-  unfolding shortestScalar
-  number-put z h = record { says = λ source references e. leaf-put source r references out s (Num x (r .first)) (first-item source (a-number x) (rowOf r) e z) p out′ h }
+  number-put z h = record {
+    says = λ source references e.
+        let item = first-item source (a-number x) (rowOf r) e z in
+        leaf-put source r references out s (Num x (r .first)) item p out′ (rw (number-shortest x (r .first)) h);
+  }
 
 pub number-lost : (x : Sort) (r : code.Row) (out : List ℕ) (s : ℕ) (out′ : List ℕ) → (r .second ≡ 0 → ⊥) → NumberMet x r out s put.NoRecord out′
 number-lost x r out s out′ z = record { says = λ source references e. leaf-lost source r references out s out′ (first-none source (a-number x) (rowOf r) e z) }
@@ -133,13 +137,14 @@ module _ (r : code.Row) (references : ℕ) (out : List ℕ) (s : ℕ) where
 
 -- ---- a text
 pub leaf-text : (source : List ℕ) (r : code.Row) (references : ℕ) (out : List ℕ) (s : ℕ) → r .kind ≡ 7 → (p : Put) (out′ : List ℕ) → StringMet Utf8 source (r .place) (r .first) (r .second) out s p out′ → LeafMet source r references out s p out′
-unfolding shortestScalar
 leaf-text source r references out s e (put.Done n) out′ y =
     let z = text-put a-text source r e y n refl in
-    leaf-put source r references out s (Str Utf8 (z .content)) (z .item) (put.Done n) out′ (record { says = (z .written, z .form, z .puts) })
+    leaf-put source r references out s (Str Utf8 (z .content)) (z .item) (put.Done n) out′
+    (record { says = (z .written, string-shortest Utf8 (z .content) ∙ z .form, z .puts) })
 leaf-text source r references out s e put.NoRecord out′ y = text-not a-text source r e y refl
     (λ l. leaf-lost source r references out s out′ l)
-    (λ cs i l. leaf-put source r references out s (Str Utf8 cs) i put.NoRecord out′ (record { says = l }))
+    (λ cs i l. leaf-put source r references out s (Str Utf8 cs) i put.NoRecord out′
+    (record { says = string-shortest Utf8 cs ∙ l }))
 
 -- ---- a byte string
 -- its units are its bytes
@@ -156,10 +161,9 @@ module _ (source : List ℕ) (r : code.Row) (out : List ℕ) (s : ℕ) where
       go e (some cs) h = string-other-second source (rowOf r) e cs h d
 
   pub content-put : r .second ≡ 0 → (p : Put) (out′ : List ℕ) → StringMet Binary source (r .place) (r .first) (r .first) out s p out′ → ContentMet source r out s p out′
-  unfolding shortestScalar
   content-put z (put.Done n) out′ y = record {
     says = λ references e. leaf-put source r references out s (Str Binary (y .says .0)) (string-item source (rowOf r) e (y .says .0) (y .says .2 .opens) (y .says .2 .bytes-are) z) (put.Done n) out′
-        (record { says = (y .says .1, y .says .3, y .says .4) });
+        (record { says = (y .says .1, string-shortest Binary (y .says .0) ∙ y .says .3, y .says .4) });
   }
   content-put z put.NoRecord out′ y = record { says = λ references e. go references e (told (stringAt Binary source (r .place))) refl }
     where
@@ -167,7 +171,9 @@ module _ (source : List ℕ) (r : code.Row) (out : List ℕ) (s : ℕ) where
       go references e none h = leaf-lost source r references out s out′ (string-lost source (rowOf r) e h)
       go references e (some cs) h = by-cases (eqb (r .first) (length cs))
           (λ t. let l = eqb-true (r .first) (length cs) t in
-          leaf-put source r references out s (Str Binary cs) (string-item source (rowOf r) e cs h l z) put.NoRecord out′ (record { says = y .says cs (record { opens = h; units-are = l ∙ sym (bytes-units cs); bytes-are = l }) }))
+          let is = y .says cs (record { opens = h; units-are = l ∙ sym (bytes-units cs); bytes-are = l }) in
+          leaf-put source r references out s (Str Binary cs) (string-item source (rowOf r) e cs h l z) put.NoRecord out′
+          (record { says = string-shortest Binary cs ∙ is }))
           (λ t. leaf-lost source r references out s out′ (string-other-length source (rowOf r) e cs h (eqb-false (r .first) (length cs) t)))
 
 -- ---- by the row's kind

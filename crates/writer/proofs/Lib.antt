@@ -8,4 +8,3 @@ pub mod Walking
 pub mod Messages
 pub mod Leafed
 pub mod Heading
-pub mod Numbered

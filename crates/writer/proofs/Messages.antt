@@ -15,14 +15,14 @@ use Rattle.flow.specs.Flow as slices
 use Rattle.scalar.specs.Answers.{reported}
 use Rattle.record.specs.declared.Contents.the-variants.{Elements}
 use Rattle.record.specs.Records.{Item, Known, start, Row}
-use Rattle.record.specs.Answers.{putValue, WriteAnswer, Wrote, Refused, base, shortestOf, answeredTo, asNumbers, asBytes, lentRows, rowsOf, reportWritten, written, writeReport, writeOutput}
+use Rattle.record.specs.Answers.{putValue, WriteAnswer, Wrote, Refused, base, shortestOf, answeredTo, asNumbers, asBytes, lentRows, rowsOf, reportWritten, written, writeReport, writeOutput, baseOpenFrom}
 use Rattle.record.specs.Shorthands.{outputWritten}
 use Rattle.record.specs.Shorthands as shorthands
 use Rattle.record.specs.Takes.{value-drops}
 use Rattle.record.specs.Walked.{claimed-few, Walked, Over, Stuck, walk}
 use Rattle.record.specs.Contents.{left, one-value}
 use Rattle.record.specs.WrittenWhole.{Rights, whole-written, whole-short, whole-stuck, whole-wrong}
-use Rattle.record.specs.KnownArray.{knownIn}
+use Rattle.record.specs.KnownArray.{knownIn, knownSize}
 use Rattle.writer.specs.declared.puts.Put.{Put}
 use Rattle.writer.specs.declared.puts.Put.the-variants as put
 use Rattle.writer.specs.declared.puts.Step.{Step}
@@ -35,7 +35,7 @@ use Rattle.writer.proofs.Rowed.{rows-counted}
 
 -- ---- before the first row nothing is known
 abbrev blank : List ℕ
-blank = replicate 259 0
+blank = replicate knownSize 0
 
 pub ready-first : (is : List Item) → Ready is blank 0 0
 ready-first is = record {
@@ -49,31 +49,31 @@ ready-first is = record {
 module _ (openFrom : ℕ) (source t b : List ℕ) (n : ℕ) where
   -- what is written of them, and their shortest message
   abbrev All : Walked
-  All = walk (left (putValue base openFrom 32) (Elements 1) 0) start (itemsIn source t b n) 0
+  All = walk (left (putValue base openFrom (base .containers)) (Elements 1) 0) start (itemsIn source t b n) 0
 
   abbrev Shortest : Option (List ℕ)
-  Shortest = shortestOf base openFrom 32 source (rowsIn t b n)
+  Shortest = shortestOf base openFrom source (rowsIn t b n)
 
-  whole : (o : Walked) → All ≡ o → walk (putValue base openFrom 32) start (itemsIn source t b n) 0 ≡ o
-  whole o h = one-value (putValue base openFrom 32) (value-drops base openFrom 32) (itemsIn source t b n) start 0 o h
+  whole : (o : Walked) → All ≡ o → walk (putValue base openFrom (base .containers)) start (itemsIn source t b n) 0 ≡ o
+  whole o h = one-value (putValue base openFrom (base .containers)) (value-drops base openFrom (base .containers)) (itemsIn source t b n) start 0 o h
 
   -- all rows are written, up to q
   written-all : (w : List ℕ) (q : ℕ) (c : Known) → All ≡ Over w q c → n ≤ q → q ≤ length (itemsIn source t b n) → Rights source (rowsIn t b n) (itemsIn source t b n) 0 q → Shortest ≡ some w
-  written-all w q c h l i f = whole-written base openFrom 32 source (rowsIn t b n) w q c (whole (Over w q c) h) (omega (arith, rows-counted t b n, claimed-few source (rowsIn t b n))) f
+  written-all w q c h l i f = whole-written base openFrom source (rowsIn t b n) w q c (whole (Over w q c) h) (omega (arith, rows-counted t b n, claimed-few source (rowsIn t b n))) f
 
   module _ (out : List ℕ) (z : Step) (ks′ out′ : List ℕ) (m : ValuesMet source (rowsIn t b n) All (itemsIn source t b n) 0 0 out z ks′ out′) where
     said : (y : Step) → z ≡ y → ValuesSay source (rowsIn t b n) All (itemsIn source t b n) 0 0 out y ks′ out′
     said y e = subst (λ (y : Step). ValuesSay source (rowsIn t b n) All (itemsIn source t b n) 0 0 out y ks′ out′) e (m .says)
 
     pub put-none : z ≡ step.NoRecord → PutMet Shortest out 0 put.NoRecord out′
-    put-none e = record { says = ⊎-elim (λ h. whole-stuck base openFrom 32 source (rowsIn t b n) (whole Stuck h)) (λ h. whole-wrong base openFrom 32 source (rowsIn t b n) h) (said step.NoRecord e) }
+    put-none e = record { says = ⊎-elim (λ h. whole-stuck base openFrom source (rowsIn t b n) (whole Stuck h)) (λ h. whole-wrong base openFrom source (rowsIn t b n) h) (said step.NoRecord e) }
 
     module _ (q s : ℕ) (e : z ≡ step.Done q s) where
       went : Went All (itemsIn source t b n) 0 0 out q s ks′ out′
       went = said (step.Done q s) e .0
 
       pub put-short : q < n → PutMet Shortest out 0 put.NoRecord out′
-      put-short l = record { says = whole-short base openFrom 32 source (rowsIn t b n) (went .written) q (knownIn ks′) (whole (Over (went .written) q (knownIn ks′)) (went .says)) (omega (arith, rows-counted t b n)) }
+      put-short l = record { says = whole-short base openFrom source (rowsIn t b n) (went .written) q (knownIn ks′) (whole (Over (went .written) q (knownIn ks′)) (went .says)) (omega (arith, rows-counted t b n)) }
 
       pub put-done : n ≤ q → PutMet Shortest out 0 (put.Done s) out′
       put-done l = record { says = (went .written, written-all (went .written) q (knownIn ks′) (went .says) l (went .ready .within) (said (step.Done q s) e .1), went .puts) }
@@ -81,38 +81,38 @@ module _ (openFrom : ℕ) (source t b : List ℕ) (n : ℕ) where
 -- ---- what is answered and stored, where the shortest message is o
 module _ (o : Option (List ℕ)) (out : List ℕ) where
   -- an answer of the code, by the definitions' answer
-  into : (a : WriteAnswer) → shorthands.stored 262_144 (length out) o ≡ a → (r : answer.WriteAnswer) → report r ≡ reportWritten a → (out′ : List ℕ) → out′ ≡ outputWritten out a → WritesInto o out r out′
+  into : (a : WriteAnswer) → shorthands.stored base (length out) o ≡ a → (r : answer.WriteAnswer) → report r ≡ reportWritten a → (out′ : List ℕ) → out′ ≡ outputWritten out a → WritesInto o out r out′
   into a h r e out′ f = record { says = e ∙ ap reportWritten (sym h); holds = f ∙ ap (outputWritten out) (sym h) }
 
   -- p: what the first run came to, with the output e, none
   module _ (e e′ : List ℕ) (p : Put) (m : PutMet o e 0 p e′) where
     pub into-none : p ≡ put.NoRecord → WritesInto o out answers.NoRecord out
-    into-none d = into (Refused 10 0) (ap (shorthands.stored 262_144 (length out)) (subst (λ (p : Put). PutSays o e 0 p e′) d (m .says))) answers.NoRecord refl out refl
+    into-none d = into (Refused 10 0) (ap (shorthands.stored base (length out)) (subst (λ (p : Put). PutSays o e 0 p e′) d (m .says))) answers.NoRecord refl out refl
 
     module _ (s : ℕ) (d : p ≡ put.Done s) where
       sized : PutSays o e 0 (put.Done s) e′
       sized = subst (λ (p : Put). PutSays o e 0 p e′) d (m .says)
 
-      stored-as : shorthands.stored 262_144 (length out) o ≡ shorthands.stored 262_144 (length out) (some (sized .0))
-      stored-as = ap (shorthands.stored 262_144 (length out)) (sized .1)
+      stored-as : shorthands.stored base (length out) o ≡ shorthands.stored base (length out) (some (sized .0))
+      stored-as = ap (shorthands.stored base (length out)) (sized .1)
 
-      pub into-long : 262_144 < s → WritesInto o out answers.TooLong out
-      into-long l = into (Refused 1 0) (stored-as ∙ pick-true _ _ (lt-ltb 262_144 (length (sized .0)) (omega (arith, sized .2 .grows)))) answers.TooLong refl out refl
+      pub into-long : base .longest < s → WritesInto o out answers.TooLong out
+      into-long l = into (Refused 1 0) (stored-as ∙ pick-true _ _ (lt-ltb (base .longest) (length (sized .0)) (omega (arith, sized .2 .grows)))) answers.TooLong refl out refl
 
-      module _ (short : s ≤ 262_144) where
+      module _ (short : s ≤ base .longest) where
         is-size : s ≡ length (sized .0)
         is-size = omega (arith, sized .2 .grows)
 
         pub into-few : length out < s → WritesInto o out (answers.TooFew s) out
         into-few l = into (Refused 9 (length (sized .0)))
-            (stored-as ∙ pick-false _ _ (le-ltb 262_144 (length (sized .0)) (omega (arith, is-size))) ∙ pick-true _ _ (lt-ltb (length out) (length (sized .0)) (omega (arith, is-size))))
+            (stored-as ∙ pick-false _ _ (le-ltb (base .longest) (length (sized .0)) (omega (arith, is-size))) ∙ pick-true _ _ (lt-ltb (length out) (length (sized .0)) (omega (arith, is-size))))
             (answers.TooFew s) (ap (λ (n : ℕ). reported 9 n) is-size) out refl
 
         -- the second run stores what the first counted
         module _ (fits : s ≤ length out) where
           pub into-done : (z : Put) (out′ : List ℕ) → PutMet o out 0 z out′ → WritesInto o out (answers.Written s) out′
           into-done z out′ h = into (Wrote (sized .0))
-              (stored-as ∙ pick-false _ _ (le-ltb 262_144 (length (sized .0)) (omega (arith, is-size))) ∙ pick-false _ _ (le-ltb (length out) (length (sized .0)) (omega (arith, is-size))))
+              (stored-as ∙ pick-false _ _ (le-ltb (base .longest) (length (sized .0)) (omega (arith, is-size))) ∙ pick-false _ _ (le-ltb (length out) (length (sized .0)) (omega (arith, is-size))))
               (answers.Written s) (ap (λ (n : ℕ). reported 0 n) is-size) out′ (go z (h .says))
             where
               go : (z : Put) → PutSays o out 0 z out′ → out′ ≡ slices.stored out 0 (sized .0)
@@ -128,12 +128,12 @@ module _ (openFrom : ℕ) (source t b : List ℕ) (n : ℕ) (out : List ℕ) whe
   from : (a : WriteAnswer) → writtenFrom openFrom source t b n (length out) ≡ a → (r : answer.WriteAnswer) → report r ≡ reportWritten a → (out′ : List ℕ) → out′ ≡ outputWritten out a → WritesFrom openFrom source t b n out r out′
   from a h r e out′ f = record { says = e ∙ ap reportWritten (sym h); holds = f ∙ ap (outputWritten out) (sym h) }
 
-  pub from-long : 262_144 < length source → WritesFrom openFrom source t b n out answers.TooLong out
-  from-long l = from (Refused 1 0) (pick-true _ _ (lt-ltb 262_144 (length source) l)) answers.TooLong refl out refl
+  pub from-long : base .longest < length source → WritesFrom openFrom source t b n out answers.TooLong out
+  from-long l = from (Refused 1 0) (pick-true _ _ (lt-ltb (base .longest) (length source) l)) answers.TooLong refl out refl
 
-  module _ (short : length source ≤ 262_144) where
-    answered : (x : Option (List ℕ)) → pick (ltb (lentIn t b) n) none (Shortest openFrom source t b n) ≡ x → writtenFrom openFrom source t b n (length out) ≡ shorthands.stored 262_144 (length out) x
-    answered x h = pick-false _ _ (le-ltb 262_144 (length source) short) ∙ ap (shorthands.stored 262_144 (length out)) h
+  module _ (short : length source ≤ base .longest) where
+    answered : (x : Option (List ℕ)) → pick (ltb (lentIn t b) n) none (Shortest openFrom source t b n) ≡ x → writtenFrom openFrom source t b n (length out) ≡ shorthands.stored base (length out) x
+    answered x h = pick-false _ _ (le-ltb (base .longest) (length source) short) ∙ ap (shorthands.stored base (length out)) h
 
     module _ (lent : ℕ) (is : lent ≡ lentIn t b) where
       pub from-claim : lent < n → WritesFrom openFrom source t b n out answers.NoRecord out
@@ -141,7 +141,7 @@ module _ (openFrom : ℕ) (source t b : List ℕ) (n : ℕ) (out : List ℕ) whe
 
       pub from-rows : n ≤ lent → (r : answer.WriteAnswer) (out′ : List ℕ) → WritesInto (Shortest openFrom source t b n) out r out′ → WritesFrom openFrom source t b n out r out′
       from-rows l r out′ m =
-          from (shorthands.stored 262_144 (length out) (Shortest openFrom source t b n)) (answered (Shortest openFrom source t b n) (pick-false _ _ (le-ltb (lentIn t b) n (omega arith)))) r (m .says) out′ (m .holds)
+          from (shorthands.stored base (length out) (Shortest openFrom source t b n)) (answered (Shortest openFrom source t b n) (pick-false _ _ (le-ltb (lentIn t b) n (omega arith)))) r (m .says) out′ (m .holds)
 
 -- ---- one table
 lent-numbers : (t : List ℕ) → lentIn t [] ≡ lentRows asNumbers t
@@ -150,12 +150,12 @@ lent-numbers t = pick-true _ _ refl
 pub lent-of-numbers : (t : List ℕ) → lentRows asNumbers t ≡ lentIn t []
 lent-of-numbers t = sym (lent-numbers t)
 
-from-numbers : (openFrom : ℕ) (source t : List ℕ) (n lent : ℕ) → writtenFrom openFrom source t [] n lent ≡ written base openFrom 32 262_144 asNumbers source t n lent
+from-numbers : (openFrom : ℕ) (source t : List ℕ) (n lent : ℕ) → writtenFrom openFrom source t [] n lent ≡ written base openFrom asNumbers source t n lent
 unfolding written
 from-numbers openFrom source t n lent =
     let a = lent-numbers t in
     let c : rowsIn t [] n ≡ rowsOf asNumbers n t = pick-true _ _ refl in
-    λ i. answeredTo 262_144 lent source (pick (ltb (a i) n) none (shortestOf base openFrom 32 source (c i)))
+    λ i. answeredTo base lent source (pick (ltb (a i) n) none (shortestOf base openFrom source (c i)))
 
 -- of bytes, an empty one too
 lent-bytes : (b : List ℕ) → lentIn [] b ≡ lentRows asBytes b
@@ -168,29 +168,29 @@ lent-bytes b = go (eqb (length b) 0) refl
 pub lent-of-bytes : (b : List ℕ) → lentRows asBytes b ≡ lentIn [] b
 lent-of-bytes b = sym (lent-bytes b)
 
-from-bytes : (openFrom : ℕ) (source b : List ℕ) (n lent : ℕ) → writtenFrom openFrom source [] b n lent ≡ written base openFrom 32 262_144 asBytes source b n lent
+from-bytes : (openFrom : ℕ) (source b : List ℕ) (n lent : ℕ) → writtenFrom openFrom source [] b n lent ≡ written base openFrom asBytes source b n lent
 unfolding written rowsOf
-from-bytes openFrom source b n lent = (λ i. answeredTo 262_144 lent source (pick (ltb (lent-bytes b i) n) none (shortestOf base openFrom 32 source (rowsIn [] b n)))) ∙ ap (answeredTo 262_144 lent source) (go n)
+from-bytes openFrom source b n lent = (λ i. answeredTo base lent source (pick (ltb (lent-bytes b i) n) none (shortestOf base openFrom source (rowsIn [] b n)))) ∙ ap (answeredTo base lent source) (go n)
   where
-    go : (n : ℕ) → pick (ltb (lentRows asBytes b) n) none (shortestOf base openFrom 32 source (rowsIn [] b n)) ≡ pick (ltb (lentRows asBytes b) n) none (shortestOf base openFrom 32 source (rowsOf asBytes n b))
-    go zero = ap (λ (r : List Row). pick (ltb (lentRows asBytes b) 0) none (shortestOf base openFrom 32 source r)) (both (eqb (length b) 0))
+    go : (n : ℕ) → pick (ltb (lentRows asBytes b) n) none (shortestOf base openFrom source (rowsIn [] b n)) ≡ pick (ltb (lentRows asBytes b) n) none (shortestOf base openFrom source (rowsOf asBytes n b))
+    go zero = ap (λ (r : List Row). pick (ltb (lentRows asBytes b) 0) none (shortestOf base openFrom source r)) (both (eqb (length b) 0))
       where
         both : (e : Bool) → pick e (rowsOf asNumbers 0 []) (rowsOf asBytes 0 b) ≡ rowsOf asBytes 0 b
         both true = pick-true _ _ refl
         both false = pick-false _ _ refl
     go (suc n) = some-rows (eqb (length b) 0) refl
       where
-        some-rows : (e : Bool) → eqb (length b) 0 ≡ e → pick (ltb (lentRows asBytes b) (suc n)) none (shortestOf base openFrom 32 source (rowsIn [] b (suc n))) ≡ pick (ltb (lentRows asBytes b) (suc n)) none (shortestOf base openFrom 32 source (rowsOf asBytes (suc n) b))
+        some-rows : (e : Bool) → eqb (length b) 0 ≡ e → pick (ltb (lentRows asBytes b) (suc n)) none (shortestOf base openFrom source (rowsIn [] b (suc n))) ≡ pick (ltb (lentRows asBytes b) (suc n)) none (shortestOf base openFrom source (rowsOf asBytes (suc n) b))
         some-rows true h =
             let l : ltb (lentRows asBytes b) (suc n) ≡ true = lt-ltb (lentRows asBytes b) (suc n) (omega (arith, eqb-true (length b) 0 h)) in
             pick-true _ _ l ∙ sym (pick-true _ _ l)
-        some-rows false h = ap (λ (r : List Row). pick (ltb (lentRows asBytes b) (suc n)) none (shortestOf base openFrom 32 source r)) (pick-false _ _ h)
+        some-rows false h = ap (λ (r : List Row). pick (ltb (lentRows asBytes b) (suc n)) none (shortestOf base openFrom source r)) (pick-false _ _ h)
 
 module _ (source : List ℕ) (n : ℕ) (out : List ℕ) (r : answer.WriteAnswer) (out′ : List ℕ) where
-  pub numbers-written : (t : List ℕ) → WritesFrom 48 source t [] n out r out′
-      → (report r ≡ writeReport base 48 32 262_144 asNumbers source t n out) × (out′ ≡ writeOutput base 48 32 262_144 asNumbers source t n out)
-  numbers-written t m = let e = from-numbers 48 source t n (length out) in (m .says ∙ ap reportWritten e, m .holds ∙ ap (outputWritten out) e)
+  pub numbers-written : (t : List ℕ) → WritesFrom baseOpenFrom source t [] n out r out′
+      → (report r ≡ writeReport base baseOpenFrom asNumbers source t n out) × (out′ ≡ writeOutput base baseOpenFrom asNumbers source t n out)
+  numbers-written t m = let e = from-numbers baseOpenFrom source t n (length out) in (m .says ∙ ap reportWritten e, m .holds ∙ ap (outputWritten out) e)
 
-  pub bytes-written : (b : List ℕ) → WritesFrom 48 source [] b n out r out′
-      → (report r ≡ writeReport base 48 32 262_144 asBytes source b n out) × (out′ ≡ writeOutput base 48 32 262_144 asBytes source b n out)
-  bytes-written b m = let e = from-bytes 48 source b n (length out) in (m .says ∙ ap reportWritten e, m .holds ∙ ap (outputWritten out) e)
+  pub bytes-written : (b : List ℕ) → WritesFrom baseOpenFrom source [] b n out r out′
+      → (report r ≡ writeReport base baseOpenFrom asBytes source b n out) × (out′ ≡ writeOutput base baseOpenFrom asBytes source b n out)
+  bytes-written b m = let e = from-bytes baseOpenFrom source b n (length out) in (m .says ∙ ap reportWritten e, m .holds ∙ ap (outputWritten out) e)

@@ -14,7 +14,7 @@ use Rattle.record.specs.RowItems.{type-name, type-number, first-item, first-non
 use Rattle.record.specs.Walked.{At, Over, Stuck, walk, walk-bytes, walk-within}
 use Rattle.record.specs.WrittenNames.{isType, type-end, type-other, type-name-other, type-name-full, type-name-none, type-number-other, type-number-ungiven, type-number-none}
 use Rattle.record.specs.WrittenNames as types
-use Rattle.record.specs.KnownArray.{knownIn, Kept, known-typed, kept-typed, references-same}
+use Rattle.record.specs.KnownArray.{knownIn, Kept, known-typed, kept-typed, references-same, typesSlot}
 use Rattle.record.specs.declared.Row as code
 use Rattle.writer.specs.declared.rows.Fetched.{Fetched}
 use Rattle.writer.specs.declared.rows.Fetched.the-variants as fetched
@@ -34,20 +34,20 @@ module _ (source : List ℕ) (r : code.Row) (t : ℕ) (ks : List ℕ) (w : Kept 
   unnamed f = record { says = λ is k x. record { says = f is k x }; kept = w; references = refl }
 
   module _ (h : r .kind ≡ 18) where
-    pub type-misnumbered : {out′ : List ℕ} → (getD ks 257 0 ≡ t → ⊥) → TypeRowMet source r t ks out s put.NoRecord ks out′
+    pub type-misnumbered : {out′ : List ℕ} → (getD ks typesSlot 0 ≡ t → ⊥) → TypeRowMet source r t ks out s put.NoRecord ks out′
     type-misnumbered d = unnamed (λ is k x. text-either type-name source r h
         (λ e. type-end base t (knownIn ks) is k (x .lost e)) (λ cs e. type-name-other base t (knownIn ks) is k cs (x .item _ e) d))
 
-    pub type-full : {out′ : List ℕ} → 256 ≤ getD ks 257 0 → TypeRowMet source r t ks out s put.NoRecord ks out′
+    pub type-full : {out′ : List ℕ} → base .types ≤ getD ks typesSlot 0 → TypeRowMet source r t ks out s put.NoRecord ks out′
     type-full l = unnamed (λ is k x. text-either type-name source r h
         (λ e. type-end base t (knownIn ks) is k (x .lost e)) (λ cs e. type-name-full base t (knownIn ks) is k cs (x .item _ e) l))
 
-    pub type-named : {p : Put} {out′ : List ℕ} → getD ks 257 0 ≡ t → getD ks 257 0 < 256 → StringMet Utf8 source (r .place) (r .first) (r .second) out s p out′
-        → TypeRowMet source r t ks out s p (set ks 257 (getD ks 257 0 + 1)) out′
+    pub type-named : {p : Put} {out′ : List ℕ} → getD ks typesSlot 0 ≡ t → getD ks typesSlot 0 < base .types → StringMet Utf8 source (r .place) (r .first) (r .second) out s p out′
+        → TypeRowMet source r t ks out s p (set ks typesSlot (getD ks typesSlot 0 + 1)) out′
     type-named {p} {out′} e l y = record { says = λ is k x. record { says = go is k x p y }; kept = kept-typed ks w l; references = references-same ks w }
       where
         go : (is : List Item) (k : ℕ) → Stands source r is k → (p : Put) → StringMet Utf8 source (r .place) (r .first) (r .second) out s p out′
-            → WalkSays (walk (putType base t) (knownIn ks) is k) (suc k) (knownIn (set ks 257 (getD ks 257 0 + 1))) out s p out′
+            → WalkSays (walk (putType base t) (knownIn ks) is k) (suc k) (knownIn (set ks typesSlot (getD ks typesSlot 0 + 1))) out s p out′
         go is k x (put.Done s′) y =
             let z = text-put type-name source r h y s′ refl in
             (z .written, types.type-name base t (knownIn ks) is k (z .content) (x .item _ (z .item)) e l (z .written) (z .form) ∙ ap (λ (c : Known). Over (z .written) (suc k) c) (sym (known-typed ks w)), z .puts)
@@ -68,10 +68,10 @@ module _ (source : List ℕ) (r : code.Row) (t : ℕ) (ks : List ℕ) (w : Kept 
       type-another d = unnamed (λ is k x. type-number-other base t (knownIn ks) is k (r .first) (numbered is k x) d)
 
       module _ (e : r .first ≡ t) where
-        pub type-ungiven : {out′ : List ℕ} → getD ks 257 0 ≤ t → TypeRowMet source r t ks out s put.NoRecord ks out′
+        pub type-ungiven : {out′ : List ℕ} → getD ks typesSlot 0 ≤ t → TypeRowMet source r t ks out s put.NoRecord ks out′
         type-ungiven l = unnamed (λ is k x. type-number-ungiven base t (knownIn ks) is k (r .first) (numbered is k x) (omega arith))
 
-        pub type-by-number : {p : Put} {out′ : List ℕ} → t < getD ks 257 0 → PutMet (shortestInt t) out s p out′ → TypeRowMet source r t ks out s p ks out′
+        pub type-by-number : {p : Put} {out′ : List ℕ} → t < getD ks typesSlot 0 → PutMet (shortestInt t) out s p out′ → TypeRowMet source r t ks out s p ks out′
         type-by-number {p} {out′} l y = record { says = λ is k x. record { says = go is k x p (y .says) }; kept = w; references = refl }
           where
             go : (is : List Item) (k : ℕ) → Stands source r is k → (p : Put) → PutSays (shortestInt t) out s p out′ → WalkSays (walk (putType base t) (knownIn ks) is k) (suc k) (knownIn ks) out s p out′

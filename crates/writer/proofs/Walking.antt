@@ -30,7 +30,7 @@ use Rattle.record.specs.Contents.{left, done, Room, room-first, room-next, left
 use Rattle.record.specs.WrittenValues.{below, below-none, below-some, written-span}
 use Rattle.record.specs.Bare.{NoneIn}
 use Rattle.record.specs.WrittenWhole.{Rights, Wrong}
-use Rattle.record.specs.KnownArray.{knownIn}
+use Rattle.record.specs.KnownArray.{knownIn, referencesSlot}
 use Rattle.record.specs.declared.Row as code
 use Rattle.writer.specs.declared.puts.Put.{Put}
 use Rattle.writer.specs.declared.puts.Put.the-variants as put
@@ -43,7 +43,7 @@ use Rattle.writer.specs.declared.holders.Begun.the-variants as begun
 use Rattle.writer.specs.declared.values.Entered.{Entered}
 use Rattle.writer.specs.declared.values.Entered.the-variants as entered
 use Rattle.record.specs.RowLaws.{rowOf}
-use Rattle.writer.specs.Inside.{Stands, Puts, WalkSays, WalkMet, NoHolder, Holder, LeafMet, Ready, Went, StepSays, StepMet, Reached, FoundSays, FoundMet, closed, closing, Opens, OpensSays, OpensMet, Inner, BeginSays, BeginMet, BareIn, HolderAt, HolderMet, HeldIn, RowMet, Holds, EnterSays, EnterMet, ValuesSay, ValuesMet}
+use Rattle.writer.specs.Inside.{Stands, Puts, WalkSays, WalkMet, NoHolder, Holder, LeafMet, Ready, Went, StepSays, StepMet, Reached, FoundSays, FoundMet, closed, closing, Opens, OpensSays, OpensMet, Inner, BeginSays, BeginMet, BareIn, HolderAt, HolderMet, HeldIn, RowMet, Holds, EnterSays, EnterMet, ValuesSay, ValuesMet, overLongest}
 use Rattle.writer.proofs.Putting.{puts-none, puts-on}
 use Rattle.writer.proofs.Rowed.{stands-either}
 
@@ -64,7 +64,7 @@ module _ (b : Bool) (out : List ℕ) (s : ℕ) where
   pub closing-put : b ≡ true → (out′ : List ℕ) (r : ℕ) → Puts out s (0x5a ∷ []) out′ r → Puts out s (closing b) out′ r
   closing-put e out′ r h = rw e h
 
-  pub closing-none : b ≡ false → s ≤ 262_145 → Puts out s (closing b) out s
+  pub closing-none : b ≡ false → s ≤ overLongest → Puts out s (closing b) out s
   closing-none e l = rw e (puts-none out s l)
 
 rights-on : (source : List ℕ) (rs : List Row) {is : List Item} {k p q : ℕ} → Rights source rs is k p → Rights source rs is p q → Rights source rs is k q
@@ -115,7 +115,7 @@ module _ (openFrom d : ℕ) (source : List ℕ) (is : List Item) (ks out : List 
   abbrev Row-here : Walked
   Row-here = walk (putPlain base openFrom (below base openFrom d)) (knownIn ks) is k
 
-  module _ (p : Put) (out′ : List ℕ) (m : LeafMet source r (getD ks 258 0) out s p out′) where
+  module _ (p : Put) (out′ : List ℕ) (m : LeafMet source r (getD ks referencesSlot 0) out s p out′) where
     leaf-says : WalkMet Row-here (suc k) (knownIn ks) out s p out′
     leaf-says = m .says openFrom (below base openFrom d) (knownIn ks) is k stands refl
 
@@ -400,7 +400,7 @@ module _ (source : List ℕ) (rs : List Row) (n openFrom d : ℕ) (is : List Ite
               pub values-wrong : (q ≡ last → ⊥) → (out₃ : List ℕ) → ValuesMet source rs All is from s₀ out₀ step.NoRecord ks₂ out₃
               values-wrong w out₃ = record { says = inr (record { row = holder .row; value = holder .value; stands = holder .stands; other = λ e. w (sym ends-there ∙ sym e ∙ sym (holder .last-is)) }) }
 
-              pub inside-size : s₂ ≤ 262_145
+              pub inside-size : s₂ ≤ overLongest
               inside-size = inside .ready .size-few
 
               pub within-less : n - q < n - k

@@ -9,10 +9,12 @@ use lib.Dec.{ltb, eqb}
 use lib.ListN.{length, take, drop, getD}
 use Rattle.flow.specs.Flow.{pick, stored}
 use Rattle.scalar.specs.declared.Sort.{Sort}
-use Rattle.scalar.specs.declared.Rule.the-variants.{Exactly, Offset}
 use Rattle.scalar.specs.declared.Kind.{Kind}
-use Rattle.scalar.specs.Scalars.{units, stringAt, shortestString, shortestInt, sortKind, Form, form, formsOf}
+use Rattle.scalar.specs.declared.Written.{Written}
+use Rattle.scalar.specs.declared.Written.the-variants.{Stored, NoRoom, NotSuch}
+use Rattle.scalar.specs.Scalars.{units, stringAt, shortestString, shortestInt, sortKind}
 use Rattle.record.specs.declared.Contents.{Contents}
+use Rattle.record.specs.Kinds.{bytes-kind, list-kind, object-kind, reference-kind, class-name-kind, field-name-kind}
 use Rattle.record.specs.Records.{Value, Item, Val, Definition, Known, Row, row, span, told}
 use Rattle.record.specs.Answers.{putThen, putMany, putBytes, putIf, className?, fieldName?, putName, putOpen, putList, objectCode, putType, putDefinition, putValue, base, WriteAnswer, shortestOf, answeredTo, Layout, asNumbers, asBytes, lentRows, rowsOf, reportWritten}
 use Rattle.record.specs.Shorthands.{putPlain, outputWritten}
@@ -28,7 +30,7 @@ use Rattle.record.specs.WrittenNames.{namesLeft}
 use Rattle.record.specs.WrittenValues.{below}
 use Rattle.record.specs.Bare.{NoneIn}
 use Rattle.record.specs.WrittenWhole.{Rights, Wrong}
-use Rattle.record.specs.KnownArray.{knownIn, Kept}
+use Rattle.record.specs.KnownArray.{knownIn, Kept, referencesSlot}
 use Rattle.record.specs.declared.Row as code
 use Rattle.writer.specs.declared.rows.Fetched.{Fetched}
 use Rattle.writer.specs.declared.rows.Fetched.the-variants as fetched
@@ -75,11 +77,21 @@ pub record FetchMet (t b : List ℕ) (n k : ℕ) (r : Fetched) : Type 0 where
   pub row-is : (x : code.Row) → r ≡ fetched.Row x → getD (rowsIn t b n) k (row 0 0 0 0 0) ≡ rowOf x
   pub says : (source : List ℕ) → k ≤ length (itemsIn source t b n) → FetchSays source (itemsIn source t b n) n k r
 
+-- one more than the bytes of the longest message: so far bytes are counted
+abbrev pub overLongest : ℕ
+overLongest = suc (base .longest)
+
 -- ---- the bytes w are put behind the first `size`: counted up to one more than the longest message, and stored where they fit
 pub record Puts (out : List ℕ) (size : ℕ) (w out′ : List ℕ) (size′ : ℕ) : Type 0 where
-  pub grows : size′ ≡ min (size + length w) 262_145
+  pub grows : size′ ≡ min (size + length w) overLongest
   pub same : length out′ ≡ length out
-  pub holds : size + length w ≤ length out → size + length w ≤ 262_144 → out′ ≡ stored out size w
+  pub holds : size + length w ≤ length out → size + length w ≤ base .longest → out′ ≡ stored out size w
+
+-- what was put, by what writing it came to
+abbrev pub putOf : Written → ℕ → Put
+putOf (Stored n) size = put.Done (min (size + n) overLongest)
+putOf (NoRoom n) size = put.Done (min (size + n) overLongest)
+putOf NotSuch size = put.NoRecord
 
 -- a form is put, if there is one
 abbrev pub PutSays : Option (List ℕ) → List ℕ → ℕ → Put → List ℕ → Type 0
@@ -88,19 +100,6 @@ PutSays o out size put.NoRecord out′ = o ≡ none
 
 pub record PutMet (o : Option (List ℕ)) (out : List ℕ) (size : ℕ) (r : Put) (out′ : List ℕ) : Type 0 where
   pub says : PutSays o out size r out′
-
--- a kind of value with one form, of this byte
-pub record Single (s : Sort) (code : ℕ) : Type 0 where
-  pub forms : formsOf s ≡ form code 1 0 (Exactly 0) ∷ []
-
--- ints and longs: the forms of one, two and three bytes, by their codes
-pub record Whole (s : Sort) (one codes zero two three : ℕ) : Type 0 where
-  pub others : List Form
-  pub forms : formsOf s ≡ form one codes 0 (Offset zero) ∷ form two 16 1 (Offset 0x800) ∷ form three 8 2 (Offset 0x4_0000) ∷ others
-  pub one-fits : one + codes ≤ 256
-  pub zero-fits : zero ≤ 256
-  pub two-fits : two ≤ 0xf0
-  pub three-fits : three ≤ 0xf8
 
 -- ---- the place p of the source opens a complete text or byte string with the content cs, of u units and b bytes
 pub record Opened (k : Kind) (source : List ℕ) (p u b : ℕ) (cs : List ℕ) : Type 0 where
@@ -127,7 +126,7 @@ pub record WalkMet (o : Walked) (e : ℕ) (c : Known) (out : List ℕ) (s : ℕ)
 -- ---- values that hold no others
 -- no kind of a list, map or object
 pub record NoHolder (kind : ℕ) : Type 0 where
-  pub other : (kind < 9) ⊎ (13 < kind)
+  pub other : (kind < list-kind) ⊎ (object-kind < kind)
 
 pub record LeafMet (source : List ℕ) (r : code.Row) (references : ℕ) (out : List ℕ) (s : ℕ) (p : Put) (out′ : List ℕ) : Type 0 where
   pub says : (openFrom : ℕ) (inner : Option spelling.Put) (c : Known) (is : List Item) (k : ℕ) → Stands source r is k → c .references ≡ references → WalkMet (walk (putPlain base openFrom inner) c is k) (suc k) c out s p out′
@@ -136,15 +135,15 @@ pub record NumberMet (x : Sort) (r : code.Row) (out : List ℕ) (s : ℕ) (p : P
   pub says : (source : List ℕ) (references : ℕ) → r .kind ≡ sortKind x → LeafMet source r references out s p out′
 
 pub record ContentMet (source : List ℕ) (r : code.Row) (out : List ℕ) (s : ℕ) (p : Put) (out′ : List ℕ) : Type 0 where
-  pub says : (references : ℕ) → r .kind ≡ 8 → LeafMet source r references out s p out′
+  pub says : (references : ℕ) → r .kind ≡ bytes-kind → LeafMet source r references out s p out′
 
 pub record ReferenceMet (r : code.Row) (references : ℕ) (out : List ℕ) (s : ℕ) (p : Put) (out′ : List ℕ) : Type 0 where
-  pub says : (source : List ℕ) → r .kind ≡ 14 → LeafMet source r references out s p out′
+  pub says : (source : List ℕ) → r .kind ≡ reference-kind → LeafMet source r references out s p out′
 
--- ---- names: 16 of a class, 17 of a field
+-- ---- names: of a class, of a field
 pub data Naming : ℕ → (Item → Option (List ℕ)) → Type 0 where
-  class-name : Naming 16 className?
-  field-name : Naming 17 fieldName?
+  class-name : Naming class-name-kind className?
+  field-name : Naming field-name-kind fieldName?
 
 pub record NameMet (kind : ℕ) (is : List Item) (k : ℕ) (out : List ℕ) (s : ℕ) (r : Put) (out′ : List ℕ) : Type 0 where
   pub says : (part : Item → Option (List ℕ)) → Naming kind part → (c : Known) → WalkMet (walk (putName part) c is k) (suc k) c out s r out′
@@ -157,8 +156,8 @@ pub record NamesMet (is : List Item) (k n : ℕ) (out : List ℕ) (s : ℕ) (r :
 pub record Ready (is : List Item) (ks : List ℕ) (k s : ℕ) : Type 0 where
   pub kept : Kept ks
   pub within : k ≤ length is
-  pub references-few : getD ks 258 0 ≤ k
-  pub size-few : s ≤ 262_145
+  pub references-few : getD ks referencesSlot 0 ≤ k
+  pub size-few : s ≤ overLongest
 
 -- what is written is o: it ends at p, from the index `from` on, and its bytes are put
 pub record Went (o : Walked) (is : List Item) (from s : ℕ) (out : List ℕ) (p s′ : ℕ) (ks′ out′ : List ℕ) : Type 0 where
@@ -185,7 +184,7 @@ typeBy false t = putBytes (some [])
 pub record TypeRowMet (source : List ℕ) (r : code.Row) (t : ℕ) (ks out : List ℕ) (s : ℕ) (p : Put) (ks′ out′ : List ℕ) : Type 0 where
   pub says : (is : List Item) (k : ℕ) → Stands source r is k → WalkMet (walk (putType base t) (knownIn ks) is k) (suc k) (knownIn ks′) out s p out′
   pub kept : Kept ks′
-  pub references : getD ks′ 258 0 ≡ getD ks 258 0
+  pub references : getD ks′ referencesSlot 0 ≡ getD ks referencesSlot 0
 
 -- the type that the row r names by number
 pub record TypeNumberMet (r : code.Row) (t : ℕ) (ks out : List ℕ) (s : ℕ) (p : Put) (out′ : List ℕ) : Type 0 where
@@ -197,7 +196,8 @@ abbrev pub ClassSays : List Item → ℕ → ℕ → List ℕ → ℕ → Put �
 ClassSays is k n out s (put.Done s′) out′ =
     (c : Known) → (w : List ℕ) × (v : List ℕ) × (walk (putName className?) c is (suc k) ≡ Over w (suc (suc k)) c) × (shortestInt n ≡ some v) × Puts out s (0x43 ∷ (w ++ v)) out′ s′
 ClassSays is k n out s put.NoRecord out′ =
-    (c : Known) → At is k (Definition n) → length (c .classes) < 256 → n ≤ 256 → walk (putDefinition base) c is k ≡ Stuck
+    (c : Known) → At is k (Definition n) → length (c .classes) < base .classes → n ≤ base .fields
+    → walk (putDefinition base) c is k ≡ Stuck
 
 pub record ClassMet (is : List Item) (k n : ℕ) (out : List ℕ) (s : ℕ) (r : Put) (out′ : List ℕ) : Type 0 where
   pub says : ClassSays is k n out s r out′
@@ -295,8 +295,8 @@ pub record ObjectMet (j n : ℕ) (ks : List ℕ) (k s : ℕ) (out : List ℕ) (r
 
 -- the kind of a list, map or object
 pub record Holder (kind : ℕ) : Type 0 where
-  pub from : 9 ≤ kind
-  pub to : kind ≤ 13
+  pub from : list-kind ≤ kind
+  pub to : kind ≤ object-kind
 
 -- ---- values
 -- what is written is o: bytes, and then the values of a list, map or object from p on, where d more may open
@@ -365,12 +365,13 @@ pub record ValuesMet (source : List ℕ) (rs : List Row) (o : Walked) (is : List
 -- ---- messages
 -- the rows lent have the shortest message o, or none
 pub record WritesInto (o : Option (List ℕ)) (out : List ℕ) (r : answer.WriteAnswer) (out′ : List ℕ) : Type 0 where
-  pub says : report r ≡ reportWritten (shorthands.stored 262_144 (length out) o)
-  pub holds : out′ ≡ outputWritten out (shorthands.stored 262_144 (length out) o)
+  pub says : report r ≡ reportWritten (shorthands.stored base (length out) o)
+  pub holds : out′ ≡ outputWritten out (shorthands.stored base (length out) o)
 
 -- the first n rows of the tables, which may be more than are lent
 abbrev pub writtenFrom : ℕ → List ℕ → List ℕ → List ℕ → ℕ → ℕ → WriteAnswer
-writtenFrom openFrom source t b n lent = answeredTo 262_144 lent source (pick (ltb (lentIn t b) n) none (shortestOf base openFrom 32 source (rowsIn t b n)))
+writtenFrom openFrom source t b n lent = answeredTo base lent source
+    (pick (ltb (lentIn t b) n) none (shortestOf base openFrom source (rowsIn t b n)))
 
 pub record WritesFrom (openFrom : ℕ) (source t b : List ℕ) (n : ℕ) (out : List ℕ) (r : answer.WriteAnswer) (out′ : List ℕ) : Type 0 where
   pub says : report r ≡ reportWritten (writtenFrom openFrom source t b n (length out))

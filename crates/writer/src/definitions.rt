@@ -3,16 +3,23 @@ use crate::puts::Put;
 use crate::puts::Step;
 use crate::rows::Fetched;
 use record::Row;
+use record::kinds::CLASS;
+use record::kinds::CLASS_NAME;
+use record::known::CLASSES_GIVEN;
+use record::known::KNOWN;
+use record::limits::CLASSES;
+use record::limits::FIELDS;
 ghost use mathlib.Core.Path.{_≡_};
 ghost use Prim.Native.Nat.{_+_, _≤_, _<_};
 ghost use lib.ListN.{length};
+ghost use Rattle.record.specs.Kinds.{class-kind};
 ghost use Rattle.record.specs.Answers.{base, putDefinition};
 ghost use Rattle.record.specs.Walked.{walk};
 ghost use Rattle.record.specs.KnownArray.{knownIn};
-ghost use Rattle.writer.specs.Inside.{lentIn, rowsIn, itemsIn, Stands, Ready, ClassMet, StepMet, FoundMet};
+ghost use Rattle.writer.specs.Inside.{lentIn, rowsIn, itemsIn, Stands, Ready, ClassMet, StepMet, FoundMet, overLongest};
 
 // The row of the value past class definitions, where it stands, and how many bytes there are then; or there is no record.
-pub enum Found {
+pub(crate) enum Found {
     Value { at: usize, size: usize, row: Row },
     NoRecord,
 }
@@ -28,11 +35,14 @@ fn put_class(
     out: &mut [u8],
     size: usize,
 ) -> Put
-    requires { ⌜ (size ≤ 262145) × (n ≤ lentIn (now numbers) (now bytes)) × (k < length (itemsIn (now source) (now numbers) (now bytes) n)) × (k < n) ⌝ }
+    requires { ⌜
+        (size ≤ overLongest) × (n ≤ lentIn (now numbers) (now bytes))
+        × (k < length (itemsIn (now source) (now numbers) (now bytes) n)) × (k < n)
+        ⌝ }
     ensures { λ r. ⌜ ClassMet (itemsIn (now (source .entry)) (now (numbers .entry)) (now (bytes .entry)) n) k fields (now (out .entry)) size r (now (out .exit)) ⌝ }
 {
     let at = crate::puts::put_byte(out, size, 0x43);
-    match crate::names::put_name(16, source, numbers, bytes, n, k + 1, out, at) {
+    match crate::names::put_name(CLASS_NAME, source, numbers, bytes, n, k + 1, out, at) {
         Put::NoRecord => Put::NoRecord,
         Put::Done { size: s } => crate::puts::put_int(fields, out, s),
     }
@@ -44,23 +54,23 @@ fn put_definition(
     numbers: &[u64],
     bytes: &[u8],
     n: usize,
-    known: &mut [u64; 259],
+    known: &mut [u64; KNOWN],
     k: usize,
     r: Row,
     out: &mut [u8],
     size: usize,
 ) -> Step
-    requires { ⌜ (n ≤ lentIn (now numbers) (now bytes)) × Ready (itemsIn (now source) (now numbers) (now bytes) n) (now known) k size × (k < n) × (r .kind ≡ 15) × Stands (now source) r (itemsIn (now source) (now numbers) (now bytes) n) k ⌝ }
+    requires { ⌜ (n ≤ lentIn (now numbers) (now bytes)) × Ready (itemsIn (now source) (now numbers) (now bytes) n) (now known) k size × (k < n) × (r .kind ≡ class-kind) × Stands (now source) r (itemsIn (now source) (now numbers) (now bytes) n) k ⌝ }
     ensures { λ p. ⌜ StepMet (walk (putDefinition base) (knownIn (now (known .entry))) (itemsIn (now (source .entry)) (now (numbers .entry)) (now (bytes .entry)) n) k) (itemsIn (now (source .entry)) (now (numbers .entry)) (now (bytes .entry)) n) (k + 1) size (now (out .entry)) p (now (known .exit)) (now (out .exit)) ⌝ }
 {
     let fields = r.first;
     if r.second != 0 {
         return Step::NoRecord;
     }
-    if 256 <= known[256] {
+    if CLASSES <= known[CLASSES_GIVEN] {
         return Step::NoRecord;
     }
-    if 256 < fields {
+    if FIELDS < fields {
         return Step::NoRecord;
     }
     match put_class(source, numbers, bytes, n, k, fields, out, size) {
@@ -93,7 +103,7 @@ pub(crate) fn put_definitions(
     numbers: &[u64],
     bytes: &[u8],
     n: usize,
-    known: &mut [u64; 259],
+    known: &mut [u64; KNOWN],
     k: usize,
     out: &mut [u8],
     size: usize,
@@ -109,7 +119,7 @@ pub(crate) fn put_definitions(
                 return Found::NoRecord;
             }
             Fetched::Row(r) => {
-                if r.kind != 15 {
+                if r.kind != CLASS {
                     return Found::Value {
                         at,
                         size: s,

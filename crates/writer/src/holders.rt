@@ -3,15 +3,20 @@ use crate::puts::Put;
 use crate::puts::Step;
 use record::Contents;
 use record::Row;
+use record::kinds::MAP;
+use record::kinds::OBJECT;
+use record::known::CLASSES_GIVEN;
+use record::known::KNOWN;
+use record::known::REFERENCES_GIVEN;
 ghost use mathlib.Core.Path.{_≡_};
 ghost use Prim.Native.Nat.{_+_, _≤_, _<_};
 ghost use Rattle.record.specs.Answers.{objectCode};
 ghost use Rattle.record.specs.KnownArray.{knownIn, Kept};
-ghost use Rattle.writer.specs.Inside.{lentIn, itemsIn, Stands, Ready, Holder, listCode, mapCode, listBy, mapBy, PutMet, ObjectMet, OpensMet, HolderMet};
+ghost use Rattle.writer.specs.Inside.{lentIn, itemsIn, Stands, Ready, Holder, listCode, mapCode, listBy, mapBy, PutMet, ObjectMet, OpensMet, HolderMet, overLongest};
 
 // How a value begins: it is written; its values are to follow, from the row `next` on, with 5a after them where `closes`; or there is no
 // record.
-pub enum Begun {
+pub(crate) enum Begun {
     Past {
         next: usize,
         size: usize,
@@ -49,7 +54,7 @@ fn put_list(
     numbers: &[u64],
     bytes: &[u8],
     n: usize,
-    known: &mut [u64; 259],
+    known: &mut [u64; KNOWN],
     k: usize,
     count: u64,
     number: u64,
@@ -108,7 +113,7 @@ fn put_map(
     numbers: &[u64],
     bytes: &[u8],
     n: usize,
-    known: &mut [u64; 259],
+    known: &mut [u64; KNOWN],
     k: usize,
     count: u64,
     number: u64,
@@ -133,7 +138,7 @@ fn put_map(
 
 // The code of an object of this class.
 fn put_object_code(class: u64, out: &mut [u8], size: usize) -> Put
-    requires { ⌜ size ≤ 262145 ⌝ }
+    requires { ⌜ size ≤ overLongest ⌝ }
     ensures { λ r. ⌜ PutMet (objectCode class) (now (out .entry)) size r (now (out .exit)) ⌝ }
 {
     if class < 16 {
@@ -146,17 +151,17 @@ fn put_object_code(class: u64, out: &mut [u8], size: usize) -> Put
 
 // An object of this class with so many fields, which begin at the row k.
 fn put_object(
-    known: &[u64; 259],
+    known: &[u64; KNOWN],
     k: usize,
     class: u64,
     fields: u64,
     out: &mut [u8],
     size: usize,
 ) -> Begun
-    requires { ⌜ Kept (now known) × (size ≤ 262145) ⌝ }
+    requires { ⌜ Kept (now known) × (size ≤ overLongest) ⌝ }
     ensures { λ r. ⌜ ObjectMet class fields (now (known .entry)) k size (now (out .entry)) r (now (out .exit)) ⌝ }
 {
-    if known[256] <= class {
+    if known[CLASSES_GIVEN] <= class {
         return Begun::NoRecord;
     }
     let j = class as usize;
@@ -181,7 +186,7 @@ pub(crate) fn put_holder(
     numbers: &[u64],
     bytes: &[u8],
     n: usize,
-    known: &mut [u64; 259],
+    known: &mut [u64; KNOWN],
     k: usize,
     r: Row,
     out: &mut [u8],
@@ -191,8 +196,8 @@ pub(crate) fn put_holder(
     requires { ⌜ (n ≤ lentIn (now numbers) (now bytes)) × Ready (itemsIn (now source) (now numbers) (now bytes) n) (now known) k size × (k < n) × Holder (r .kind) × Stands (now source) r (itemsIn (now source) (now numbers) (now bytes) n) k ⌝ }
     ensures { λ p. ⌜ HolderMet open_from (now (known .entry)) (itemsIn (now (source .entry)) (now (numbers .entry)) (now (bytes .entry)) n) k size (now (out .entry)) p (now (known .exit)) (now (out .exit)) ⌝ }
 {
-    known[258] = known[258] + 1;
-    if r.kind == 13 {
+    known[REFERENCES_GIVEN] = known[REFERENCES_GIVEN] + 1;
+    if r.kind == OBJECT {
         return put_object(known, k + 1, r.first, r.second, out, size);
     }
     if r.kind % 2 == 1 {
@@ -200,7 +205,7 @@ pub(crate) fn put_holder(
             return Begun::NoRecord;
         }
     }
-    if r.kind < 11 {
+    if r.kind < MAP {
         return put_list(
             r.kind % 2 == 0,
             source,

@@ -1,11 +1,14 @@
 // Values that hold no others: numbers, texts, byte strings and references.
 use crate::puts::Put;
 use record::Row;
+use record::kinds::BYTES;
+use record::kinds::REFERENCE;
+use record::kinds::TEXT;
 use scalar::Sort;
 ghost use mathlib.Core.Path.{_≡_};
 ghost use Prim.Native.Nat.{_≤_, _<_};
 ghost use Rattle.scalar.specs.Scalars.{sortKind};
-ghost use Rattle.writer.specs.Inside.{NoHolder, NumberMet, ContentMet, ReferenceMet, LeafMet};
+ghost use Rattle.writer.specs.Inside.{NoHolder, NumberMet, ContentMet, ReferenceMet, LeafMet, overLongest};
 
 // The kind of number that a row of this kind gives.
 fn sort_of(kind: u64) -> Sort
@@ -25,7 +28,7 @@ fn sort_of(kind: u64) -> Sort
 
 // The number of this kind of the row r.
 fn put_value(sort: Sort, r: Row, out: &mut [u8], size: usize) -> Put
-    requires { ⌜ size ≤ 262145 ⌝ }
+    requires { ⌜ size ≤ overLongest ⌝ }
     ensures { λ p. ⌜ NumberMet sort r (now (out .entry)) size p (now (out .exit)) ⌝ }
 {
     if r.second != 0 {
@@ -36,7 +39,7 @@ fn put_value(sort: Sort, r: Row, out: &mut [u8], size: usize) -> Put
 
 // The byte string of the row r.
 fn put_content(source: &[u8], r: Row, out: &mut [u8], size: usize) -> Put
-    requires { ⌜ size ≤ 262145 ⌝ }
+    requires { ⌜ size ≤ overLongest ⌝ }
     ensures { λ p. ⌜ ContentMet (now (source .entry)) r (now (out .entry)) size p (now (out .exit)) ⌝ }
 {
     if r.second != 0 {
@@ -47,7 +50,7 @@ fn put_content(source: &[u8], r: Row, out: &mut [u8], size: usize) -> Put
 
 // The reference of the row r, where so many numbers are given.
 fn put_reference(r: Row, references: u64, out: &mut [u8], size: usize) -> Put
-    requires { ⌜ size ≤ 262145 ⌝ }
+    requires { ⌜ size ≤ overLongest ⌝ }
     ensures { λ p. ⌜ ReferenceMet r references (now (out .entry)) size p (now (out .exit)) ⌝ }
 {
     if r.second != 0 {
@@ -62,18 +65,18 @@ fn put_reference(r: Row, references: u64, out: &mut [u8], size: usize) -> Put
 
 // The value of the row r, which is no list, map or object, where so many references are given.
 pub(crate) fn put_leaf(source: &[u8], r: Row, references: u64, out: &mut [u8], size: usize) -> Put
-    requires { ⌜ (size ≤ 262145) × NoHolder (r .kind) ⌝ }
+    requires { ⌜ (size ≤ overLongest) × NoHolder (r .kind) ⌝ }
     ensures { λ p. ⌜ LeafMet (now (source .entry)) r references (now (out .entry)) size p (now (out .exit)) ⌝ }
 {
     let kind = r.kind;
-    if kind < 7 {
+    if kind < TEXT {
         let sort = sort_of(kind);
         return put_value(sort, r, out, size);
     }
     match kind {
-        7 => crate::names::put_text(source, r, out, size),
-        8 => put_content(source, r, out, size),
-        14 => put_reference(r, references, out, size),
+        TEXT => crate::names::put_text(source, r, out, size),
+        BYTES => put_content(source, r, out, size),
+        REFERENCE => put_reference(r, references, out, size),
         _ => Put::NoRecord,
     }
 }

@@ -1,34 +1,29 @@
 // Writes the shortest message of a table of rows, whose texts and byte strings lie in a source. What a record's shortest message is, and what
 // the writer answers, stands in record's specs/Answers.antt.
-pub mod definitions;
-pub mod holders;
-pub mod leaves;
-pub mod names;
-pub mod puts;
-pub mod rows;
-pub mod types;
-pub mod values;
+pub(crate) mod definitions;
+pub(crate) mod holders;
+pub(crate) mod leaves;
+pub(crate) mod names;
+pub(crate) mod puts;
+pub(crate) mod rows;
+pub(crate) mod types;
+pub(crate) mod values;
 
 use crate::puts::Put;
 use crate::puts::Step;
 use record::Contents;
 use record::ROW_BYTES;
 use record::ROW_NUMBERS;
+use record::known::KNOWN;
+use record::limits::CONTAINERS;
+use record::limits::LISTS_OPEN_FROM;
+use record::limits::LONGEST;
 ghost use mathlib.Core.Path.{_≡_};
 ghost use Prim.Native.Nat.{_≤_};
 ghost use lib.ListN.{length};
-ghost use Rattle.record.specs.Answers.{base, shortestOf, asNumbers, asBytes, writeReport, writeOutput};
+ghost use Rattle.record.specs.Answers.{base, baseOpenFrom, shortestOf, asNumbers, asBytes, writeReport, writeOutput};
 ghost use Rattle.writer.specs.Answers.{report};
 ghost use Rattle.writer.specs.Inside.{lentIn, rowsIn, PutMet, WritesInto, WritesFrom};
-
-// The longest message.
-const LONGEST: usize = 262_144;
-
-// How many lists, maps and objects may be open at once.
-const ALLOWANCE: usize = 32;
-
-// From how many elements on a list takes the open form.
-const OPEN_FROM: u64 = 48;
 
 // What writing a table comes to: the bytes written; the source, or the shortest message, is too long; the rows are no record; the bytes
 // needed, where fewer are lent.
@@ -50,9 +45,13 @@ fn put_rows(
     open_from: u64,
 ) -> Put
     requires { ⌜ n ≤ lentIn (now numbers) (now bytes) ⌝ }
-    ensures { λ r. ⌜ PutMet (shortestOf base open_from 32 (now (source .entry)) (rowsIn (now (numbers .entry)) (now (bytes .entry)) n)) (now (out .entry)) 0 r (now (out .exit)) ⌝ }
+    ensures { λ r. ⌜
+        PutMet
+        (shortestOf base open_from (now (source .entry)) (rowsIn (now (numbers .entry)) (now (bytes .entry)) n))
+        (now (out .entry)) 0 r (now (out .exit))
+        ⌝ }
 {
-    let mut known = [0u64; 259];
+    let mut known = [0u64; KNOWN];
     let one = Contents::Elements(1);
     match values::write_values(
         source,
@@ -64,7 +63,7 @@ fn put_rows(
         one,
         out,
         0,
-        ALLOWANCE,
+        CONTAINERS,
         open_from,
     ) {
         Step::NoRecord => Put::NoRecord,
@@ -87,7 +86,11 @@ fn write_rows(
     open_from: u64,
 ) -> WriteAnswer
     requires { ⌜ n ≤ lentIn (now numbers) (now bytes) ⌝ }
-    ensures { λ r. ⌜ WritesInto (shortestOf base open_from 32 (now (source .entry)) (rowsIn (now (numbers .entry)) (now (bytes .entry)) n)) (now (out .entry)) r (now (out .exit)) ⌝ }
+    ensures { λ r. ⌜
+        WritesInto
+        (shortestOf base open_from (now (source .entry)) (rowsIn (now (numbers .entry)) (now (bytes .entry)) n))
+        (now (out .entry)) r (now (out .exit))
+        ⌝ }
 {
     let mut none: [u8; 0] = [];
     match put_rows(source, numbers, bytes, n, &mut none, open_from) {
@@ -129,18 +132,28 @@ fn write_from(
 
 // Writes the first `rows` rows of a table of five numbers a row.
 pub fn write(source: &[u8], table: &[u64], rows: u64, output: &mut [u8]) -> WriteAnswer
-    ensures { λ r. ⌜ (report r ≡ writeReport base 48 32 262144 asNumbers (now (source .entry)) (now (table .entry)) rows (now (output .entry))) × (now (output .exit) ≡ writeOutput base 48 32 262144 asNumbers (now (source .entry)) (now (table .entry)) rows (now (output .entry))) ⌝ }
+    ensures { λ r. ⌜
+        (report r
+        ≡ writeReport base baseOpenFrom asNumbers (now (source .entry)) (now (table .entry)) rows (now (output .entry)))
+        × (now (output .exit)
+        ≡ writeOutput base baseOpenFrom asNumbers (now (source .entry)) (now (table .entry)) rows (now (output .entry)))
+        ⌝ }
 {
     let lent = table.len() / ROW_NUMBERS;
     let none: [u8; 0] = [];
-    write_from(source, table, &none, lent, rows, output, OPEN_FROM)
+    write_from(source, table, &none, lent, rows, output, LISTS_OPEN_FROM)
 }
 
 // Writes the first `rows` rows of a table of 40 bytes a row, each number as eight bytes, the highest first.
 pub fn write_bytes(source: &[u8], table: &[u8], rows: u64, output: &mut [u8]) -> WriteAnswer
-    ensures { λ r. ⌜ (report r ≡ writeReport base 48 32 262144 asBytes (now (source .entry)) (now (table .entry)) rows (now (output .entry))) × (now (output .exit) ≡ writeOutput base 48 32 262144 asBytes (now (source .entry)) (now (table .entry)) rows (now (output .entry))) ⌝ }
+    ensures { λ r. ⌜
+        (report r
+        ≡ writeReport base baseOpenFrom asBytes (now (source .entry)) (now (table .entry)) rows (now (output .entry)))
+        × (now (output .exit)
+        ≡ writeOutput base baseOpenFrom asBytes (now (source .entry)) (now (table .entry)) rows (now (output .entry)))
+        ⌝ }
 {
     let lent = table.len() / ROW_BYTES;
     let none: [u64; 0] = [];
-    write_from(source, &none, table, lent, rows, output, OPEN_FROM)
+    write_from(source, &none, table, lent, rows, output, LISTS_OPEN_FROM)
 }

@@ -2,15 +2,16 @@
 use crate::puts::Put;
 use crate::rows::Fetched;
 use record::Row;
+use record::kinds::FIELD_NAME;
 use scalar::Kind;
 ghost use mathlib.Core.Path.{_≡_};
 ghost use Prim.Native.Nat.{_≤_};
 ghost use lib.ListN.{length};
-ghost use Rattle.writer.specs.Inside.{lentIn, itemsIn, StringMet, NameMet, NamesMet};
+ghost use Rattle.writer.specs.Inside.{lentIn, itemsIn, StringMet, NameMet, NamesMet, overLongest};
 
 // The text of the row r in its shortest form, if its place opens one of the row's sizes.
 pub(crate) fn put_text(source: &[u8], r: Row, out: &mut [u8], size: usize) -> Put
-    requires { ⌜ size ≤ 262145 ⌝ }
+    requires { ⌜ size ≤ overLongest ⌝ }
     ensures { λ p. ⌜ StringMet Kind.Utf8 (now (source .entry)) (r .place) (r .first) (r .second) (now (out .entry)) size p (now (out .exit)) ⌝ }
 {
     let place = r.place as usize;
@@ -21,7 +22,7 @@ pub(crate) fn put_text(source: &[u8], r: Row, out: &mut [u8], size: usize) -> Pu
 
 // The bytes of the row r likewise.
 pub(crate) fn put_bytes(source: &[u8], r: Row, out: &mut [u8], size: usize) -> Put
-    requires { ⌜ size ≤ 262145 ⌝ }
+    requires { ⌜ size ≤ overLongest ⌝ }
     ensures { λ p. ⌜ StringMet Kind.Binary (now (source .entry)) (r .place) (r .first) (r .first) (now (out .entry)) size p (now (out .exit)) ⌝ }
 {
     let place = r.place as usize;
@@ -40,7 +41,10 @@ pub(crate) fn put_name(
     out: &mut [u8],
     size: usize,
 ) -> Put
-    requires { ⌜ (size ≤ 262145) × (n ≤ lentIn (now numbers) (now bytes)) × (k ≤ length (itemsIn (now source) (now numbers) (now bytes) n)) ⌝ }
+    requires { ⌜
+        (size ≤ overLongest) × (n ≤ lentIn (now numbers) (now bytes))
+        × (k ≤ length (itemsIn (now source) (now numbers) (now bytes) n))
+        ⌝ }
     ensures { λ r. ⌜ NameMet kind (itemsIn (now (source .entry)) (now (numbers .entry)) (now (bytes .entry)) n) k (now (out .entry)) size r (now (out .exit)) ⌝ }
 {
     match crate::rows::fetch(numbers, bytes, n, k) {
@@ -65,14 +69,17 @@ pub(crate) fn put_field_names(
     out: &mut [u8],
     size: usize,
 ) -> Put
-    requires { ⌜ (size ≤ 262145) × (n ≤ lentIn (now numbers) (now bytes)) × (from ≤ length (itemsIn (now source) (now numbers) (now bytes) n)) ⌝ }
+    requires { ⌜
+        (size ≤ overLongest) × (n ≤ lentIn (now numbers) (now bytes))
+        × (from ≤ length (itemsIn (now source) (now numbers) (now bytes) n))
+        ⌝ }
     ensures { λ r. ⌜ NamesMet (itemsIn (now (source .entry)) (now (numbers .entry)) (now (bytes .entry)) n) from count (now (out .entry)) size r (now (out .exit)) ⌝ }
 {
     let mut k = from;
     let mut s = size;
     let mut i: u64 = 0;
     while i < count {
-        match put_name(17, source, numbers, bytes, n, k, out, s) {
+        match put_name(FIELD_NAME, source, numbers, bytes, n, k, out, s) {
             Put::NoRecord => {
                 return Put::NoRecord;
             }

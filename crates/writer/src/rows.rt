@@ -2,6 +2,9 @@
 use record::ROW_BYTES;
 use record::ROW_NUMBERS;
 use record::Row;
+use record::kinds::CLASS;
+use record::kinds::LIST;
+use record::kinds::REFERENCE;
 ghost use mathlib.Core.Path.{_≡_};
 ghost use Prim.Native.Nat.{_+_, _^_, _≤_, _<_};
 ghost use Rattle.record.specs.RowLaws.{rowOf};
@@ -9,7 +12,7 @@ ghost use Rattle.record.specs.Walked.{plainly};
 ghost use Rattle.writer.specs.Inside.{lentIn, rowIn, FetchMet};
 
 // The row at an index, if there is one.
-pub enum Fetched {
+pub(crate) enum Fetched {
     Row(Row),
     End,
 }
@@ -49,13 +52,13 @@ fn ends_plainly(r: Row, k: usize) -> bool
 {
     let kind = r.kind;
     let next = k as u64 + 1;
-    if kind < 9 {
+    if kind < LIST {
         return r.after == next;
     }
-    if kind < 14 {
+    if kind < REFERENCE {
         return true;
     }
-    if kind == 15 {
+    if kind == CLASS {
         if r.after <= next {
             return false;
         }

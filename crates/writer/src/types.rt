@@ -3,38 +3,44 @@ use crate::puts::Put;
 use crate::puts::Step;
 use crate::rows::Fetched;
 use record::Row;
+use record::kinds::TYPE_NAME;
+use record::kinds::TYPE_NUMBER;
+use record::known::KNOWN;
+use record::known::TYPES_GIVEN;
+use record::limits::TYPES;
 ghost use mathlib.Core.Path.{_≡_};
 ghost use Prim.Native.Nat.{_≤_};
+ghost use Rattle.record.specs.Kinds.{type-name-kind, type-number-kind};
 ghost use Rattle.record.specs.Walked.{walk};
 ghost use Rattle.record.specs.KnownArray.{knownIn, Kept};
-ghost use Rattle.writer.specs.Inside.{lentIn, itemsIn, Ready, typeBy, TypeRowMet, TypeNumberMet, StepMet};
+ghost use Rattle.writer.specs.Inside.{lentIn, itemsIn, Ready, typeBy, TypeRowMet, TypeNumberMet, StepMet, overLongest};
 
 // The type of this number, whose name the row r gives.
 fn put_type_name(
     source: &[u8],
-    known: &mut [u64; 259],
+    known: &mut [u64; KNOWN],
     r: Row,
     number: u64,
     out: &mut [u8],
     size: usize,
 ) -> Put
-    requires { ⌜ (size ≤ 262145) × Kept (now known) × (r .kind ≡ 18) ⌝ }
+    requires { ⌜ (size ≤ overLongest) × Kept (now known) × (r .kind ≡ type-name-kind) ⌝ }
     ensures { λ p. ⌜ TypeRowMet (now (source .entry)) r number (now (known .entry)) (now (out .entry)) size p (now (known .exit)) (now (out .exit)) ⌝ }
 {
-    let given = known[257];
+    let given = known[TYPES_GIVEN];
     if given != number {
         return Put::NoRecord;
     }
-    if 256 <= given {
+    if TYPES <= given {
         return Put::NoRecord;
     }
-    known[257] = given + 1;
+    known[TYPES_GIVEN] = given + 1;
     crate::names::put_text(source, r, out, size)
 }
 
 // The type of this number, which the row r names.
-fn put_type_number(known: &[u64; 259], r: Row, number: u64, out: &mut [u8], size: usize) -> Put
-    requires { ⌜ (size ≤ 262145) × Kept (now known) × (r .kind ≡ 19) ⌝ }
+fn put_type_number(known: &[u64; KNOWN], r: Row, number: u64, out: &mut [u8], size: usize) -> Put
+    requires { ⌜ (size ≤ overLongest) × Kept (now known) × (r .kind ≡ type-number-kind) ⌝ }
     ensures { λ p. ⌜ TypeNumberMet r number (now (known .entry)) (now (out .entry)) size p (now (out .exit)) ⌝ }
 {
     if r.second != 0 {
@@ -43,7 +49,7 @@ fn put_type_number(known: &[u64; 259], r: Row, number: u64, out: &mut [u8], size
     if r.first != number {
         return Put::NoRecord;
     }
-    if known[257] <= number {
+    if known[TYPES_GIVEN] <= number {
         return Put::NoRecord;
     }
     crate::puts::put_int(number, out, size)
@@ -52,19 +58,19 @@ fn put_type_number(known: &[u64; 259], r: Row, number: u64, out: &mut [u8], size
 // The type of this number, which the row r gives.
 fn put_type_row(
     source: &[u8],
-    known: &mut [u64; 259],
+    known: &mut [u64; KNOWN],
     r: Row,
     number: u64,
     out: &mut [u8],
     size: usize,
 ) -> Put
-    requires { ⌜ (size ≤ 262145) × Kept (now known) ⌝ }
+    requires { ⌜ (size ≤ overLongest) × Kept (now known) ⌝ }
     ensures { λ p. ⌜ TypeRowMet (now (source .entry)) r number (now (known .entry)) (now (out .entry)) size p (now (known .exit)) (now (out .exit)) ⌝ }
 {
     let kind = r.kind;
     match kind {
-        18 => put_type_name(source, known, r, number, out, size),
-        19 => put_type_number(known, r, number, out, size),
+        TYPE_NAME => put_type_name(source, known, r, number, out, size),
+        TYPE_NUMBER => put_type_number(known, r, number, out, size),
         _ => Put::NoRecord,
     }
 }
@@ -76,7 +82,7 @@ pub(crate) fn put_type(
     numbers: &[u64],
     bytes: &[u8],
     n: usize,
-    known: &mut [u64; 259],
+    known: &mut [u64; KNOWN],
     k: usize,
     number: u64,
     out: &mut [u8],

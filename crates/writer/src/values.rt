@@ -6,16 +6,20 @@ use crate::puts::Put;
 use crate::puts::Step;
 use record::Contents;
 use record::Row;
+use record::kinds::LIST;
+use record::kinds::OBJECT;
+use record::known::KNOWN;
+use record::known::REFERENCES_GIVEN;
 ghost use mathlib.Core.Path.{_≡_};
 ghost use Prim.Native.Nat.{_+_, _≤_, _<_};
 ghost use Rattle.record.specs.Answers.{base, putValue};
 ghost use Rattle.record.specs.Walked.{walk};
 ghost use Rattle.record.specs.Contents.{left, done};
 ghost use Rattle.record.specs.KnownArray.{knownIn};
-ghost use Rattle.writer.specs.Inside.{lentIn, rowsIn, itemsIn, Stands, Ready, Puts, closing, RowMet, EnterMet, ValuesMet};
+ghost use Rattle.writer.specs.Inside.{lentIn, rowsIn, itemsIn, Stands, Ready, Puts, closing, RowMet, EnterMet, ValuesMet, overLongest};
 
 // How a value begins, as in holders.rt; of a list, map or object also its fifth number.
-pub enum Entered {
+pub(crate) enum Entered {
     Past {
         next: usize,
         size: usize,
@@ -42,7 +46,7 @@ fn finished(contents: Contents, i: u64) -> bool
 
 // 5a, where it is due.
 fn close(closes: bool, out: &mut [u8], size: usize) -> usize
-    requires { ⌜ size ≤ 262145 ⌝ }
+    requires { ⌜ size ≤ overLongest ⌝ }
     ensures { λ r. ⌜ Puts (now (out .entry)) size (closing closes) (now (out .exit)) r ⌝ }
 {
     if closes {
@@ -57,7 +61,7 @@ fn begin_row(
     numbers: &[u64],
     bytes: &[u8],
     n: usize,
-    known: &mut [u64; 259],
+    known: &mut [u64; KNOWN],
     k: usize,
     r: Row,
     out: &mut [u8],
@@ -69,8 +73,8 @@ fn begin_row(
     ensures { λ p. ⌜ RowMet open_from allowed (itemsIn (now (source .entry)) (now (numbers .entry)) (now (bytes .entry)) n) (now (known .entry)) k size (now (out .entry)) p (now (known .exit)) (now (out .exit)) ⌝ }
 {
     let kind = r.kind;
-    if kind < 9 || 13 < kind {
-        return match crate::leaves::put_leaf(source, r, known[258], out, size) {
+    if kind < LIST || OBJECT < kind {
+        return match crate::leaves::put_leaf(source, r, known[REFERENCES_GIVEN], out, size) {
             Put::NoRecord => Begun::NoRecord,
             Put::Done { size: s } => Begun::Past {
                 next: k + 1,
@@ -90,7 +94,7 @@ fn begin(
     numbers: &[u64],
     bytes: &[u8],
     n: usize,
-    known: &mut [u64; 259],
+    known: &mut [u64; KNOWN],
     k: usize,
     out: &mut [u8],
     size: usize,
@@ -143,7 +147,7 @@ pub(crate) fn write_values(
     numbers: &[u64],
     bytes: &[u8],
     n: usize,
-    known: &mut [u64; 259],
+    known: &mut [u64; KNOWN],
     from: usize,
     contents: Contents,
     out: &mut [u8],

@@ -1,11 +1,11 @@
--- What the forms of ints are has its law in proofs/Numbered.antt.
+-- A form by what was reported of it: proofs/Putting.antt.
 use borrow.Author.Needs.{needs}
-use Rattle.writer.proofs.Numbered.{whole-int}
+use Rattle.writer.proofs.Putting.{form-put}
 use Rattle.writer.proofs.puts.put_int.Statement.{statement}
 use Rattle.writer.proofs.puts.put_int.Tie as tie
 
-put-whole-requires : tie.Need-put-whole-requires
-put-whole-requires c κs = search (whole-int, needs)
+returns : tie.Need-returns
+returns c = search (form-put, needs)
 
 pub put-int-spec : {M : Type 1} → statement M
-put-int-spec = tie.close (tie.spec put-whole-requires (λ c. search needs) (λ c. search needs))
+put-int-spec = tie.close (tie.spec (λ c κs. search needs) (λ c κs. search needs) (λ c. search needs) returns)
