@@ -1,10 +1,10 @@
 /*
  * Hessian 2.0 records: read a message into a table of rows, and write a table as its shortest message.
  *
- * Every function may be handed any bytes. It ends, touches nothing beyond what it was lent, and answers one number, which
- * HESSIAN_NUMBER, HESSIAN_COUNT and HESSIAN_PLACE take apart. A refusal changes nothing that was lent. The functions keep no
- * state, use no heap, and may be called from several threads at once. A pointer may not be null, even where its length is 0;
- * what is read and what is written may not overlap.
+ * Every function may be handed any bytes. It ends, touches nothing beyond what it was lent, and answers one number,
+ * which HESSIAN_NUMBER, HESSIAN_COUNT and HESSIAN_PLACE take apart. A refusal changes nothing that was lent. The
+ * functions keep no state, use no heap, and may be called from several threads at once. A pointer may not be null, even
+ * where its length is 0; what is read and what is written may not overlap.
  */
 #ifndef HESSIAN_H
 #define HESSIAN_H
@@ -68,11 +68,11 @@ enum hessian_kind {
 };
 
 /*
- * The fifth number of a row, after. Rows are numbered from 0, and after is the number of the row just after what this row
- * opens: for a list, map or object the row after its last value, for a class the row after its last name, for anything
- * else the next row. The row of a type belongs to its list or map, and a class to the list, map or object that it is
- * defined in. So a value is passed over in one step, however much it holds. This visits the elements of the list in row
- * `list`, where kind(i) and after(i) are the first and the last number of row i:
+ * The fifth number of a row, after. Rows are numbered from 0, and after is the number of the row just after what this
+ * row opens: for a list, map or object the row after its last value, for a class the row after its last name, for
+ * anything else the next row. The row of a type belongs to its list or map, and a class to the list, map or object that
+ * it is defined in. So a value is passed over in one step, however much it holds. This visits the elements of the list
+ * in row `list`, where kind(i) and after(i) are the first and the last number of row i:
  *
  *     uint64_t i = list + 1, end = after(list);
  *
@@ -82,22 +82,22 @@ enum hessian_kind {
  *         if (kind(i) != HESSIAN_CLASS)   // a class may be defined before an element
  *             element(i);
  *
- * The keys and values of a map, in turn, and the fields of an object are visited alike. hessian_write refuses a table in
- * which one of these numbers is wrong (HESSIAN_NO_RECORD).
+ * The keys and values of a map, in turn, and the fields of an object are visited alike. hessian_write refuses a table
+ * in which one of these numbers is wrong (HESSIAN_NO_RECORD).
  */
 
 /*
- * Reads a message into a table of rows. Accepted: the count is the rows stored, the place the message's length; bytes of the table
- * past those rows stay as they were. HESSIAN_ROOM: the count is the rows needed. Bytes of the table beyond a multiple of
- * HESSIAN_ROW_SIZE are no row.
+ * Reads a message into a table of rows. Accepted: the count is the rows stored, the place the message's length; bytes
+ * of the table past those rows stay as they were. HESSIAN_ROOM: the count is the rows needed. Bytes of the table beyond
+ * a multiple of HESSIAN_ROW_SIZE are no row.
  */
 uint64_t hessian_read(const uint8_t *message, size_t message_len, uint8_t *table, size_t table_len);
 
 /*
- * Writes the shortest message of the first `rows` rows of a table, as hessian_read fills it. The source is the message in which the texts and
- * byte strings of the rows lie: a row's place is an index into it. Accepted: the count is the bytes written, the place 0; bytes of the output
- * past them stay as they were. HESSIAN_ROOM: the count is the bytes needed. An output of the source's length is enough for the rows that
- * hessian_read stored of it.
+ * Writes the shortest message of the first `rows` rows of a table, as hessian_read fills it. The source is the message
+ * in which the texts and byte strings of the rows lie: a row's place is an index into it. Accepted: the count is the
+ * bytes written, the place 0; bytes of the output past them stay as they were. HESSIAN_ROOM: the count is the bytes
+ * needed. An output of the source's length is enough for the rows that hessian_read stored of it.
  */
 uint64_t hessian_write(const uint8_t *source, size_t source_len, const uint8_t *table, size_t table_len, uint64_t rows,
                        uint8_t *output, size_t output_len);

@@ -1,5 +1,7 @@
 -- Choices and bytes; readers, and how they are put together; lists stored in lists; answers.
-use mathlib.Core.{Bool.Bool, Bool.true, Bool.false, Bool.cond, Bool._&&_, List.List, List.[], List._∷_, List._++_, List.map}
+use mathlib.Core.{Bool.Bool, Bool.true, Bool.false, Bool.cond, Bool._&&_, List.List, List.[], List._∷_, List._++_}
+use mathlib.Core.{List.map}
+use mathlib.Core.Option.{Option, none, some}
 use Prim.Native.Nat.{ℕ, zero, suc, _+_, _*_, _<_}
 use lib.{Dec.eqb, Dec.leb, Dec.ltb, ListN.length, ListN.take, ListN.drop}
 use Rattle.flow.specs.RefusalNumbers.{cut}
@@ -7,6 +9,10 @@ use Rattle.flow.specs.RefusalNumbers.{cut}
 unfoldable pub pick : {A : Type 0} → Bool → A → A → A  -- a choice by a test
 pick true a b = a
 pick false a b = b
+
+abbrev pub onSome : {A B : Type 0} → (A → Option B) → Option A → Option B  -- what follows, where there is something
+onSome f none = none
+onSome f (some a) = f a
 
 abbrev pub within : ℕ → ℕ → ℕ → Bool  -- from lo on and below hi
 within lo hi b = leb lo b && ltb b hi
@@ -27,10 +33,12 @@ abbrev pub Entry : Type 0 → Type 0
 Entry I = record { place : ℕ; span : ℕ; item : I }
 
 pub data Outcome (C I A : Type 0) : Type 0 where
-  Done : ℕ → A → List (Entry I) → C → Outcome C I A  -- bytes consumed, the result, the entries, what is known afterwards
+  -- bytes consumed, the result, the entries, what is known afterwards
+  Done : ℕ → A → List (Entry I) → C → Outcome C I A
   Fault : ℕ → ℕ → Outcome C I A  -- a refusal's number and place
 
-abbrev pub Read : Type 0 → Type 0 → Type 0 → Type 0  -- by what is known, a place, and the rest of the message from there
+-- by what is known, a place, and the rest of the message from there
+abbrev pub Read : Type 0 → Type 0 → Type 0 → Type 0
 Read C I A = C → ℕ → List ℕ → Outcome C I A
 
 abbrev pub From : Type 0 → Type 0 → Type 0 → Type 0  -- after a first byte that is read already: its place, and the byte
@@ -72,7 +80,8 @@ module _ {C I : Type 0} where
         then (f c at s) (λ n a es c′. Done n tt (record { place = p; span = suc (length es); item = x a } ∷ es) c′)
 
   abbrev pub bind : {A B : Type 0} → Read C I A → (A → Read C I B) → Read C I B  -- one after the other
-  bind f g c at s = then (f c at s) (λ n a es c′. then (g a c′ (at + n) (drop n s)) (λ m b fs c″. Done (n + m) b (es ++ fs) c″))
+  bind f g c at s =
+      then (f c at s) (λ n a es c′. then (g a c′ (at + n) (drop n s)) (λ m b fs c″. Done (n + m) b (es ++ fs) c″))
 
   abbrev pub after : {A : Type 0} → Read C I One → Read C I A → Read C I A
   after f g = bind f (λ u. g)
@@ -105,10 +114,15 @@ module _ {A : Type 0} (width : ℕ) (encode : A → List ℕ) where
   unfoldable pub put : List ℕ → ℕ → A → List ℕ  -- the table with x as its entry k, where that fits
   put t k x = stored t (k * width) (encode x)
 
-  unfoldable pub overlay : List ℕ → ℕ → List A → List ℕ  -- the table with the entries xs from the entry k on, those that fit
+  -- the table with the entries xs from the entry k on, those that fit
+  unfoldable pub overlay : List ℕ → ℕ → List A → List ℕ
   overlay t k [] = t
   overlay t k (x ∷ xs) = overlay (put t k x) (suc k) xs
 
 -- ---- an answer: a refusal's number, 0 where accepted; a count; a place
 abbrev pub Report : Type 0
 Report = record { number : ℕ; count : ℕ; place : ℕ }
+
+-- one with no place
+abbrev pub reported : ℕ → ℕ → Report
+reported number count = record { number = number; count = count; place = 0 }

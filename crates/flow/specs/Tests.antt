@@ -74,7 +74,8 @@ within-above lo hi b h = go (leb lo b)
     go false = refl
 
 pub within-is : (lo hi b : ℕ) → T (within lo hi b) → (lo ≤ b) × (b < hi)
-within-is lo hi b h = (le-of (leb lo b) refl (and-left (leb lo b) (ltb b hi) h), ltb→lt b hi (and-right (leb lo b) (ltb b hi) h))
+within-is lo hi b h =
+    (le-of (leb lo b) refl (and-left (leb lo b) (ltb b hi) h), ltb→lt b hi (and-right (leb lo b) (ltb b hi) h))
   where
     le-of : (t : Bool) → leb lo b ≡ t → T t → lo ≤ b
     le-of true e h = leb-true lo b e
@@ -89,7 +90,8 @@ unfolding pick
 pick-false {b} x y h = ap (λ (t : Bool). pick t x y) h
 
 -- what holds of both ways out of a test holds of the choice
-pub pick-either : {A : Type 0} (P : A → Type 0) (t : Bool) {x y : A} → (t ≡ true → P x) → (t ≡ false → P y) → P (pick t x y)
+pub pick-either : {A : Type 0} (P : A → Type 0) (t : Bool) {x y : A} → (t ≡ true → P x) → (t ≡ false → P y)
+    → P (pick t x y)
 unfolding pick
 pick-either P true f g = f refl
 pick-either P false f g = g refl

@@ -8,8 +8,9 @@ use mir.Syntax.{w8}
 use mir.Val.{Fits}
 use Rattle.flow.specs.Tests.{bytes-all}
 use Rattle.flow.specs.Flow.{Report}
-use Rattle.record.specs.Answers.{base, baseOpenFrom, asBytes, lentRows, readReport, writeReport}
-use Rattle.record.specs.Bounds.{answer-small, written-small}
+use Rattle.record.specs.Model.Claims.{contentAt}
+use Rattle.record.specs.Model.Answers.{base, baseOpenFrom, asBytes, lentRows, readReport, writeReport}
+use Rattle.record.specs.Laws.Bounds.{answer-small, written-small}
 use Rattle.reader.specs.declared.ReadAnswer.{ReadAnswer}
 use Rattle.reader.specs.declared.ReadAnswer.the-variants.{Accepted, Refused, TooFew}
 use Rattle.reader.specs.Answers.{report}
@@ -54,7 +55,7 @@ module _ (s t : List ℕ) (n : ℕ) (o : List ℕ) (r : WriteAnswer) (e : writes
   count-small r′ h =
       let f : writes.report r′ ≡ writeReport base baseOpenFrom asBytes s t n o = ap writes.report (sym h) ∙ e in
       let c = ap (λ (x : Report). x .count) f in
-      omega (arith, written-small base baseOpenFrom asBytes s t n (length o))
+      omega (arith, written-small base baseOpenFrom asBytes contentAt s t n (length o))
 
   pub size-small : (k : ℕ) → r ≡ wrote.Written k → k ≤ base .longest
   size-small k h = count-small (wrote.Written k) h

@@ -3,7 +3,7 @@ use mathlib.Core.Path.{_≡_}
 use mathlib.Core.List.{List}
 use Prim.Native.Nat.{ℕ, _+_, _*_, _^_}
 use Rattle.flow.specs.Flow.{Report}
-use Rattle.record.specs.Answers.{base, baseOpenFrom, asBytes, readReport, readTable, writeReport, writeOutput}
+use Rattle.record.specs.Model.Answers.{base, baseOpenFrom, asBytes, readReport, readTable, writeReport, writeOutput}
 
 abbrev pub answer : ℕ → ℕ → ℕ → Report
 answer number count place = record { number = number; count = count; place = place }

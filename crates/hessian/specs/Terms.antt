@@ -2,7 +2,12 @@
 use mathlib.Core.{Path._≡_, List.List}
 use Prim.Native.Nat.{ℕ, _/_, _%_, _^_, _≤_}
 use lib.ListN.{length}
-use Rattle.record.specs.{Records.{Item, Row, ClaimAll}, Grammar.Message, Answers.{base, asBytes, lentRows, rowsOf}}
+use Rattle.record.specs.Model.Items.{Item}
+use Rattle.record.specs.Model.Rows.{Row}
+use Rattle.record.specs.Model.Claims.{ClaimAll}
+use Rattle.record.specs.Model.Grammar.{Message}
+use Rattle.record.specs.Model.Answers.{base, asBytes, lentRows, rowsOf}
+use Rattle.record.specs.Model.Claims.{contentAt}
 
 -- the parts of an answer, as the header's macros take them
 abbrev pub numberOf : ℕ → ℕ
@@ -25,7 +30,7 @@ rowsAt n t = rowsOf asBytes n t
 pub record RecordOf (s t : List ℕ) (n : ℕ) (m : List ℕ) : Type 0 where
   pub lent : n ≤ lentAt t
   pub record-of : List Item
-  pub claimed : ClaimAll s (rowsAt n t) record-of
+  pub claimed : ClaimAll (contentAt s) (rowsAt n t) record-of
   pub grammar : Message base m record-of
 
 -- so has the message w, and none that has it, of any spelling, is shorter

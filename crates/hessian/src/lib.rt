@@ -1,5 +1,6 @@
-// The C interface: include/hessian.h declares these functions. A table crosses as bytes, eight big-endian bytes a number, and the answer
-// as one number. What a call gives stands in specs/Packed.antt, what follows from it in specs/Demands.antt.
+// The C interface: include/hessian.h declares these functions. A table crosses as bytes, eight big-endian bytes a
+// number, and the answer as one number. What a call gives stands in specs/Packed.antt, what follows from it in
+// specs/Demands.antt.
 use reader::ReadAnswer;
 use scalar::refusals::LENGTH;
 use scalar::refusals::NO_RECORD;
@@ -7,7 +8,7 @@ use scalar::refusals::ROOM;
 use writer::WriteAnswer;
 ghost use mathlib.Core.Path.{_≡_};
 ghost use Prim.Native.Nat.{_≤_};
-ghost use Rattle.record.specs.Answers.{base};
+ghost use Rattle.record.specs.Model.Answers.{base};
 ghost use Rattle.hessian.specs.Packed.{packed, answer, ReadGives, WriteGives};
 
 // An answer as one number.
@@ -30,10 +31,13 @@ pub extern "C" fn hessian_read(message: &[u8], table: &mut [u8]) -> u64
     }
 }
 
-// Writes the shortest message of the first `rows` rows of the table, whose texts and bytes lie in the source, into the output.
+// Writes the shortest message of the first `rows` rows of the table, whose texts and bytes lie in the source, into the
+// output.
 #[no_mangle]
 pub extern "C" fn hessian_write(source: &[u8], table: &[u8], rows: u64, output: &mut [u8]) -> u64
-    ensures { λ r. ⌜ WriteGives (now (source .entry)) (now (table .entry)) rows (now (output .entry)) r (now (output .exit)) ⌝ }
+    ensures { λ r. ⌜
+        WriteGives (now (source .entry)) (now (table .entry)) rows (now (output .entry)) r (now (output .exit))
+        ⌝ }
 {
     match writer::write_bytes(source, table, rows, output) {
         WriteAnswer::Written { size } => pack(0, size, 0),

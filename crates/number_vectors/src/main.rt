@@ -1,8 +1,9 @@
 // Runs the functions on single values over cases from standard input, and prints a line for each case.
 //
-// A case is a line of 24 hexadecimal digits: a byte that is 16 times the operation and the sort, by its row's kind; a byte n;
-// and ten bytes of data.
-//   0 read: the first n bytes of data are a message. The value at its start and its size, or the refusal's number and place.
+// A case is a line of 24 hexadecimal digits: a byte that is 16 times the operation and the sort, by its row's kind; a
+// byte n; and ten bytes of data.
+//   0 read: the first n bytes of data are a message. The value at its start and its size, or the refusal's number and
+//   place.
 //   1 write: the first 8 bytes of data are a value. Its shortest form or `none`, its length, and what storing it keeps.
 //   2 chart: the first byte of data is a first byte. Its entry.
 //   3 read at: as 0, at the place that is the last byte of data.
@@ -119,7 +120,7 @@ fn refused(sort: Sort, value: u64, length: usize, at: usize, lent: usize) -> boo
     match written {
         Written::Stored { size: _ } => false,
         Written::NoRoom { needed } => needed == length && 0 < length,
-        Written::NotSuch => length == 0,
+        Written::NoSuchForm => length == 0,
     }
 }
 
@@ -195,7 +196,7 @@ fn write_case(sort: Sort, value: u64) {
     match numbers::write_number(sort, value, &mut out, PLACE) {
         Written::Stored { size } => say_stored(sort, value, length, size, &out),
         Written::NoRoom { needed: _ } => say(b"no room"),
-        Written::NotSuch => say_none(sort, value, length, &out),
+        Written::NoSuchForm => say_none(sort, value, length, &out),
     }
 }
 

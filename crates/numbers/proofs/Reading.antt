@@ -1,5 +1,5 @@
 -- Reading a single value: what a first byte begins, that what a form holds suits its rule, and each way out of reading.
-use mathlib.Core.Path.{_≡_, refl, sym, _∙_, ap, subst}
+use mathlib.Core.Path.{_≡_, sym, _∙_, ap, subst}
 use mathlib.Core.Bool.{_&&_}
 use mathlib.Core.List.{List, [], _∷_}
 use Prim.Native.Nat.{ℕ, zero, suc, _+_, _-_, _%_, _^_, _≤_, _<_}
@@ -11,7 +11,7 @@ use lib.Dec.{T, leb}
 use lib.ListN.{length, take, drop, getD, length-take, length-drop}
 use mir.Syntax.{w8}
 use mir.Val.{Fits}
-use Rattle.flow.specs.Tests.{and-left, and-right, within-yes, within-is, pick-either, bytes-take, bytes-drop, bytes-all}
+use Rattle.flow.specs.Tests.{and-left, and-right, within-yes, within-is, bytes-take, bytes-drop, bytes-all}
 use Rattle.flow.specs.Flow.{Bytes, Done, Fault}
 use Rattle.wire.specs.BigEndian.{joined, be}
 use Rattle.wire.specs.Laws.{be-length, be-bytes, joined-below}
@@ -21,10 +21,12 @@ use Rattle.scalar.specs.declared.Rule.{Rule}
 use Rattle.scalar.specs.declared.Rule.the-variants.{Plain}
 use Rattle.scalar.specs.declared.Begun.{Begun}
 use Rattle.scalar.specs.declared.Begun.the-variants.{Starts, NoForm}
-use Rattle.scalar.specs.Scalars.{value, Form, form, formsOf, inside, formAt}
+use Rattle.scalar.specs.Scalars.{value, Form, form, formsOf, formAt}
 use Rattle.scalar.specs.Grammar.{Number, held, here, later}
 use Rattle.scalar.specs.Answers.{numberAt}
 use Rattle.numbers.specs.Answers.{Takes}
+use Rattle.scalar.specs.FormLaws.{forms-null, forms-false, forms-true, forms-int, forms-long, forms-double, forms-date}
+use Rattle.scalar.specs.FormLaws.{form-none, form-either}
 use Rattle.scalar.specs.NumberLaws.{size, form-here, form-skip, clear, proper, number-apart}
 use Rattle.scalar.specs.NumberAt.{number-ends, number-none, number-cut, number-there}
 use Rattle.scalar.specs.Sorts.{properly}
@@ -36,20 +38,32 @@ starts {k} {u} {v} {r} e = ap (λ (n : ℕ). Starts k n r) e
 abbrev nth : List Form → ℕ → Form
 nth ws i = getD ws i (form 0 0 0 Plain)
 
-nth-number : (ws : List Form) (i q : ℕ) → q < nth ws i .codes → Number ws ((nth ws i .head + q) ∷ be (nth ws i .extra) 0) (value (nth ws i .rule) (joined q (be (nth ws i .extra) 0)))
+nth-number : (ws : List Form) (i q : ℕ) → q < nth ws i .codes
+    → Number ws ((nth ws i .head + q) ∷ be (nth ws i .extra) 0)
+    (value (nth ws i .rule) (joined q (be (nth ws i .extra) 0)))
 nth-number [] i q l = absurd (omega arith)
 nth-number (w ∷ ws) zero q l = here (held q (be (w .extra) 0) l (be-length (w .extra) 0) (be-bytes (w .extra) 0))
 nth-number (w ∷ ws) (suc i) q l = later (nth-number ws i q l)
 
-nth-starts : (ws : List Form) (i q : ℕ) → T (proper ws) → q < nth ws i .codes → formAt ws (nth ws i .head + q) ≡ Starts (nth ws i .extra) q (nth ws i .rule)
+nth-starts : (ws : List Form) (i q : ℕ) → T (proper ws) → q < nth ws i .codes
+    → formAt ws (nth ws i .head + q) ≡ Starts (nth ws i .extra) q (nth ws i .rule)
 nth-starts [] i q p l = absurd (omega arith)
-nth-starts (w ∷ ws) zero q p l = form-here w ws (w .head + q) (within-yes (w .head) (w .head + w .codes) (w .head + q) (omega arith) (omega arith)) ∙ starts (omega arith)
+nth-starts (w ∷ ws) zero q p l =
+    form-here w ws (w .head + q) (within-yes (w .head) (w .head + w .codes) (w .head + q) (omega arith) (omega arith))
+    ∙ starts (omega arith)
 nth-starts (w ∷ ws) (suc i) q p l =
-    form-skip w ws (nth ws i .head + q) (number-apart w (nth-number ws i q l) (and-left (clear w ws) (leb (w .head + w .codes) 256 && proper ws) p))
-    ∙ nth-starts ws i q (and-right (leb (w .head + w .codes) 256) (proper ws) (and-right (clear w ws) (leb (w .head + w .codes) 256 && proper ws) p)) l
+    form-skip w ws (nth ws i .head + q)
+    (number-apart w (nth-number ws i q l) (and-left (clear w ws) (leb (w .head + w .codes) 256 && proper ws) p))
+    ∙ nth-starts ws i q
+    (and-right (leb (w .head + w .codes) 256) (proper ws)
+    (and-right (clear w ws) (leb (w .head + w .codes) 256 && proper ws) p)) l
 
-pub begins : (s : Sort) (i : ℕ) {b u : ℕ} → nth (formsOf s) i .head + u ≡ b → u < nth (formsOf s) i .codes → Starts (nth (formsOf s) i .extra) u (nth (formsOf s) i .rule) ≡ formAt (formsOf s) b
-begins s i {u = u} e l = sym (nth-starts (formsOf s) i u (properly s) l) ∙ ap (formAt (formsOf s)) e
+pub begins : (s : Sort) {ws : List Form} → formsOf s ≡ ws → (i : ℕ) {b u : ℕ}
+    → nth ws i .head + u ≡ b → u < nth ws i .codes
+    → Starts (nth ws i .extra) u (nth ws i .rule) ≡ formAt (formsOf s) b
+begins s {ws} f i {b} {u} e l =
+    let proper-forms : T (proper ws) = subst (λ (ws : List Form). T (proper ws)) f (properly s) in
+    sym (nth-starts ws i u proper-forms l) ∙ ap (formAt ws) e ∙ ap (λ (ws : List Form). formAt ws b) (sym f)
 
 -- ---- a byte that no form begins with
 abbrev pub Outside : List Form → ℕ → Type 0
@@ -57,11 +71,13 @@ Outside [] b = Unit {0}
 Outside (w ∷ ws) b = (w .head ≤ b → b < w .head + w .codes → ⊥) × Outside ws b
 
 pub no-form : (ws : List Form) (b : ℕ) → Outside ws b → NoForm ≡ formAt ws b
-unfolding formAt
-no-form [] b o = refl
-no-form (w ∷ ws) b o = pick-either (λ (x : Begun). NoForm ≡ x) (inside w b)
+no-form [] b o = sym (form-none b)
+no-form (w ∷ ws) b o = form-either (λ (x : Begun). NoForm ≡ x) w ws b
     (λ e. let r = within-is (w .head) (w .head + w .codes) b (rw e tt) in absurd (o .0 (r .0) (r .1)))
     (λ e. no-form ws b (o .1))
+
+pub begins-none : (s : Sort) {ws : List Form} → formsOf s ≡ ws → (b : ℕ) → Outside ws b → NoForm ≡ formAt (formsOf s) b
+begins-none s {ws} f b o = no-form ws b o ∙ ap (λ (ws : List Form). formAt ws b) (sym f)
 
 -- ---- what a form holds suits its rule, and 64 bits
 abbrev Room : Form → Type 0
@@ -72,14 +88,13 @@ Rooms [] = Unit {0}
 Rooms (w ∷ ws) = Room w × Rooms ws
 
 rooms : (s : Sort) → Rooms (formsOf s)
-unfolding formsOf
-rooms Null = search needs
-rooms False = search needs
-rooms True = search needs
-rooms Int = search needs
-rooms Long = search needs
-rooms Double = search needs
-rooms Date = search needs
+rooms Null = rw forms-null (search needs)
+rooms False = rw forms-false (search needs)
+rooms True = rw forms-true (search needs)
+rooms Int = rw forms-int (search needs)
+rooms Long = rw forms-long (search needs)
+rooms Double = rw forms-double (search needs)
+rooms Date = rw forms-date (search needs)
 
 -- so any bytes after a first byte do
 abbrev pub Suits : Begun → Type 0
@@ -87,9 +102,8 @@ Suits NoForm = Unit {0}
 Suits (Starts k u r) = (k ≤ 8) × ((t : List ℕ) → length t ≡ k → Bytes t → (joined u t < 2 ^ 64) × Takes r (joined u t))
 
 form-suits : (ws : List Form) (b : ℕ) → Rooms ws → Suits (formAt ws b)
-unfolding formAt
-form-suits [] b h = tt
-form-suits (w ∷ ws) b h = pick-either Suits (inside w b)
+form-suits [] b h = rw (form-none b) tt
+form-suits (w ∷ ws) b h = form-either Suits w ws b
     (λ e.
     let r = within-is (w .head) (w .head + w .codes) b (rw e tt) in (
       h .0 .0,
@@ -114,12 +128,15 @@ module _ (s : Sort) (m : List ℕ) (p : ℕ) where
       pub reads-cut : length m - p ≤ k → Fault 2 (length m) ≡ numberAt s m p
       reads-cut h = sym (number-cut s m p l k u r (sym is ∙ e) (omega arith))
 
-      module _ (bytes : (i : ℕ) → Fits w8 (getD m i 0)) (h : k < length m - p) (n : ℕ) (at : n ≡ joined u (take k (drop (p + 1) m)) % 2 ^ 64) where
+      module _ (bytes : (i : ℕ) → Fits w8 (getD m i 0)) (h : k < length m - p) (n : ℕ)
+          (at : n ≡ joined u (take k (drop (p + 1) m)) % 2 ^ 64) where
         abbrev rest : List ℕ
         rest = take k (drop (p + 1) m)
 
         suited : (joined u rest < 2 ^ 64) × Takes r (joined u rest)
-        suited = suits s (getD m p 0) k u r (sym is ∙ e) .1 rest (simp (length-take, length-drop) (omega arith)) (bytes-take k (drop (p + 1) m) (bytes-drop (p + 1) m (bytes-all m (λ i. bytes i .fits))))
+        suited =
+            suits s (getD m p 0) k u r (sym is ∙ e) .1 rest (simp (length-take, length-drop) (omega arith))
+            (bytes-take k (drop (p + 1) m) (bytes-drop (p + 1) m (bytes-all m (λ i. bytes i .fits))))
 
         same : n ≡ joined u rest
         same = at ∙ mod-eq-of-lt (suited .0)
@@ -129,4 +146,5 @@ module _ (s : Sort) (m : List ℕ) (p : ℕ) where
 
         pub reads-value : (v : ℕ) → v ≡ value r n → Done (k + 1) v [] tt ≡ numberAt s m p
         reads-value v q =
-            ap (λ (z : ℕ). Done (k + 1) z [] tt) (q ∙ ap (value r) same) ∙ rw (add-one p, add-one k) (sym (number-there s m p l k u r (sym is ∙ e) (omega arith)))
+            ap (λ (z : ℕ). Done (k + 1) z [] tt) (q ∙ ap (value r) same)
+            ∙ rw (add-one p, add-one k) (sym (number-there s m p l k u r (sym is ∙ e) (omega arith)))

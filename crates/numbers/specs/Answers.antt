@@ -2,8 +2,7 @@
 use mathlib.Core.Path.{_≡_}
 use mathlib.Core.Bool.{Bool, true, false}
 use mathlib.Core.List.{List, [], _∷_}
-use mathlib.Core.Option.{Option, none}
-use mathlib.Core.Option as option
+use mathlib.Core.Option.{Option, none, some}
 use Prim.Native.Nat.{ℕ, _+_, _-_, _^_, _≤_, _<_}
 use lib.Dec.{leb}
 use lib.ListN.{length, take, drop}
@@ -12,7 +11,8 @@ use Rattle.flow.specs.Steps.{Answer}
 use Rattle.wire.specs.BigEndian.{joined, be, wider}
 use Rattle.scalar.specs.declared.Sort.{Sort}
 use Rattle.scalar.specs.declared.Rule.{Rule}
-use Rattle.scalar.specs.declared.Rule.the-variants.{Exactly, Plain, Offset, Signed, Minutes, WholeByte, WholePair, Float}
+use Rattle.scalar.specs.declared.Rule.the-variants.{Exactly, Plain, Offset, Signed, Minutes}
+use Rattle.scalar.specs.declared.Rule.the-variants.{WholeByte, WholePair, Float}
 use Rattle.scalar.specs.declared.Written.{Written}
 use Rattle.scalar.specs.Scalars.{value, Form, form, formsOf}
 use Rattle.scalar.specs.Answers.{report, reportOf, outputOf}
@@ -30,26 +30,28 @@ told (Refused x o) = Fault x o
 -- ---- inside the code
 -- reading the form with k bytes after the first, which is at p and holds u
 abbrev pub formRead : List ℕ → ℕ → ℕ → ℕ → Rule → Answer ℕ
-formRead m p k u r = pick (leb (length m - p) k) (Fault 2 (length m)) (Done (k + 1) (value r (joined u (take k (drop (p + 1) m)))) [] tt)
+formRead m p k u r =
+    pick (leb (length m - p) k) (Fault 2 (length m)) (Done (k + 1) (value r (joined u (take k (drop (p + 1) m)))) [] tt)
 
 -- the bytes that a spelling is
 abbrev pub spelled : Spelling → Option (List ℕ)
-spelled (spelling.Form c k u) = option.some (c ∷ be k u)
+spelled (spelling.Form c k u) = some (c ∷ be k u)
 spelled spelling.Absent = none
 
 -- what was found first, or else the other
 unfoldable pub orElse : Option (List ℕ) → Option (List ℕ) → Option (List ℕ)
 orElse none other = other
-orElse (option.some w) other = option.some w
+orElse (some w) other = some w
 
-abbrev pub some : Option (List ℕ) → Bool
-some none = false
-some (option.some w) = true
+abbrev pub present : Option (List ℕ) → Bool
+present none = false
+present (some w) = true
 
 -- the forms that ints and longs share
 abbrev pub wholeForms : ℕ → ℕ → ℕ → ℕ → ℕ → ℕ → List Form
 wholeForms one codes offset two three five =
-    form one codes 0 (Offset offset) ∷ form two 16 1 (Offset 0x800) ∷ form three 8 2 (Offset 0x4_0000) ∷ form five 1 4 Signed ∷ []
+    form one codes 0 (Offset offset) ∷ form two 16 1 (Offset 0x800) ∷ form three 8 2 (Offset 0x4_0000)
+    ∷ form five 1 4 Signed ∷ []
 
 -- the only form of null, false or true
 abbrev pub singleForm : ℕ → List Form

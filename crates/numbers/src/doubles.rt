@@ -16,7 +16,7 @@ fn scaled(c: u64, m: u32) -> u64
 }
 
 // The bits of the double that a float of 32 bits is.
-pub fn widened(u: u32) -> u64
+pub(crate) fn widened(u: u32) -> u64
     ensures { λ r. ⌜ r ≡ widenedOf u ⌝ }
 {
     let s = ((u / 0x8000_0000) as u64) * 0x8000_0000_0000_0000;
@@ -35,7 +35,7 @@ pub fn widened(u: u32) -> u64
 }
 
 // The bits of the double that is the whole number n.
-pub fn whole(n: i16) -> u64
+pub(crate) fn whole(n: i16) -> u64
     ensures { λ r. ⌜ r ≡ wholeOf n ⌝ }
 {
     f64::to_bits(n as f64)

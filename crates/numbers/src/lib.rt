@@ -1,8 +1,9 @@
-// Single values: reading one at a place, and the shortest form of each. The definitions are in scalar's specs/Scalars.antt.
+// Single values: reading one at a place, and the shortest form of each. The definitions are in scalar's
+// specs/Scalars.antt.
 pub mod chart;
 pub mod direct;
-pub mod doubles;
-pub mod signed;
+pub(crate) mod doubles;
+pub(crate) mod signed;
 mod stores;
 
 use scalar::Begun;
@@ -24,7 +25,7 @@ ghost use Rattle.scalar.specs.declared.Sort.the-variants as Sort;
 ghost use Rattle.scalar.specs.Scalars.{value as valueOf, form, formsOf, formAt, shortest};
 ghost use Rattle.scalar.specs.Guesses.{guess as guessOf};
 ghost use Rattle.scalar.specs.Answers.{numberAt, lengthOf, report, reportOf, outputOf};
-ghost use Rattle.numbers.specs.Answers.{Takes, Good, told, spelled, orElse, some as isSome, wholeForms, Writes};
+ghost use Rattle.numbers.specs.Answers.{Takes, Good, told, spelled, orElse, present, wholeForms, Writes};
 ghost use Rattle.scalar.specs.NumberLaws.{tried};
 
 // What reading a value at a place finds: the value and the bytes that it takes; or a refusal's number and place.
@@ -358,7 +359,7 @@ fn try_minutes(v: u64) -> Spelling
 // ---- the forms of a kind in turn
 
 fn found(s: Spelling) -> bool
-    ensures { λ r. ⌜ r ≡ isSome (spelled s) ⌝ }
+    ensures { λ r. ⌜ r ≡ present (spelled s) ⌝ }
 {
     match s {
         Spelling::Form {
@@ -475,7 +476,10 @@ pub fn number_length(sort: Sort, value: u64) -> usize
 
 // A byte, and the lowest `more` bytes of `rest`, in `out` from `at` on, where all of them fit. Whether they do.
 fn store(out: &mut [u8], at: usize, code: u8, more: usize, rest: u64) -> bool
-    ensures { λ r. ⌜ (r ≡ leb (at + suc more) (length (now (out .entry)))) × (now (out .exit) ≡ stored (now (out .entry)) at (code ∷ be more rest)) ⌝ }
+    ensures { λ r. ⌜
+        (r ≡ leb (at + suc more) (length (now (out .entry))))
+        × (now (out .exit) ≡ stored (now (out .entry)) at (code ∷ be more rest))
+        ⌝ }
 {
     let len = out.len();
     if len <= at {
@@ -493,7 +497,7 @@ fn write_form(sort: Sort, value: u64, out: &mut [u8], at: usize) -> Written
     ensures { λ r. ⌜ Writes (shortest (formsOf sort) value) (now (out .entry)) at r (now (out .exit)) ⌝ }
 {
     match spell(sort, value) {
-        Spelling::Absent => Written::NotSuch,
+        Spelling::Absent => Written::NoSuchForm,
         Spelling::Form { code, more, rest } => {
             if store(out, at, code, more, rest) {
                 return Written::Stored { size: more + 1 };

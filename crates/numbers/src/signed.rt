@@ -7,7 +7,7 @@ ghost use mir.Syntax.{w32, w64};
 ghost use mir.Val.{ofZ, toZ};
 
 // The two's complement of v.
-pub fn bits_of(v: i64) -> u64
+pub(crate) fn bits_of(v: i64) -> u64
     ensures { λ r. ⌜ r ≡ ofZ w64 v ⌝ }
 {
     if v < 0 {
@@ -19,7 +19,7 @@ pub fn bits_of(v: i64) -> u64
 }
 
 // The number whose two's complement is n.
-pub fn of_bits(n: u64) -> i64
+pub(crate) fn of_bits(n: u64) -> i64
     ensures { λ r. ⌜ r ≡ toZ w64 n ⌝ }
 {
     if n < 9223372036854775808 {

@@ -104,7 +104,7 @@ pub(crate) fn write_single(code: u8, value: u64, out: &mut [u8], at: usize) -> W
     ensures { λ r. ⌜ Writes (shortest (singleForm code) value) (now (out .entry)) at r (now (out .exit)) ⌝ }
 {
     if value != 0 {
-        return Written::NotSuch;
+        return Written::NoSuchForm;
     }
     store_one(out, at, code)
 }

@@ -12,8 +12,8 @@ use Rattle.scalar.specs.declared.Sort.{Sort}
 use Rattle.scalar.specs.declared.Sort.the-variants.{Int}
 use Rattle.numbers.specs.declared.NumberRead.{NumberRead}
 use Rattle.numbers.specs.declared.NumberRead.the-variants as number
-use Rattle.scalar.specs.declared.Kind.{Kind}
-use Rattle.scalar.specs.declared.Kind.the-variants.{Utf8, Binary}
+use Rattle.scalar.specs.declared.Encoding.{Encoding}
+use Rattle.scalar.specs.declared.Encoding.the-variants.{Utf8, Binary}
 use Rattle.texts.specs.declared.StringRead.{StringRead}
 use Rattle.texts.specs.declared.StringRead.the-variants as string
 use Rattle.scalar.specs.declared.Lead.{Lead}
@@ -24,17 +24,21 @@ use Rattle.scalar.specs.Scalars.{sortKind}
 use Rattle.scalar.specs.NumberTheorems.{within-message}
 use Rattle.scalar.specs.Answers.{sized, measuredAt}
 use Rattle.texts.specs.Answers.{toldString}
-use Rattle.record.specs.Records.{Known, plainFrom, row}
-use Rattle.record.specs.Forms.{formOf}
-use Rattle.record.specs.Answers.{base}
-use Rattle.record.specs.Placed.{Got, Lost, run, run-byte}
-use Rattle.record.specs.Leads.{formBy, form-lead}
-use Rattle.record.specs.Values.{leaf-number, leaf-number-lost, leaf-text, leaf-bytes, leaf-string-lost, reference-got, reference-ungiven, reference-lost}
-use Rattle.record.specs.Definitions.{below, plain}
+use Rattle.record.specs.Model.Items.{Known}
+use Rattle.record.specs.Model.Reading.{plainFrom}
+use Rattle.record.specs.Model.Rows.{row}
+use Rattle.record.specs.Model.Reading.{headOf}
+use Rattle.record.specs.Model.Answers.{base}
+use Rattle.record.specs.ForReader.ReadingAt.{ReadTo, RefusedAt, run, run-byte}
+use Rattle.record.specs.ForReader.ChartHeads.{formBy, form-lead}
+use Rattle.record.specs.ForReader.ReadValues.{leaf-number, leaf-number-lost, leaf-text, leaf-bytes, leaf-string-lost}
+use Rattle.record.specs.ForReader.ReadValues.{reference-got}
+use Rattle.record.specs.ForReader.ReadValues.{reference-ungiven, reference-lost}
+use Rattle.record.specs.ForReader.ReadDefinitions.{below, plain}
 use Rattle.reader.specs.declared.heads.Head.the-variants as head
 use Rattle.reader.specs.declared.heads.Count.the-variants as count
 use Rattle.reader.proofs.Sizes.{string-within}
-use Rattle.reader.specs.Inside.{At, Led, CountMet, Heads, LeafMet, PlainMet}
+use Rattle.reader.specs.Contracts.{PlaceIn, LeadAt, CountMet, HeadIs, LeafHeadMet, PlainHeadMet}
 
 pub byte-small : (m : List ℕ) (p : ℕ) → Bytes m → getD m p 0 < 256
 byte-small [] p b = omega arith
@@ -57,7 +61,7 @@ module _ (s : Sort) (m : List ℕ) (p : ℕ) (r : NumberRead) (t : told r ≡ nu
     number-fits b f = let r = number-room b in omega (arith, r .1)
 
 -- ---- a text or byte string
-module _ (k : Kind) (m : List ℕ) (p : ℕ) (r : StringRead) (t : toldString r ≡ measuredAt k m p) where
+module _ (k : Encoding) (m : List ℕ) (p : ℕ) (r : StringRead) (t : toldString r ≡ measuredAt k m p) where
   pub string-bad : (x o : ℕ) → r ≡ string.Refused x o → measuredAt k m p ≡ Fault x o
   string-bad x o e = sym t ∙ ap toldString e
 
@@ -72,88 +76,127 @@ module _ (k : Kind) (m : List ℕ) (p : ℕ) (r : StringRead) (t : toldString r 
     string-fits z f = let r = string-room z in omega (arith, r .1)
 
 -- ---- counts
-module _ (m : List ℕ) (p : ℕ) (a : At m p) (r : NumberRead) (t : told r ≡ numberAt Int m p) where
-  pub count-bad : (x o : ℕ) → r ≡ number.Refused x o → CountMet m p (count.Wrong x o)
+module _ (m : List ℕ) (p : ℕ) (a : PlaceIn m p) (r : NumberRead) (t : told r ≡ numberAt Int m p) where
+  pub count-bad : (x o : ℕ) → r ≡ number.Refused x o → CountMet m p (count.Refused x o)
   count-bad x o e = record { says = inl (number-bad Int m p r t x o e) }
 
   module _ (v n : ℕ) (e : r ≡ number.Value v n) where
     pub count-is : v < 2 ^ 63 → CountMet m p (count.Is v n)
-    count-is l = let w = number-room Int m p r t v n e (a .bytes) in record { says = (number-is Int m p r t v n e, l, w .0, w .1) }
+    count-is l =
+        let w = number-room Int m p r t v n e (a .bytes) in
+        record { says = (number-is Int m p r t v n e, l, w .0, w .1) }
 
-    pub count-below : 2 ^ 63 ≤ v → CountMet m p (count.Wrong 5 p)
-    count-below l = record { says = inr (record { size = n; value = v; is = number-is Int m p r t v n e; below = l; number = refl; place = refl }) }
-
--- ---- a value, by what its first byte opens
-module _ (m : List ℕ) (p : ℕ) (x : Lead) (h : Led m p x) where
-  pub led-form : formOf (getD m p 0) ≡ formBy x (getD m p 0)
-  led-form = form-lead (getD m p 0) (byte-small m p (h .bytes)) x (h .lead)
-
-  pub led-run : (d : ℕ) (c : Known) → run (byteAt (plain base d)) c m p ≡ run (plainFrom base (below base d) p (getD m p 0)) c m (p + 1)
-  led-run d c = run-byte (plain base d) c m p (h .inside)
-
-  -- refused; a row
-  pub led-lost : (d : ℕ) (c : Known) (y o : ℕ) → run (plainFrom base (below base d) p (getD m p 0)) c m (p + 1) ≡ Lost y o → Heads d m c p (head.Wrong y o)
-  led-lost d c y o e = record { says = led-run d c ∙ e; goes = tt }
-
-  pub led-got : (d : ℕ) (c : Known) (k v w n : ℕ) → (0 < n) × (p + n ≤ length m)
-      → run (plainFrom base (below base d) p (getD m p 0)) c m (p + 1) ≡ Got (p + n) tt (row k p v w 1 ∷ []) c → Heads d m c p (head.Leaf k v w (p + n))
-  led-got d c k v w n i e = record { says = led-run d c ∙ e; goes = (omega (arith, i .0), i .1) }
-
--- ---- a number, a text, a byte string
-module _ (s : Sort) (m : List ℕ) (p : ℕ) (h : Led m p (lead.Number s)) (r : NumberRead) (t : told r ≡ numberAt s m p) where
-  pub number-head-bad : (x o : ℕ) → r ≡ number.Refused x o → LeafMet m p (head.Wrong x o)
-  number-head-bad x o e =
-      record { heads = λ d c. led-lost m p _ h d c x o (leaf-number-lost base (below base d) c m p (h .inside) (led-form m p _ h) s (h .lead) x o (number-bad s m p r t x o e)) }
-
-  pub number-head-is : (v n k : ℕ) → r ≡ number.Value v n → k ≡ sortKind s → LeafMet m p (head.Leaf k v 0 (p + n))
-  number-head-is v n k e q = rw q (record {
-    heads = λ d c. led-got m p _ h d c (sortKind s) v 0 n (number-room s m p r t v n e (h .bytes))
-        (leaf-number base (below base d) c m p (h .inside) (led-form m p _ h) s (h .lead) n v (number-is s m p r t v n e));
-  })
-
-pub led-sort : (s : Sort) (m : List ℕ) (p : ℕ) → Led m p (lead.Number s) → (x : Sort) → s ≡ x → Led m p (lead.Number x)
-led-sort s m p h x e = rw (← e) h
-
-module _ (m : List ℕ) (p : ℕ) (r : StringRead) where
-  module _ (h : Led m p lead.Text) (t : toldString r ≡ measuredAt Utf8 m p) where
-    pub text-head-bad : (x o : ℕ) → r ≡ string.Refused x o → LeafMet m p (head.Wrong x o)
-    text-head-bad x o e =
-        record { heads = λ d c. led-lost m p _ h d c x o (leaf-string-lost base (below base d) c m p (h .inside) (led-form m p _ h) Utf8 (h .lead) x o (string-bad Utf8 m p r t x o e)) }
-
-    pub text-head-is : (u b n : ℕ) → r ≡ string.Content u b n → LeafMet m p (head.Leaf 7 u b (p + n))
-    text-head-is u b n e = record {
-      heads = λ d c. led-got m p _ h d c 7 u b n (string-room Utf8 m p r t u b n e (h .bytes))
-          (leaf-text base (below base d) c m p (h .inside) (led-form m p _ h) (h .lead) n u b (string-is Utf8 m p r t u b n e));
+    pub count-below : 2 ^ 63 ≤ v → CountMet m p (count.Refused 5 p)
+    count-below l = record {
+      says = inr (record {
+        size = n;
+        value = v;
+        is = number-is Int m p r t v n e;
+        below = l;
+        number = refl;
+        place = refl;
+      });
     }
 
-  module _ (h : Led m p lead.Bytes) (t : toldString r ≡ measuredAt Binary m p) where
-    pub bytes-head-bad : (x o : ℕ) → r ≡ string.Refused x o → LeafMet m p (head.Wrong x o)
-    bytes-head-bad x o e =
-        record { heads = λ d c. led-lost m p _ h d c x o (leaf-string-lost base (below base d) c m p (h .inside) (led-form m p _ h) Binary (h .lead) x o (string-bad Binary m p r t x o e)) }
+-- ---- a value, by what its first byte opens
+module _ (m : List ℕ) (p : ℕ) (x : Lead) (h : LeadAt m p x) where
+  pub lead-at-form : headOf (getD m p 0) ≡ formBy x (getD m p 0)
+  lead-at-form = form-lead (getD m p 0) (byte-small m p (h .bytes)) x (h .lead)
 
-    pub bytes-head-is : (u b n : ℕ) → r ≡ string.Content u b n → LeafMet m p (head.Leaf 8 b 0 (p + n))
+  pub lead-at-run : (d : ℕ) (c : Known)
+      → run (byteAt (plain base d)) c m p ≡ run (plainFrom base (below base d) p (getD m p 0)) c m (p + 1)
+  lead-at-run d c = run-byte (plain base d) c m p (h .inside)
+
+  -- refused; a row
+  pub lead-at-lost : (d : ℕ) (c : Known) (y o : ℕ)
+      → run (plainFrom base (below base d) p (getD m p 0)) c m (p + 1) ≡ RefusedAt y o
+      → HeadIs m c p d (head.Refused y o)
+  lead-at-lost d c y o e = record { says = lead-at-run d c ∙ e; goes = tt }
+
+  pub lead-at-got : (d : ℕ) (c : Known) (k v w n : ℕ) → (0 < n) × (p + n ≤ length m)
+      → run (plainFrom base (below base d) p (getD m p 0)) c m (p + 1) ≡ ReadTo (p + n) tt (row k p v w 1 ∷ []) c
+      → HeadIs m c p d (head.Leaf k v w (p + n))
+  lead-at-got d c k v w n i e = record { says = lead-at-run d c ∙ e; goes = (omega (arith, i .0), i .1) }
+
+-- ---- a number, a text, a byte string
+module _ (s : Sort) (m : List ℕ) (p : ℕ) (h : LeadAt m p (lead.Number s)) (r : NumberRead)
+    (t : told r ≡ numberAt s m p) where
+  pub number-head-bad : (x o : ℕ) → r ≡ number.Refused x o → LeafHeadMet m p (head.Refused x o)
+  number-head-bad x o e =
+      record {
+        heads = λ d c. lead-at-lost m p _ h d c x o (leaf-number-lost base (below base d) c m p (h .inside)
+            (lead-at-form m p _ h) s (h .lead) x o (number-bad s m p r t x o e));
+      }
+
+  pub number-head-is : (v n k : ℕ) → r ≡ number.Value v n → k ≡ sortKind s → LeafHeadMet m p (head.Leaf k v 0 (p + n))
+  number-head-is v n k e q = rw q (record {
+    heads = λ d c. lead-at-got m p _ h d c (sortKind s) v 0 n (number-room s m p r t v n e (h .bytes))
+        (leaf-number base (below base d) c m p (h .inside) (lead-at-form m p _ h) s (h .lead) n v
+        (number-is s m p r t v n e));
+  })
+
+pub lead-at-sort : (s : Sort) (m : List ℕ) (p : ℕ) → LeadAt m p (lead.Number s) → (x : Sort) → s ≡ x
+    → LeadAt m p (lead.Number x)
+lead-at-sort s m p h x e = rw (← e) h
+
+module _ (m : List ℕ) (p : ℕ) (r : StringRead) where
+  module _ (h : LeadAt m p lead.Text) (t : toldString r ≡ measuredAt Utf8 m p) where
+    pub text-head-bad : (x o : ℕ) → r ≡ string.Refused x o → LeafHeadMet m p (head.Refused x o)
+    text-head-bad x o e =
+        record {
+          heads = λ d c. lead-at-lost m p _ h d c x o (leaf-string-lost base (below base d) c m p (h .inside)
+              (lead-at-form m p _ h) Utf8 (h .lead) x o (string-bad Utf8 m p r t x o e));
+        }
+
+    pub text-head-is : (u b n : ℕ) → r ≡ string.Content u b n → LeafHeadMet m p (head.Leaf 7 u b (p + n))
+    text-head-is u b n e = record {
+      heads = λ d c. lead-at-got m p _ h d c 7 u b n (string-room Utf8 m p r t u b n e (h .bytes))
+          (leaf-text base (below base d) c m p (h .inside) (lead-at-form m p _ h) (h .lead) n u b
+          (string-is Utf8 m p r t u b n e));
+    }
+
+  module _ (h : LeadAt m p lead.Bytes) (t : toldString r ≡ measuredAt Binary m p) where
+    pub bytes-head-bad : (x o : ℕ) → r ≡ string.Refused x o → LeafHeadMet m p (head.Refused x o)
+    bytes-head-bad x o e =
+        record {
+          heads = λ d c. lead-at-lost m p _ h d c x o (leaf-string-lost base (below base d) c m p (h .inside)
+              (lead-at-form m p _ h) Binary (h .lead) x o (string-bad Binary m p r t x o e));
+        }
+
+    pub bytes-head-is : (u b n : ℕ) → r ≡ string.Content u b n → LeafHeadMet m p (head.Leaf 8 b 0 (p + n))
     bytes-head-is u b n e = record {
-      heads = λ d c. led-got m p _ h d c 8 b 0 n (string-room Binary m p r t u b n e (h .bytes))
-          (leaf-bytes base (below base d) c m p (h .inside) (led-form m p _ h) (h .lead) n u b (string-is Binary m p r t u b n e));
+      heads = λ d c. lead-at-got m p _ h d c 8 b 0 n (string-room Binary m p r t u b n e (h .bytes))
+          (leaf-bytes base (below base d) c m p (h .inside) (lead-at-form m p _ h) (h .lead) n u b
+          (string-is Binary m p r t u b n e));
     }
 
 -- ---- a reference
-module _ (m : List ℕ) (c : Known) (p : ℕ) (h : Led m p lead.Reference) (r : NumberRead) (t : told r ≡ numberAt Int m (p + 1)) where
-  pub reference-bad : (x o : ℕ) → r ≡ number.Refused x o → PlainMet m c p (head.Wrong x o)
+module _ (m : List ℕ) (c : Known) (p : ℕ) (h : LeadAt m p lead.Reference) (r : NumberRead)
+    (t : told r ≡ numberAt Int m (p + 1)) where
+  pub reference-bad : (x o : ℕ) → r ≡ number.Refused x o → PlainHeadMet m c p (head.Refused x o)
   reference-bad x o e =
-      record { heads = λ d. led-lost m p _ h d c x o (reference-lost base (below base d) c m p (h .inside) (led-form m p _ h) x o (number-bad Int m (p + 1) r t x o e)) }
+      record {
+        heads = λ d. lead-at-lost m p _ h d c x o (reference-lost base (below base d) c m p (h .inside)
+            (lead-at-form m p _ h) x o (number-bad Int m (p + 1) r t x o e));
+      }
 
   module _ (v n : ℕ) (e : r ≡ number.Value v n) where
-    pub reference-is : v < c .references → PlainMet m c p (head.Leaf 14 v 0 (p + 1 + n))
+    pub reference-is : v < c .references → PlainHeadMet m c p (head.Leaf 14 v 0 (p + 1 + n))
     reference-is l =
         let w = number-room Int m (p + 1) r t v n e (h .bytes) in
         record {
           heads = λ d. record {
-            says = led-run m p _ h d c ∙ reference-got base (below base d) c m p (h .inside) (led-form m p _ h) n v (number-is Int m (p + 1) r t v n e) l;
+            says =
+                lead-at-run m p _ h d c
+                ∙ reference-got base (below base d) c m p (h .inside) (lead-at-form m p _ h) n v
+                (number-is Int m (p + 1) r t v n e) l;
             goes = (omega arith, w .1);
           };
         }
 
-    pub reference-none : c .references ≤ v → PlainMet m c p (head.Wrong 6 p)
+    pub reference-none : c .references ≤ v → PlainHeadMet m c p (head.Refused 6 p)
     reference-none l =
-        record { heads = λ d. led-lost m p _ h d c 6 p (reference-ungiven base (below base d) c m p (h .inside) (led-form m p _ h) n v (number-is Int m (p + 1) r t v n e) l) }
+        record {
+          heads = λ d. lead-at-lost m p _ h d c 6 p (reference-ungiven base (below base d) c m p (h .inside)
+              (lead-at-form m p _ h) n v (number-is Int m (p + 1) r t v n e) l);
+        }

@@ -1,11 +1,11 @@
-pub mod Moves
+pub mod Tables
 pub mod Sizes
-pub mod Stores
+pub mod StoredRows
 pub mod Leaves
 pub mod Types
 pub mod Holders
-pub mod FirstBytes
-pub mod Classes
-pub mod Groups
-pub mod Walk
+pub mod ValueHeads
+pub mod ClassDefinitions
+pub mod Containers
+pub mod ReadValues
 pub mod Message

@@ -6,7 +6,7 @@ use native.Mathlib.Omega.{arith}
 use lib.ListN.{length}
 use Rattle.flow.specs.Flow.{Bytes, Done, Fault}
 use Rattle.flow.specs.Steps.{Answer}
-use Rattle.scalar.specs.declared.Kind.{Kind}
+use Rattle.scalar.specs.declared.Encoding.{Encoding}
 use Rattle.texts.specs.declared.StringRead.{StringRead}
 use Rattle.texts.specs.declared.StringRead.the-variants.{Content}
 use Rattle.scalar.specs.Scalars.{stringAt}
@@ -15,7 +15,8 @@ use Rattle.scalar.specs.AnswerLaws.{measured-fault, measured-done}
 use Rattle.texts.specs.Answers.{toldString}
 use Rattle.scalar.specs.TextTheorems.{text-within}
 
-pub measured-within : (k : Kind) (m : List ℕ) → Bytes m → (p n u b : ℕ) → measuredAt k m p ≡ Done n (sized u b) [] tt → (0 < n) × (p + n ≤ length m)
+pub measured-within : (k : Encoding) (m : List ℕ) → Bytes m → (p n u b : ℕ) → measuredAt k m p ≡ Done n (sized u b) [] tt
+    → (0 < n) × (p + n ≤ length m)
 measured-within k m w p n u b e = go (stringAt k m p) refl
   where
     go : (o : Answer (List ℕ)) → stringAt k m p ≡ o → (0 < n) × (p + n ≤ length m)
@@ -30,5 +31,6 @@ measured-within k m w p n u b e = go (stringAt k m p) refl
         absurd (omega arith)
 
 -- the same of what the code read
-pub string-within : (k : Kind) (m : List ℕ) → Bytes m → (p : ℕ) {x : StringRead} → toldString x ≡ measuredAt k m p → (u b n : ℕ) → x ≡ Content u b n → (0 < n) × (p + n ≤ length m)
+pub string-within : (k : Encoding) (m : List ℕ) → Bytes m → (p : ℕ) {x : StringRead} → toldString x ≡ measuredAt k m p
+    → (u b n : ℕ) → x ≡ Content u b n → (0 < n) × (p + n ≤ length m)
 string-within k m w p t u b n e = measured-within k m w p n u b (sym t ∙ ap toldString e)

@@ -9,7 +9,7 @@ use borrow.Author.Tests.{ne-eqb}
 use Rattle.scalar.specs.declared.Sort.the-variants.{Int}
 use Rattle.numbers.specs.declared.NumberRead.{NumberRead}
 use Rattle.numbers.specs.declared.NumberRead.the-variants as number
-use Rattle.scalar.specs.declared.Kind.the-variants.{Utf8}
+use Rattle.scalar.specs.declared.Encoding.the-variants.{Utf8}
 use Rattle.texts.specs.declared.StringRead.{StringRead}
 use Rattle.texts.specs.declared.StringRead.the-variants as string
 use Rattle.scalar.specs.declared.Lead.the-variants as lead
@@ -18,39 +18,47 @@ use Rattle.scalar.specs.Chart.{leadOf, kindOf}
 use Rattle.scalar.specs.Answers.{numberAt}
 use Rattle.scalar.specs.Chart.{entry}
 use Rattle.numbers.specs.Answers.{told}
-use Rattle.scalar.specs.ChartLaws.{kind-is, text-kind, entry-parts}
+use Rattle.scalar.specs.ChartLaws.{kind-is, kind-of-text, entry-parts}
 use Rattle.scalar.specs.ByChart.{text-told, text-there}
 use Rattle.scalar.specs.Answers.{measuredAt}
 use Rattle.texts.specs.Answers.{toldString}
-use Rattle.record.specs.Records.{typed, row}
-use Rattle.record.specs.Answers.{base}
-use Rattle.record.specs.Placed.{Got}
-use Rattle.record.specs.Parts.{type-end, type-full, type-name, type-name-lost, type-number, type-ungiven, type-number-lost}
+use Rattle.record.specs.Model.Items.{typed}
+use Rattle.record.specs.Model.Rows.{row}
+use Rattle.record.specs.Model.Answers.{base}
+use Rattle.record.specs.ForReader.ReadingAt.{ReadTo}
+use Rattle.record.specs.ForReader.ReadParts.{type-end, type-full, type-name, type-name-lost, type-number, type-ungiven}
+use Rattle.record.specs.ForReader.ReadParts.{type-number-lost}
 use Rattle.reader.specs.declared.heads.TypeItem.the-variants.{Named, Numbered}
 use Rattle.reader.specs.declared.heads.TypeRead.the-variants as type-read
-use Rattle.reader.specs.Inside.{At, Led, NoName, TypeMet}
-use Rattle.reader.proofs.Leaves.{byte-small, number-bad, number-is, number-room, string-bad, string-is, string-room}
+use Rattle.reader.specs.Contracts.{PlaceIn, LeadAt, NoName, TypeReadMet}
+use Rattle.reader.proofs.Leaves.{byte-small, number-bad, number-is, number-room, string-bad, string-is}
+use Rattle.reader.proofs.Leaves.{string-room}
 
 -- ---- a name, where so many types are given
-module _ (m : List ℕ) (given p : ℕ) (h : Led m p lead.Text) where
+module _ (m : List ℕ) (given p : ℕ) (h : LeadAt m p lead.Text) where
   is-text : isText (getD m p 0) ≡ true
   is-text = text-there (getD m p 0) (h .lead)
 
-  pub named-full : base .types ≤ given → TypeMet m given p (type-read.Wrong 7 p)
+  pub named-full : base .types ≤ given → TypeReadMet m given p (type-read.Refused 7 p)
   named-full l = record { says = λ c e. type-full base c m p (h .inside) is-text (omega arith) }
 
   module _ (l : given < base .types) (r : StringRead) (t : toldString r ≡ measuredAt Utf8 m p) where
-    pub named-bad : (x o : ℕ) → r ≡ string.Refused x o → TypeMet m given p (type-read.Wrong x o)
-    named-bad x o q = record { says = λ c e. type-name-lost base c m p (h .inside) is-text (omega arith) x o (string-bad Utf8 m p r t x o q) }
+    pub named-bad : (x o : ℕ) → r ≡ string.Refused x o → TypeReadMet m given p (type-read.Refused x o)
+    named-bad x o q = record {
+      says = λ c e. type-name-lost base c m p (h .inside) is-text (omega arith) x o
+          (string-bad Utf8 m p r t x o q);
+    }
 
-    pub named-is : (u b n : ℕ) → r ≡ string.Content u b n → TypeMet m given p (type-read.Is (Named u b) (p + n))
+    pub named-is : (u b n : ℕ) → r ≡ string.Content u b n → TypeReadMet m given p (type-read.Is (Named u b) (p + n))
     named-is u b n q =
         let w = string-room Utf8 m p r t u b n q (h .bytes) in
         record {
           says = record {
             number = given;
             numbered = refl;
-            says = λ c e. type-name base c m p (h .inside) is-text (omega arith) n u b (string-is Utf8 m p r t u b n q) ∙ ap (λ (k : ℕ). Got (p + n) k (row 18 p u b 1 ∷ []) (typed c)) e;
+            says = λ c e.
+                type-name base c m p (h .inside) is-text (omega arith) n u b (string-is Utf8 m p r t u b n q)
+                ∙ ap (λ (k : ℕ). ReadTo (p + n) k (row 18 p u b 1 ∷ []) (typed c)) e;
             room = l;
             longer = omega (arith, w .0);
             within = w .1;
@@ -59,11 +67,12 @@ module _ (m : List ℕ) (given p : ℕ) (h : Led m p lead.Text) where
 
 -- ---- a number
 module _ (m : List ℕ) (given p : ℕ) (h : NoName m p) (r : NumberRead) (t : told r ≡ numberAt Int m p) where
-  pub numbered-bad : (x o : ℕ) → r ≡ number.Refused x o → TypeMet m given p (type-read.Wrong x o)
-  numbered-bad x o q = record { says = λ c e. type-number-lost base c m p (h .inside) (h .lead) x o (number-bad Int m p r t x o q) }
+  pub numbered-bad : (x o : ℕ) → r ≡ number.Refused x o → TypeReadMet m given p (type-read.Refused x o)
+  numbered-bad x o q =
+      record { says = λ c e. type-number-lost base c m p (h .inside) (h .lead) x o (number-bad Int m p r t x o q) }
 
   module _ (v n : ℕ) (q : r ≡ number.Value v n) where
-    pub numbered-is : v < given → TypeMet m given p (type-read.Is (Numbered v) (p + n))
+    pub numbered-is : v < given → TypeReadMet m given p (type-read.Is (Numbered v) (p + n))
     numbered-is l =
         let w = number-room Int m p r t v n q (h .bytes) in
         record {
@@ -77,23 +86,31 @@ module _ (m : List ℕ) (given p : ℕ) (h : NoName m p) (r : NumberRead) (t : t
           };
         }
 
-    pub numbered-none : given ≤ v → TypeMet m given p (type-read.Wrong 6 p)
-    numbered-none l = record { says = λ c e. type-ungiven base c m p (h .inside) (h .lead) n v (number-is Int m p r t v n q) (omega arith) }
+    pub numbered-none : given ≤ v → TypeReadMet m given p (type-read.Refused 6 p)
+    numbered-none l = record {
+      says = λ c e. type-ungiven base c m p (h .inside) (h .lead) n v
+          (number-is Int m p r t v n q) (omega arith);
+    }
 
 -- ---- which of them
-pub type-off : (m : List ℕ) (given p : ℕ) → length m ≤ p → TypeMet m given p (type-read.Wrong 2 p)
+pub type-off : (m : List ℕ) (given p : ℕ) → length m ≤ p → TypeReadMet m given p (type-read.Refused 2 p)
 type-off m given p l = record { says = λ c e. type-end base c m p l }
 
-module _ (m : List ℕ) (p : ℕ) (a : At m p) (l : p < length m) (n : ℕ) (e : n ≡ entry (getD m p 0)) where
+module _ (m : List ℕ) (p : ℕ) (a : PlaceIn m p) (l : p < length m) (n : ℕ) (e : n ≡ entry (getD m p 0)) where
   kind-there : n / 10 ≡ kindOf (leadOf (getD m p 0))
   kind-there = ap (λ (n : ℕ). n / 10) e ∙ entry-parts (getD m p 0) (byte-small m p (a .bytes)) .0
 
-  pub text-led : n / 10 ≡ 7 → Led m p lead.Text
-  text-led q = record {
+  pub lead-at-text : n / 10 ≡ 7 → LeadAt m p lead.Text
+  lead-at-text q = record {
     bytes = a .bytes;
     inside = l;
-    lead = kind-is (leadOf (getD m p 0)) lead.Text (sym kind-there ∙ q ∙ sym text-kind);
+    lead = kind-is (leadOf (getD m p 0)) lead.Text (sym kind-there ∙ q ∙ sym kind-of-text);
   }
 
   pub no-name : (n / 10 ≡ 7 → ⊥) → NoName m p
-  no-name q = record { bytes = a .bytes; inside = l; lead = text-told (getD m p 0) ∙ ne-eqb (kindOf (leadOf (getD m p 0))) 7 (λ z. q (kind-there ∙ z)) }
+  no-name q = record {
+    bytes = a .bytes;
+    inside = l;
+    lead = text-told (getD m p 0)
+        ∙ ne-eqb (kindOf (leadOf (getD m p 0))) 7 (λ z. q (kind-there ∙ z));
+  }

@@ -1,4 +1,5 @@
 // Class definitions. The laws of their meaning are in record's specs/Definitions.antt.
+use crate::Spot;
 use crate::heads::Count;
 use record::Row;
 use record::kinds::CLASS;
@@ -8,18 +9,21 @@ use record::known::CLASSES_GIVEN;
 use record::known::KNOWN;
 use record::limits::CLASSES;
 use record::limits::FIELDS;
-use scalar::Kind;
+use scalar::Encoding;
 use scalar::refusals::CEILING;
 use texts::StringRead;
 ghost use mathlib.Core.Path.{_≡_};
 ghost use Prim.Native.Nat.{_+_, _^_, _≤_, _<_};
 ghost use lib.ListN.{getD};
 ghost use Rattle.scalar.specs.declared.Lead.the-variants as lead;
-ghost use Rattle.record.specs.Answers.{base};
-ghost use Rattle.record.specs.KnownArray.{Kept, knownIn, classesSlot};
-ghost use Rattle.reader.specs.Inside.{At, Ready, Led, FieldsMet, ClassMet, NamesMet, Defined, DefinitionMet};
+ghost use Rattle.record.specs.Model.Answers.{base};
+ghost use Rattle.record.specs.Laws.KnownArray.{Kept, knownIn, classesSlot};
+ghost use Rattle.reader.specs.Contracts.{PlaceIn, ReadyAt, LeadAt};
+ghost use Rattle.reader.specs.Contracts.{FieldCountMet, ClassReadMet, NamesReadMet};
+ghost use Rattle.reader.specs.Contracts.{DefinesClass, DefinitionReadMet};
 
-// A class's name, by its units and bytes, its number of fields, and where their names begin; or a refusal's number and place.
+// A class's name, by its units and bytes, its number of fields, and where their names begin; or a refusal's number and
+// place.
 pub(crate) enum ClassRead {
     Is {
         units: u64,
@@ -27,34 +31,34 @@ pub(crate) enum ClassRead {
         fields: usize,
         next: usize,
     },
-    Wrong {
+    Refused {
         number: u8,
         place: usize,
     },
 }
 
-// The place past field names; or a refusal's number and place.
-pub(crate) enum Names {
-    Past { next: usize },
-    Wrong { number: u8, place: usize },
+// Where reading is past field names; or a refusal's number and place.
+pub(crate) enum NamesRead {
+    Done { next: Spot },
+    Refused { number: u8, place: usize },
 }
 
-// What reading something comes to: the place past it, and the rows so far; or a refusal's number and place.
-pub(crate) enum Out {
-    Done { next: usize, rows: usize },
-    Fault { number: u8, place: usize },
+// Where reading is past a definition; or a refusal's number and place.
+pub(crate) enum DefinitionRead {
+    Done { next: Spot },
+    Refused { number: u8, place: usize },
 }
 
 // The field count at `at`, after a class name of so many units and bytes.
 fn field_count(message: &[u8], at: usize, units: u64, bytes: u64) -> ClassRead
-    requires { ⌜ At (now message) at ⌝ }
-    ensures { λ r. ⌜ FieldsMet (now (message .entry)) at units bytes r ⌝ }
+    requires { ⌜ PlaceIn (now message) at ⌝ }
+    ensures { λ r. ⌜ FieldCountMet (now (message .entry)) at units bytes r ⌝ }
 {
     match crate::heads::count_at(message, at) {
-        Count::Wrong { number, place } => ClassRead::Wrong { number, place },
+        Count::Refused { number, place } => ClassRead::Refused { number, place },
         Count::Is { value, size } => {
             if FIELDS < value {
-                return ClassRead::Wrong {
+                return ClassRead::Refused {
                     number: CEILING,
                     place: at,
                 };
@@ -71,17 +75,17 @@ fn field_count(message: &[u8], at: usize, units: u64, bytes: u64) -> ClassRead
 
 // The class name and the field count of the definition at `at`.
 fn class_head(message: &[u8], known: &[u64; KNOWN], at: usize) -> ClassRead
-    requires { ⌜ Led (now message) at lead.Definition × Kept (now known) ⌝ }
-    ensures { λ r. ⌜ ClassMet (now (message .entry)) (knownIn (now (known .entry))) at r ⌝ }
+    requires { ⌜ LeadAt (now message) at lead.Definition × Kept (now known) ⌝ }
+    ensures { λ r. ⌜ ClassReadMet (now (message .entry)) (knownIn (now (known .entry))) at r ⌝ }
 {
     if CLASSES <= known[CLASSES_GIVEN] {
-        return ClassRead::Wrong {
+        return ClassRead::Refused {
             number: CEILING,
             place: at,
         };
     }
-    match texts::read_string(Kind::Utf8, message, at + 1) {
-        StringRead::Refused { number, place } => ClassRead::Wrong { number, place },
+    match texts::read_string(Encoding::Utf8, message, at + 1) {
+        StringRead::Refused { number, place } => ClassRead::Refused { number, place },
         StringRead::Content { units, bytes, size } => field_count(
             message,
             at + 1 + size,
@@ -91,99 +95,115 @@ fn class_head(message: &[u8], known: &[u64; KNOWN], at: usize) -> ClassRead
     }
 }
 
-// So many field names from `at` on: rows from `row` on.
+// So many field names from `from` on.
 fn field_names(
     message: &[u8],
     numbers: &mut [u64],
     bytes: &mut [u8],
-    at: usize,
+    from: Spot,
     count: usize,
-    row: usize,
-) -> Names
-    requires { ⌜ At (now message) at × (row + count < 2 ^ 64) ⌝ }
-    ensures { λ r. ⌜ NamesMet (now (message .entry)) at count row (now (numbers .entry)) (now (bytes .entry)) r (now (numbers .exit)) (now (bytes .exit)) ⌝ }
+) -> NamesRead
+    requires { ⌜ PlaceIn (now message) (from .at) × (from .row + count < 2 ^ 64) ⌝ }
+    ensures { λ r. ⌜
+        NamesReadMet
+        (now (message .entry)) (now (numbers .entry)) (now (bytes .entry))
+        from count
+        r (now (numbers .exit)) (now (bytes .exit))
+        ⌝ }
 {
-    let mut here = at;
+    let mut here = from.at;
     let mut i: usize = 0;
     while i < count {
-        match texts::read_string(Kind::Utf8, message, here) {
+        match texts::read_string(Encoding::Utf8, message, here) {
             StringRead::Refused { number, place } => {
-                return Names::Wrong { number, place };
+                return NamesRead::Refused { number, place };
             }
             StringRead::Content {
                 units,
                 bytes: held,
                 size,
             } => {
+                let index = from.row + i;
                 let name = Row {
                     kind: FIELD_NAME,
                     place: here as u64,
                     first: units as u64,
                     second: held as u64,
-                    after: (row + i + 1) as u64,
+                    after: (index + 1) as u64,
                 };
-                crate::rows::store_row(numbers, bytes, row + i, name);
+                crate::rows::store_row(numbers, bytes, index, name);
                 here += size;
                 i += 1;
             }
         }
     }
-    Names::Past { next: here }
+    NamesRead::Done {
+        next: Spot {
+            at: here,
+            row: from.row + count,
+        },
+    }
 }
 
 // The class of so many fields gets the next number.
 fn define(known: &mut [u64; KNOWN], fields: usize)
     requires { ⌜ Kept (now known) × (getD (now known) classesSlot 0 < base .classes) × (fields ≤ base .fields) ⌝ }
-    ensures { λ _. ⌜ Defined (now (known .entry)) fields (now (known .exit)) ⌝ }
+    ensures { λ _. ⌜ DefinesClass (now (known .entry)) fields (now (known .exit)) ⌝ }
 {
     record::known::define(known, fields as u64);
 }
 
-// The definition at `at`: its class gets the next number when its field names are read.
+// The definition at `here`: its class gets the next number when its field names are read.
 pub(crate) fn definition(
     message: &[u8],
     numbers: &mut [u64],
     bytes: &mut [u8],
     known: &mut [u64; KNOWN],
-    at: usize,
-    rows: usize,
-) -> Out
-    requires { ⌜ Led (now message) at lead.Definition × Ready (now message) (now known) at rows ⌝ }
-    ensures { λ r. ⌜ DefinitionMet (now (message .entry)) at rows (now (known .entry)) (now (numbers .entry)) (now (bytes .entry)) r (now (known .exit)) (now (numbers .exit)) (now (bytes .exit)) ⌝ }
+    here: Spot,
+) -> DefinitionRead
+    requires { ⌜ LeadAt (now message) (here .at) lead.Definition × ReadyAt (now message) (now known) here ⌝ }
+    ensures { λ r. ⌜
+        DefinitionReadMet
+        (now (message .entry)) (now (numbers .entry)) (now (bytes .entry)) (now (known .entry))
+        here
+        r (now (numbers .exit)) (now (bytes .exit)) (now (known .exit))
+        ⌝ }
 {
-    match class_head(message, known, at) {
-        ClassRead::Wrong { number, place } => Out::Fault { number, place },
+    match class_head(message, known, here.at) {
+        ClassRead::Refused { number, place } => DefinitionRead::Refused { number, place },
         ClassRead::Is {
             units,
             bytes: held,
             fields,
             next,
-        } => match field_names(message, numbers, bytes, next, fields, rows + 2) {
-            Names::Wrong { number, place } => Out::Fault { number, place },
-            Names::Past { next: end } => {
-                let after = rows + 2 + fields;
-                let name = Row {
-                    kind: CLASS_NAME,
-                    place: (at + 1) as u64,
-                    first: units,
-                    second: held,
-                    after: (rows + 2) as u64,
-                };
-                let class = Row {
-                    kind: CLASS,
-                    place: at as u64,
-                    first: fields as u64,
-                    second: 0,
-                    after: after as u64,
-                };
-                crate::rows::store_row(numbers, bytes, rows + 1, name);
-                crate::rows::store_row(numbers, bytes, rows, class);
-                define(known, fields);
-                Out::Done {
-                    next: end,
-                    rows: after,
+        } => {
+            let names = Spot {
+                at: next,
+                row: here.row + 2,
+            };
+            match field_names(message, numbers, bytes, names, fields) {
+                NamesRead::Refused { number, place } => DefinitionRead::Refused { number, place },
+                NamesRead::Done { next: end } => {
+                    let name = Row {
+                        kind: CLASS_NAME,
+                        place: (here.at + 1) as u64,
+                        first: units,
+                        second: held,
+                        after: (here.row + 2) as u64,
+                    };
+                    let class = Row {
+                        kind: CLASS,
+                        place: here.at as u64,
+                        first: fields as u64,
+                        second: 0,
+                        after: end.row as u64,
+                    };
+                    crate::rows::store_row(numbers, bytes, here.row + 1, name);
+                    crate::rows::store_row(numbers, bytes, here.row, class);
+                    define(known, fields);
+                    DefinitionRead::Done { next: end }
                 }
             }
-        },
+        }
     }
 }

@@ -1,6 +1,5 @@
-// What a value begins with, when no class definition stands before it. The laws of its meaning are in record's specs/Values.antt.
-//
-// What is known is kept in an array: each class's number of fields; then how many classes, types and references are given.
+// What a value begins with, when no class definition stands before it. The laws of its meaning are in record's
+// specs/ForReader/ReadValues.antt.
 use numbers::NumberRead;
 use record::kinds::BYTES;
 use record::kinds::DATE;
@@ -17,7 +16,7 @@ use record::known::KNOWN;
 use record::known::REFERENCES_GIVEN;
 use record::known::TYPES_GIVEN;
 use record::limits::TYPES;
-use scalar::Kind;
+use scalar::Encoding;
 use scalar::Lead;
 use scalar::Sort;
 use scalar::refusals::BYTE;
@@ -34,11 +33,13 @@ ghost use Rattle.scalar.specs.Chart.{leadOf};
 ghost use Rattle.scalar.specs.Answers.{numberAt};
 ghost use Rattle.numbers.specs.Answers.{told};
 ghost use Rattle.reader.specs.declared.heads.Head.the-variants as head;
-ghost use Rattle.record.specs.KnownArray.{Kept, knownIn, typesSlot};
-ghost use Rattle.reader.specs.Inside.{At, Led, High, NoName, Holding, CountMet, CountFits, TypeMet, ListAt, ListMet, holderOf, instanceOf, LeafMet, PlainMet, HolderMet, Heads, HeadMet};
+ghost use Rattle.record.specs.Laws.KnownArray.{Kept, knownIn, typesSlot};
+ghost use Rattle.reader.specs.Contracts.{PlaceIn, LeadAt, High, NoName, IsListOrMap};
+ghost use Rattle.reader.specs.Contracts.{CountMet, CountFits, TypeReadMet, ListAt, ListMet, holderOf, instanceOf};
+ghost use Rattle.reader.specs.Contracts.{LeafHeadMet, PlainHeadMet, HolderHeadMet, HeadIs, HeadAtMet};
 
-// How the values of a list, map or object are counted: so many elements; so many fields of a class; elements up to 5a; keys and
-// values up to 5a.
+// How the values of a list, map or object are counted: so many elements; so many fields of a class; elements up to 5a;
+// keys and values up to 5a.
 pub(crate) const COUNTED: u64 = 0;
 
 pub(crate) const FIELD_VALUES: u64 = 1;
@@ -47,8 +48,8 @@ pub(crate) const OPEN: u64 = 2;
 
 pub(crate) const PAIRS: u64 = 3;
 
-// One of these, with a count and a class: record's `Group` in plain numbers, which are handed on in less time.
-pub(crate) struct Plan {
+// record's `Group` in plain numbers, which are handed on in less time: one of these shapes, a count, and a class.
+pub(crate) struct GroupNumbers {
     pub shape: u64,
     pub count: u64,
     pub class: u64,
@@ -72,13 +73,13 @@ pub(crate) enum Head {
     },
     // A list, map or object: how its values are counted, where they begin, and its type.
     Holder {
-        plan: Plan,
+        group: GroupNumbers,
         next: usize,
         of: TypeItem,
     },
     // A class definition stands before the value.
     Definition,
-    Wrong {
+    Refused {
         number: u8,
         place: usize,
     },
@@ -87,27 +88,27 @@ pub(crate) enum Head {
 // A count, and the bytes that it takes; or a refusal's number and place.
 pub(crate) enum Count {
     Is { value: u64, size: usize },
-    Wrong { number: u8, place: usize },
+    Refused { number: u8, place: usize },
 }
 
 // A type, and the place past it; or a refusal's number and place.
 pub(crate) enum TypeRead {
     Is { of: TypeItem, next: usize },
-    Wrong { number: u8, place: usize },
+    Refused { number: u8, place: usize },
 }
 
 // The count at `at`. A negative one is refused.
 pub(crate) fn count_at(message: &[u8], at: usize) -> Count
-    requires { ⌜ At (now message) at ⌝ }
+    requires { ⌜ PlaceIn (now message) at ⌝ }
     ensures { λ r. ⌜ CountMet (now (message .entry)) at r ⌝ }
 {
     match numbers::read_number(Sort::Int, message, at) {
-        NumberRead::Refused { number, place } => Count::Wrong { number, place },
+        NumberRead::Refused { number, place } => Count::Refused { number, place },
         NumberRead::Value { value, size } => {
             if value < 0x8000_0000_0000_0000 {
                 Count::Is { value, size }
             } else {
-                Count::Wrong {
+                Count::Refused {
                     number: NEGATIVE,
                     place: at,
                 }
@@ -118,17 +119,17 @@ pub(crate) fn count_at(message: &[u8], at: usize) -> Count
 
 // The type name at `at`, which gets the next type number.
 fn named_type(message: &[u8], known: &[u64; KNOWN], at: usize) -> TypeRead
-    requires { ⌜ Led (now message) at lead.Text ⌝ }
-    ensures { λ r. ⌜ TypeMet (now (message .entry)) (getD (now (known .entry)) typesSlot 0) at r ⌝ }
+    requires { ⌜ LeadAt (now message) at lead.Text ⌝ }
+    ensures { λ r. ⌜ TypeReadMet (now (message .entry)) (getD (now (known .entry)) typesSlot 0) at r ⌝ }
 {
     if TYPES <= known[TYPES_GIVEN] {
-        return TypeRead::Wrong {
+        return TypeRead::Refused {
             number: CEILING,
             place: at,
         };
     }
-    match texts::read_string(Kind::Utf8, message, at) {
-        StringRead::Refused { number, place } => TypeRead::Wrong { number, place },
+    match texts::read_string(Encoding::Utf8, message, at) {
+        StringRead::Refused { number, place } => TypeRead::Refused { number, place },
         StringRead::Content { units, bytes, size } => TypeRead::Is {
             of: TypeItem::Named {
                 units: units as u64,
@@ -142,10 +143,10 @@ fn named_type(message: &[u8], known: &[u64; KNOWN], at: usize) -> TypeRead
 // The type number at `at`, where no type name stands.
 fn numbered_type(message: &[u8], known: &[u64; KNOWN], at: usize) -> TypeRead
     requires { ⌜ NoName (now message) at ⌝ }
-    ensures { λ r. ⌜ TypeMet (now (message .entry)) (getD (now (known .entry)) typesSlot 0) at r ⌝ }
+    ensures { λ r. ⌜ TypeReadMet (now (message .entry)) (getD (now (known .entry)) typesSlot 0) at r ⌝ }
 {
     match numbers::read_number(Sort::Int, message, at) {
-        NumberRead::Refused { number, place } => TypeRead::Wrong { number, place },
+        NumberRead::Refused { number, place } => TypeRead::Refused { number, place },
         NumberRead::Value { value, size } => {
             if value < known[TYPES_GIVEN] {
                 return TypeRead::Is {
@@ -153,7 +154,7 @@ fn numbered_type(message: &[u8], known: &[u64; KNOWN], at: usize) -> TypeRead
                     next: at + size,
                 };
             }
-            TypeRead::Wrong {
+            TypeRead::Refused {
                 number: UNGIVEN,
                 place: at,
             }
@@ -163,11 +164,11 @@ fn numbered_type(message: &[u8], known: &[u64; KNOWN], at: usize) -> TypeRead
 
 // The type at `at`.
 fn type_at(message: &[u8], known: &[u64; KNOWN], at: usize) -> TypeRead
-    requires { ⌜ At (now message) at ⌝ }
-    ensures { λ r. ⌜ TypeMet (now (message .entry)) (getD (now (known .entry)) typesSlot 0) at r ⌝ }
+    requires { ⌜ PlaceIn (now message) at ⌝ }
+    ensures { λ r. ⌜ TypeReadMet (now (message .entry)) (getD (now (known .entry)) typesSlot 0) at r ⌝ }
 {
     if message.len() <= at {
-        return TypeRead::Wrong {
+        return TypeRead::Refused {
             number: CUT,
             place: at,
         };
@@ -194,12 +195,12 @@ fn kind_of(sort: Sort) -> u64
 }
 
 // The head of a number of this kind, as it was read.
-fn number_leaf(sort: Sort, message: &[u8], at: usize, n: NumberRead) -> Head
-    requires { ⌜ Led (now message) at (lead.Number sort) × (told n ≡ numberAt sort (now message) at) ⌝ }
-    ensures { λ r. ⌜ LeafMet (now (message .entry)) at r ⌝ }
+fn number_leaf(message: &[u8], at: usize, sort: Sort, n: NumberRead) -> Head
+    requires { ⌜ LeadAt (now message) at (lead.Number sort) × (told n ≡ numberAt sort (now message) at) ⌝ }
+    ensures { λ r. ⌜ LeafHeadMet (now (message .entry)) at r ⌝ }
 {
     match n {
-        NumberRead::Refused { number, place } => Head::Wrong { number, place },
+        NumberRead::Refused { number, place } => Head::Refused { number, place },
         NumberRead::Value { value, size } => Head::Leaf {
             kind: kind_of(sort),
             first: value,
@@ -210,38 +211,38 @@ fn number_leaf(sort: Sort, message: &[u8], at: usize, n: NumberRead) -> Head
 }
 
 // The head of a number of this kind.
-fn number_head(sort: Sort, message: &[u8], at: usize) -> Head
-    requires { ⌜ Led (now message) at (lead.Number sort) ⌝ }
-    ensures { λ r. ⌜ LeafMet (now (message .entry)) at r ⌝ }
+fn number_head(message: &[u8], at: usize, sort: Sort) -> Head
+    requires { ⌜ LeadAt (now message) at (lead.Number sort) ⌝ }
+    ensures { λ r. ⌜ LeafHeadMet (now (message .entry)) at r ⌝ }
 {
     match sort {
         Sort::Null => {
             let n = numbers::direct::read_single(Sort::Null, message, at);
-            number_leaf(Sort::Null, message, at, n)
+            number_leaf(message, at, Sort::Null, n)
         }
         Sort::False => {
             let n = numbers::direct::read_single(Sort::False, message, at);
-            number_leaf(Sort::False, message, at, n)
+            number_leaf(message, at, Sort::False, n)
         }
         Sort::True => {
             let n = numbers::direct::read_single(Sort::True, message, at);
-            number_leaf(Sort::True, message, at, n)
+            number_leaf(message, at, Sort::True, n)
         }
         Sort::Int => {
             let n = numbers::direct::read_wide_int(message, at);
-            number_leaf(Sort::Int, message, at, n)
+            number_leaf(message, at, Sort::Int, n)
         }
         Sort::Long => {
             let n = numbers::direct::read_wide_long(message, at);
-            number_leaf(Sort::Long, message, at, n)
+            number_leaf(message, at, Sort::Long, n)
         }
         Sort::Double => {
             let n = numbers::direct::read_double(message, at);
-            number_leaf(Sort::Double, message, at, n)
+            number_leaf(message, at, Sort::Double, n)
         }
         Sort::Date => {
             let n = numbers::direct::read_date(message, at);
-            number_leaf(Sort::Date, message, at, n)
+            number_leaf(message, at, Sort::Date, n)
         }
     }
 }
@@ -249,23 +250,23 @@ fn number_head(sort: Sort, message: &[u8], at: usize) -> Head
 // The head of an int or long, by its first byte b, which is 0x80 or above.
 fn high_head(message: &[u8], at: usize, b: u8) -> Head
     requires { ⌜ High (now message) at b ⌝ }
-    ensures { λ r. ⌜ LeafMet (now (message .entry)) at r ⌝ }
+    ensures { λ r. ⌜ LeafHeadMet (now (message .entry)) at r ⌝ }
 {
     if b < 0xd8 {
         let n = numbers::direct::read_int(message, at);
-        return number_leaf(Sort::Int, message, at, n);
+        return number_leaf(message, at, Sort::Int, n);
     }
     let n = numbers::direct::read_long(message, at);
-    number_leaf(Sort::Long, message, at, n)
+    number_leaf(message, at, Sort::Long, n)
 }
 
 // The head of a text.
 fn text_head(message: &[u8], at: usize) -> Head
-    requires { ⌜ Led (now message) at lead.Text ⌝ }
-    ensures { λ r. ⌜ LeafMet (now (message .entry)) at r ⌝ }
+    requires { ⌜ LeadAt (now message) at lead.Text ⌝ }
+    ensures { λ r. ⌜ LeafHeadMet (now (message .entry)) at r ⌝ }
 {
     match texts::read_text(message, at) {
-        StringRead::Refused { number, place } => Head::Wrong { number, place },
+        StringRead::Refused { number, place } => Head::Refused { number, place },
         StringRead::Content { units, bytes, size } => Head::Leaf {
             kind: TEXT,
             first: units as u64,
@@ -277,11 +278,11 @@ fn text_head(message: &[u8], at: usize) -> Head
 
 // The head of a byte string.
 fn bytes_head(message: &[u8], at: usize) -> Head
-    requires { ⌜ Led (now message) at lead.Bytes ⌝ }
-    ensures { λ r. ⌜ LeafMet (now (message .entry)) at r ⌝ }
+    requires { ⌜ LeadAt (now message) at lead.Bytes ⌝ }
+    ensures { λ r. ⌜ LeafHeadMet (now (message .entry)) at r ⌝ }
 {
-    match texts::read_string(Kind::Binary, message, at) {
-        StringRead::Refused { number, place } => Head::Wrong { number, place },
+    match texts::read_string(Encoding::Binary, message, at) {
+        StringRead::Refused { number, place } => Head::Refused { number, place },
         StringRead::Content {
             units: _,
             bytes,
@@ -297,11 +298,11 @@ fn bytes_head(message: &[u8], at: usize) -> Head
 
 // The head of a reference.
 fn reference_head(message: &[u8], known: &[u64; KNOWN], at: usize) -> Head
-    requires { ⌜ Led (now message) at lead.Reference ⌝ }
-    ensures { λ r. ⌜ PlainMet (now (message .entry)) (knownIn (now (known .entry))) at r ⌝ }
+    requires { ⌜ LeadAt (now message) at lead.Reference ⌝ }
+    ensures { λ r. ⌜ PlainHeadMet (now (message .entry)) (knownIn (now (known .entry))) at r ⌝ }
 {
     match numbers::read_number(Sort::Int, message, at + 1) {
-        NumberRead::Refused { number, place } => Head::Wrong { number, place },
+        NumberRead::Refused { number, place } => Head::Refused { number, place },
         NumberRead::Value { value, size } => {
             if value < known[REFERENCES_GIVEN] {
                 return Head::Leaf {
@@ -311,7 +312,7 @@ fn reference_head(message: &[u8], known: &[u64; KNOWN], at: usize) -> Head
                     next: at + 1 + size,
                 };
             }
-            Head::Wrong {
+            Head::Refused {
                 number: UNGIVEN,
                 place: at,
             }
@@ -320,14 +321,14 @@ fn reference_head(message: &[u8], known: &[u64; KNOWN], at: usize) -> Head
 }
 
 // A list of this type whose count was read at `at`, and its values after that.
-fn counted(of: TypeItem, at: usize, n: Count) -> Head
+fn counted(at: usize, of: TypeItem, n: Count) -> Head
     requires { ⌜ CountFits at n ⌝ }
     ensures { λ r. ⌜ r ≡ holderOf of at n ⌝ }
 {
     match n {
-        Count::Wrong { number, place } => Head::Wrong { number, place },
+        Count::Refused { number, place } => Head::Refused { number, place },
         Count::Is { value, size } => Head::Holder {
-            plan: Plan {
+            group: GroupNumbers {
                 shape: COUNTED,
                 count: value,
                 class: 0,
@@ -338,15 +339,15 @@ fn counted(of: TypeItem, at: usize, n: Count) -> Head
     }
 }
 
-// A list of this type, by its first byte b: `open_code` is the code of the open form, the next one that of the counted form, and
-// those from `few` on are the one-byte forms. Its count or its values are at `at`.
-fn list_of(message: &[u8], b: u8, open_code: u8, few: u8, of: TypeItem, at: usize) -> Head
-    requires { ⌜ ListAt (now message) b open_code few at ⌝ }
-    ensures { λ r. ⌜ ListMet (now (message .entry)) b open_code few of at r ⌝ }
+// A list of this type, by its first byte b: `open_code` is the code of the open form, the next one that of the counted
+// form, and those from `few` on are the one-byte forms. Its count or its values are at `at`.
+fn list_of(message: &[u8], at: usize, of: TypeItem, b: u8, open_code: u8, few: u8) -> Head
+    requires { ⌜ ListAt (now message) at b open_code few ⌝ }
+    ensures { λ r. ⌜ ListMet (now (message .entry)) at of b open_code few r ⌝ }
 {
     if b == open_code {
         return Head::Holder {
-            plan: Plan {
+            group: GroupNumbers {
                 shape: OPEN,
                 count: 0,
                 class: 0,
@@ -357,10 +358,10 @@ fn list_of(message: &[u8], b: u8, open_code: u8, few: u8, of: TypeItem, at: usiz
     }
     if b == open_code + 1 {
         let n = count_at(message, at);
-        return counted(of, at, n);
+        return counted(at, of, n);
     }
     Head::Holder {
-        plan: Plan {
+        group: GroupNumbers {
             shape: COUNTED,
             count: wire::wide(b - few),
             class: 0,
@@ -372,32 +373,32 @@ fn list_of(message: &[u8], b: u8, open_code: u8, few: u8, of: TypeItem, at: usiz
 
 // The head of an untyped list.
 fn list_head(message: &[u8], known: &[u64; KNOWN], at: usize) -> Head
-    requires { ⌜ Led (now message) at lead.List ⌝ }
-    ensures { λ r. ⌜ HolderMet (now (message .entry)) (knownIn (now (known .entry))) at r ⌝ }
+    requires { ⌜ LeadAt (now message) at lead.List ⌝ }
+    ensures { λ r. ⌜ HolderHeadMet (now (message .entry)) (knownIn (now (known .entry))) at r ⌝ }
 {
-    list_of(message, message[at], 0x57, 0x78, TypeItem::Untyped, at + 1)
+    list_of(message, at + 1, TypeItem::Untyped, message[at], 0x57, 0x78)
 }
 
 // The head of a typed list.
 fn typed_list_head(message: &[u8], known: &[u64; KNOWN], at: usize) -> Head
-    requires { ⌜ Led (now message) at lead.TypedList ⌝ }
-    ensures { λ r. ⌜ HolderMet (now (message .entry)) (knownIn (now (known .entry))) at r ⌝ }
+    requires { ⌜ LeadAt (now message) at lead.TypedList ⌝ }
+    ensures { λ r. ⌜ HolderHeadMet (now (message .entry)) (knownIn (now (known .entry))) at r ⌝ }
 {
     match type_at(message, known, at + 1) {
-        TypeRead::Wrong { number, place } => Head::Wrong { number, place },
-        TypeRead::Is { of, next } => list_of(message, message[at], 0x55, 0x70, of, next),
+        TypeRead::Refused { number, place } => Head::Refused { number, place },
+        TypeRead::Is { of, next } => list_of(message, next, of, message[at], 0x55, 0x70),
     }
 }
 
 // The head of a typed map.
 fn typed_map_head(message: &[u8], known: &[u64; KNOWN], at: usize) -> Head
-    requires { ⌜ Led (now message) at lead.TypedMap ⌝ }
-    ensures { λ r. ⌜ HolderMet (now (message .entry)) (knownIn (now (known .entry))) at r ⌝ }
+    requires { ⌜ LeadAt (now message) at lead.TypedMap ⌝ }
+    ensures { λ r. ⌜ HolderHeadMet (now (message .entry)) (knownIn (now (known .entry))) at r ⌝ }
 {
     match type_at(message, known, at + 1) {
-        TypeRead::Wrong { number, place } => Head::Wrong { number, place },
+        TypeRead::Refused { number, place } => Head::Refused { number, place },
         TypeRead::Is { of, next } => Head::Holder {
-            plan: Plan {
+            group: GroupNumbers {
                 shape: PAIRS,
                 count: 0,
                 class: 0,
@@ -416,7 +417,7 @@ fn instance(known: &[u64; KNOWN], at: usize, class: u64, next: usize) -> Head
     if class < known[CLASSES_GIVEN] {
         let k = class as usize;
         return Head::Holder {
-            plan: Plan {
+            group: GroupNumbers {
                 shape: FIELD_VALUES,
                 count: known[k],
                 class,
@@ -425,7 +426,7 @@ fn instance(known: &[u64; KNOWN], at: usize, class: u64, next: usize) -> Head
             of: TypeItem::Untyped,
         };
     }
-    Head::Wrong {
+    Head::Refused {
         number: UNGIVEN,
         place: at,
     }
@@ -433,13 +434,13 @@ fn instance(known: &[u64; KNOWN], at: usize, class: u64, next: usize) -> Head
 
 // The head of an object.
 fn object_head(message: &[u8], known: &[u64; KNOWN], at: usize) -> Head
-    requires { ⌜ Led (now message) at lead.Object × Kept (now known) ⌝ }
-    ensures { λ r. ⌜ HolderMet (now (message .entry)) (knownIn (now (known .entry))) at r ⌝ }
+    requires { ⌜ LeadAt (now message) at lead.Object × Kept (now known) ⌝ }
+    ensures { λ r. ⌜ HolderHeadMet (now (message .entry)) (knownIn (now (known .entry))) at r ⌝ }
 {
     let b = message[at];
     if b == 0x4f {
         return match numbers::read_number(Sort::Int, message, at + 1) {
-            NumberRead::Refused { number, place } => Head::Wrong { number, place },
+            NumberRead::Refused { number, place } => Head::Refused { number, place },
             NumberRead::Value { value, size } => instance(known, at, value, at + 1 + size),
         };
     }
@@ -448,11 +449,11 @@ fn object_head(message: &[u8], known: &[u64; KNOWN], at: usize) -> Head
 
 // The head of a list or map, where as many as allowed may still open.
 fn opening(message: &[u8], known: &[u64; KNOWN], at: usize, allowed: usize, l: Lead) -> Head
-    requires { ⌜ Led (now message) at l × Holding l × Kept (now known) ⌝ }
-    ensures { λ r. ⌜ Heads allowed (now (message .entry)) (knownIn (now (known .entry))) at r ⌝ }
+    requires { ⌜ LeadAt (now message) at l × IsListOrMap l × Kept (now known) ⌝ }
+    ensures { λ r. ⌜ HeadIs (now (message .entry)) (knownIn (now (known .entry))) at allowed r ⌝ }
 {
     if allowed == 0 {
-        return Head::Wrong {
+        return Head::Refused {
             number: CEILING,
             place: at,
         };
@@ -461,7 +462,7 @@ fn opening(message: &[u8], known: &[u64; KNOWN], at: usize, allowed: usize, l: L
         Lead::List => list_head(message, known, at),
         Lead::TypedList => typed_list_head(message, known, at),
         Lead::Map => Head::Holder {
-            plan: Plan {
+            group: GroupNumbers {
                 shape: PAIRS,
                 count: 0,
                 class: 0,
@@ -484,19 +485,20 @@ fn lead_of(b: u8) -> Lead
 }
 
 // A refusal.
-fn wrong(number: u8, place: usize) -> Head
-    ensures { λ r. ⌜ r ≡ head.Wrong number place ⌝ }
+fn refused(number: u8, place: usize) -> Head
+    ensures { λ r. ⌜ r ≡ head.Refused number place ⌝ }
 {
-    Head::Wrong { number, place }
+    Head::Refused { number, place }
 }
 
-// What stands at `at`: a class definition, or the head of a value, where as many lists, maps and objects as allowed may still open.
+// What stands at `at`: a class definition, or the head of a value, where as many lists, maps and objects as allowed may
+// still open.
 pub(crate) fn head_at(message: &[u8], known: &[u64; KNOWN], at: usize, allowed: usize) -> Head
-    requires { ⌜ At (now message) at × Kept (now known) ⌝ }
-    ensures { λ r. ⌜ HeadMet allowed (now (message .entry)) (knownIn (now (known .entry))) at r ⌝ }
+    requires { ⌜ PlaceIn (now message) at × Kept (now known) ⌝ }
+    ensures { λ r. ⌜ HeadAtMet (now (message .entry)) (knownIn (now (known .entry))) at allowed r ⌝ }
 {
     if message.len() <= at {
-        return wrong(CUT, at);
+        return refused(CUT, at);
     }
     let b = message[at];
     if 0x80 <= b {
@@ -504,15 +506,15 @@ pub(crate) fn head_at(message: &[u8], known: &[u64; KNOWN], at: usize, allowed: 
     }
     let l = lead_of(b);
     match l {
-        Lead::Number(sort) => number_head(sort, message, at),
+        Lead::Number(sort) => number_head(message, at, sort),
         Lead::Text => text_head(message, at),
         Lead::Bytes => bytes_head(message, at),
         Lead::Reference => reference_head(message, known, at),
         Lead::Definition => Head::Definition,
-        Lead::Close | Lead::Reserved => wrong(BYTE, at),
+        Lead::Close | Lead::Reserved => refused(BYTE, at),
         Lead::Object => {
             if allowed == 0 {
-                return wrong(CEILING, at);
+                return refused(CEILING, at);
             }
             object_head(message, known, at)
         }

@@ -1,13 +1,13 @@
-// Reads a message into a table of rows. What a message reads as is in record's specs/Records.antt, what the reader answers in its
-// specs/Answers.antt.
+// Reads a message into a table of rows. What a message reads as is in record's specs/Model/Reading.antt, what the
+// reader answers in Model/Answers.antt.
 pub(crate) mod definitions;
 pub(crate) mod heads;
 pub(crate) mod rows;
 pub(crate) mod values;
 
 use crate::heads::COUNTED;
-use crate::heads::Plan;
-use crate::values::Values;
+use crate::heads::GroupNumbers;
+use crate::values::ValuesRead;
 use record::ROW_BYTES;
 use record::ROW_NUMBERS;
 use record::known::KNOWN;
@@ -16,16 +16,23 @@ use record::limits::LONGEST;
 use scalar::refusals::AFTER;
 use scalar::refusals::LENGTH;
 ghost use mathlib.Core.Path.{_≡_};
-ghost use Rattle.record.specs.Answers.{base, asNumbers, asBytes, readReport, readTable};
+ghost use Rattle.record.specs.Model.Answers.{base, asNumbers, asBytes, readReport, readTable};
 ghost use Rattle.reader.specs.Answers.{report};
 ghost use Rattle.reader.specs.declared.Judged.the-variants as judged;
-ghost use Rattle.reader.specs.Inside.{OneMet, Judges, ReadsInto};
+ghost use Rattle.reader.specs.Contracts.{OneValueMet, JudgedMet, ReadIntoMet};
 
-// What reading a message comes to: the rows and the bytes read; a refusal's number and place; the rows needed, where fewer are lent.
+// What reading a message comes to: the rows and the bytes read; a refusal's number and place; the rows needed, where
+// fewer are lent.
 pub enum ReadAnswer {
     Accepted { rows: usize, length: usize },
     Refused { number: u8, place: usize },
     TooFew { needed: usize },
+}
+
+// Where reading is: the place in the message, and the row that comes next, which is how many there are so far.
+pub(crate) struct Spot {
+    pub at: usize,
+    pub row: usize,
 }
 
 // Whether a message is accepted, with how many rows; or a refusal's number and place.
@@ -34,17 +41,23 @@ pub(crate) enum Judged {
     Refused { number: u8, place: usize },
 }
 
-// One run over the message: the one value that it is, with nothing known before it, its rows in both tables, as far as they fit.
-fn read_value(message: &[u8], numbers: &mut [u64], bytes: &mut [u8]) -> Values
-    ensures { λ r. ⌜ OneMet (now (message .entry)) (now (numbers .entry)) (now (bytes .entry)) r (now (numbers .exit)) (now (bytes .exit)) ⌝ }
+// One run over the message: the one value that it is, with nothing known before it, its rows in both tables, as far as
+// they fit.
+fn read_value(message: &[u8], numbers: &mut [u64], bytes: &mut [u8]) -> ValuesRead
+    ensures { λ r. ⌜
+        OneValueMet
+        (now (message .entry)) (now (numbers .entry)) (now (bytes .entry))
+        r (now (numbers .exit)) (now (bytes .exit))
+        ⌝ }
 {
     let mut known = [0u64; KNOWN];
-    let one = Plan {
+    let start = Spot { at: 0, row: 0 };
+    let one = GroupNumbers {
         shape: COUNTED,
         count: 1,
         class: 0,
     };
-    values::read_values(message, numbers, bytes, &mut known, 0, 0, one, CONTAINERS)
+    values::read_values(message, numbers, bytes, &mut known, start, one, CONTAINERS)
 }
 
 // A refusal.
@@ -56,7 +69,7 @@ fn refused(number: u8, place: usize) -> Judged
 
 // Judges the message, and counts its rows. Nothing is stored.
 fn judge(message: &[u8]) -> Judged
-    ensures { λ r. ⌜ Judges (now (message .entry)) r ⌝ }
+    ensures { λ r. ⌜ JudgedMet (now (message .entry)) r ⌝ }
 {
     let len = message.len();
     if len == 0 {
@@ -68,23 +81,25 @@ fn judge(message: &[u8]) -> Judged
     let mut numbers = [0u64; 1];
     let mut bytes = [0u8; 1];
     match read_value(message, &mut numbers[..0], &mut bytes[..0]) {
-        Values::Fault { number, place } => refused(number, place),
-        Values::Done {
-            next,
-            rows,
-            count: _,
-        } => {
-            if next < len {
-                return refused(AFTER, next);
+        ValuesRead::Refused { number, place } => refused(number, place),
+        ValuesRead::Done { next, count: _ } => {
+            if next.at < len {
+                return refused(AFTER, next.at);
             }
-            Judged::Record { rows }
+            Judged::Record { rows: next.row }
         }
     }
 }
 
-// Reads the message into both tables, with so many rows lent: judges and counts first, then fills, so that a refusal stores nothing.
+// Reads the message into both tables, with so many rows lent: judges and counts first, then fills, so that a refusal
+// stores nothing.
 fn read_into(message: &[u8], numbers: &mut [u64], bytes: &mut [u8], lent: usize) -> ReadAnswer
-    ensures { λ r. ⌜ ReadsInto (now (message .entry)) lent (now (numbers .entry)) (now (bytes .entry)) r (now (numbers .exit)) (now (bytes .exit)) ⌝ }
+    ensures { λ r. ⌜
+        ReadIntoMet
+        (now (message .entry)) (now (numbers .entry)) (now (bytes .entry))
+        lent
+        r (now (numbers .exit)) (now (bytes .exit))
+        ⌝ }
 {
     match judge(message) {
         Judged::Refused { number, place } => ReadAnswer::Refused { number, place },

@@ -1,5 +1,5 @@
 // Rows are stored in two tables, one of numbers and one of C's bytes, of which a caller lends one and leaves the other
-// empty. The definitions are in record's specs/Answers.antt.
+// empty. The definitions are in record's specs/Model/Answers.antt.
 use record::ROW_BYTES;
 use record::ROW_NUMBERS;
 use record::Row;
@@ -7,9 +7,9 @@ ghost use mathlib.Core.Path.{_≡_};
 ghost use Prim.Native.Nat.{_+_, _^_, _<_};
 ghost use Rattle.flow.specs.Flow.{put, stored};
 ghost use Rattle.wire.specs.BigEndian.{be};
-ghost use Rattle.record.specs.Answers.{asNumbers, asBytes};
-ghost use Rattle.record.specs.RowLaws.{rowOf};
-ghost use Rattle.reader.specs.Inside.{Stored};
+ghost use Rattle.record.specs.Model.Answers.{asNumbers, asBytes};
+ghost use Rattle.record.specs.Laws.RowLaws.{rowOf};
+ghost use Rattle.reader.specs.Contracts.{StoresRow};
 
 // The row `index` of a table of numbers, where it fits.
 fn store_numbers(table: &mut [u64], index: usize, row: Row)
@@ -27,7 +27,8 @@ fn store_numbers(table: &mut [u64], index: usize, row: Row)
     }
 }
 
-// The eight bytes of `value` in the table from `at` on, where they fit. They are stored one by one, which is compiled to one store.
+// The eight bytes of `value` in the table from `at` on, where they fit. They are stored one by one, which is compiled
+// to one store as long as each number has its own test of room.
 fn put_number(table: &mut [u8], at: usize, value: u64)
     requires { ⌜ at + 8 < 2 ^ 64 ⌝ }
     ensures { λ _. ⌜ now (table .exit) ≡ stored (now (table .entry)) at (be 8 value) ⌝ }
@@ -71,7 +72,7 @@ fn store_bytes(table: &mut [u8], index: usize, row: Row)
 // The row `index` of both tables, where it fits.
 pub(crate) fn store_row(numbers: &mut [u64], bytes: &mut [u8], index: usize, row: Row)
     ensures { λ _. ⌜
-        Stored
+        StoresRow
         (now (numbers .entry)) (now (bytes .entry)) index (rowOf row)
         (now (numbers .exit)) (now (bytes .exit))
         ⌝ }
@@ -83,7 +84,7 @@ pub(crate) fn store_row(numbers: &mut [u64], bytes: &mut [u8], index: usize, row
 // The same, with a test before it, so that it costs little where no row is lent.
 pub(crate) fn store_lent(numbers: &mut [u64], bytes: &mut [u8], index: usize, row: Row)
     ensures { λ _. ⌜
-        Stored
+        StoresRow
         (now (numbers .entry)) (now (bytes .entry)) index (rowOf row)
         (now (numbers .exit)) (now (bytes .exit))
         ⌝ }
@@ -93,7 +94,9 @@ pub(crate) fn store_lent(numbers: &mut [u64], bytes: &mut [u8], index: usize, ro
     }
 }
 
-// As store_bytes, for the one place where most rows are stored: it becomes a part of the code there.
+// As store_bytes, for the one place where most rows are stored: called from there alone, this and put_row become a part
+// of the code there. One function for all places takes its row through memory, which is 25 % more instructions in
+// reading a list of ints, and 17 % in reading objects.
 fn put_bytes(table: &mut [u8], index: usize, row: Row)
     ensures { λ _. ⌜
         now (table .exit) ≡ put (asBytes .width) (asBytes .encode) (now (table .entry)) index (rowOf row)
@@ -112,7 +115,7 @@ fn put_bytes(table: &mut [u8], index: usize, row: Row)
 // As store_lent, for the one place where most rows are stored.
 pub(crate) fn put_row(numbers: &mut [u64], bytes: &mut [u8], index: usize, row: Row)
     ensures { λ _. ⌜
-        Stored
+        StoresRow
         (now (numbers .entry)) (now (bytes .entry)) index (rowOf row)
         (now (numbers .exit)) (now (bytes .exit))
         ⌝ }

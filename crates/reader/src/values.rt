@@ -1,10 +1,12 @@
-// Values: class definitions, a head, and the values inside. The laws of their meaning are in record's specs/Runs.antt and Values.antt.
-use crate::definitions::Out;
+// Values: class definitions, a head, and the values inside. The laws of their meaning are in record's
+// specs/ForReader/ReadLoops.antt and ReadValues.antt.
+use crate::Spot;
+use crate::definitions::DefinitionRead;
 use crate::heads::FIELD_VALUES;
+use crate::heads::GroupNumbers;
 use crate::heads::Head;
 use crate::heads::OPEN;
 use crate::heads::PAIRS;
-use crate::heads::Plan;
 use crate::heads::TypeItem;
 use record::Row;
 use record::kinds::LIST;
@@ -19,46 +21,39 @@ use scalar::refusals::BYTE;
 ghost use mathlib.Core.Path.{_≡_};
 ghost use Prim.Native.Nat.{_+_, _^_, _<_};
 ghost use lib.ListN.{length, getD};
-ghost use Rattle.record.specs.Records.{itemRow};
-ghost use Rattle.record.specs.Runs.{closes, stops, past, parts};
-ghost use Rattle.record.specs.RowLaws.{rowOf};
-ghost use Rattle.record.specs.Values.{heading};
-ghost use Rattle.record.specs.KnownArray.{Kept, typesSlot, referencesSlot};
-ghost use Rattle.reader.specs.Inside.{groupOf, Ready, Laid, Opens, Opened, HeadFits, BegunBy, typeOf, typeRows, typeTag, typeSecond, TypeRoom, Entered, BeginMet, ValuesMet};
+ghost use Rattle.record.specs.Model.Rows.{itemRow};
+ghost use Rattle.record.specs.ForReader.ReadLoops.{closes, stops, past, parts};
+ghost use Rattle.record.specs.Laws.RowLaws.{rowOf};
+ghost use Rattle.record.specs.ForReader.ReadValues.{heading};
+ghost use Rattle.record.specs.Laws.KnownArray.{Kept, typesSlot, referencesSlot};
+ghost use Rattle.reader.specs.Contracts.{groupOf, ReadyAt, StoresRows};
+ghost use Rattle.reader.specs.Contracts.{typeOf, typeRows, typeTag, typeSecond, TypeRoom, EntersHolder};
+ghost use Rattle.reader.specs.Contracts.{HolderFits, OpensHolder, HeadFits, ByHeadMet};
+ghost use Rattle.reader.specs.Contracts.{BeginningMet, ValuesReadMet};
 
-// How a value begins: it is read; a list, map or object stands at `at`, where so many types were given, its row is `row`, and its values
-// begin at `next`, with rows from `rows` on; or a refusal.
-pub(crate) enum Begun {
-    Past {
-        next: usize,
-        rows: usize,
+// How a value begins: it holds no others, and is read; it is the list, map or object at `holder`, where so many types
+// were given, and its values begin at `next`; or a refusal.
+pub(crate) enum Beginning {
+    Leaf {
+        next: Spot,
     },
-    Within {
-        at: usize,
-        row: usize,
-        plan: Plan,
+    Holder {
+        holder: Spot,
+        group: GroupNumbers,
         of: TypeItem,
         given: u64,
-        next: usize,
-        rows: usize,
+        next: Spot,
     },
-    Fault {
+    Refused {
         number: u8,
         place: usize,
     },
 }
 
-// What reading values comes to: the place past them, the rows so far, and how many they are; or a refusal's number and place.
-pub(crate) enum Values {
-    Done {
-        next: usize,
-        rows: usize,
-        count: u64,
-    },
-    Fault {
-        number: u8,
-        place: usize,
-    },
+// What reading values comes to: where reading is past them, and how many they are; or a refusal's number and place.
+pub(crate) enum ValuesRead {
+    Done { next: Spot, count: u64 },
+    Refused { number: u8, place: usize },
 }
 
 // Whether 5a stands at `at`.
@@ -71,14 +66,14 @@ fn closed_at(message: &[u8], at: usize) -> bool
     message[at] == 0x5a
 }
 
-// Whether no value is left at `at`, after i of them.
-fn stop(message: &[u8], plan: Plan, i: u64, at: usize) -> bool
-    ensures { λ r. ⌜ r ≡ stops (now (message .entry)) (groupOf plan) i at ⌝ }
+// Whether no value of the group is left at `at`, after i of them.
+fn stop(message: &[u8], at: usize, group: GroupNumbers, i: u64) -> bool
+    ensures { λ r. ⌜ r ≡ stops (now (message .entry)) (groupOf group) i at ⌝ }
 {
-    if plan.shape < OPEN {
-        return i == plan.count;
+    if group.shape < OPEN {
+        return i == group.count;
     }
-    if plan.shape < PAIRS {
+    if group.shape < PAIRS {
         return closed_at(message, at);
     }
     if i % 2 == 0 {
@@ -87,21 +82,26 @@ fn stop(message: &[u8], plan: Plan, i: u64, at: usize) -> bool
     false
 }
 
-// The place past values that end at `at`.
-fn passed(plan: Plan, at: usize) -> usize
+// The place past the group's values, which end at `at`.
+fn passed(at: usize, group: GroupNumbers) -> usize
     requires { ⌜ at + 1 < 2 ^ 64 ⌝ }
-    ensures { λ r. ⌜ r ≡ past (groupOf plan) at ⌝ }
+    ensures { λ r. ⌜ r ≡ past (groupOf group) at ⌝ }
 {
-    if plan.shape < OPEN {
+    if group.shape < OPEN {
         return at;
     }
     at + 1
 }
 
-// The row `index` of the type at `place`, if there is one.
-fn store_type(numbers: &mut [u64], bytes: &mut [u8], index: usize, place: usize, of: TypeItem)
-    requires { ⌜ index + length (typeRows place of) < 2 ^ 64 ⌝ }
-    ensures { λ _. ⌜ Laid (now (numbers .entry)) (now (bytes .entry)) index (typeRows place of) (now (numbers .exit)) (now (bytes .exit)) ⌝ }
+// The row of the type at `here`, if there is one.
+fn store_type(numbers: &mut [u64], bytes: &mut [u8], here: Spot, of: TypeItem)
+    requires { ⌜ here .row + length (typeRows (here .at) of) < 2 ^ 64 ⌝ }
+    ensures { λ _. ⌜
+        StoresRows
+        (now (numbers .entry)) (now (bytes .entry))
+        (here .row) (typeRows (here .at) of)
+        (now (numbers .exit)) (now (bytes .exit))
+        ⌝ }
 {
     match of {
         TypeItem::Untyped => {}
@@ -111,22 +111,22 @@ fn store_type(numbers: &mut [u64], bytes: &mut [u8], index: usize, place: usize,
         } => {
             let name = Row {
                 kind: TYPE_NAME,
-                place: place as u64,
+                place: here.at as u64,
                 first: units,
                 second: size_of,
-                after: (index + 1) as u64,
+                after: (here.row + 1) as u64,
             };
-            crate::rows::store_row(numbers, bytes, index, name);
+            crate::rows::store_row(numbers, bytes, here.row, name);
         }
         TypeItem::Numbered { number } => {
             let by_number = Row {
                 kind: TYPE_NUMBER,
-                place: place as u64,
+                place: here.at as u64,
                 first: number,
                 second: 0,
-                after: (index + 1) as u64,
+                after: (here.row + 1) as u64,
             };
-            crate::rows::store_row(numbers, bytes, index, by_number);
+            crate::rows::store_row(numbers, bytes, here.row, by_number);
         }
     }
 }
@@ -153,23 +153,30 @@ fn type_second(of: TypeItem, given: u64) -> u64
     }
 }
 
-// The row of the list, map or object at `place` after i values, which end before the row `after`; `given` types were given
-// before it.
-fn holder_row(place: usize, plan: Plan, of: TypeItem, given: u64, i: u64, after: usize) -> Row
+// The row of the list, map or object at `place` after i values of its group, which end before the row `after`; `given`
+// types were given before it.
+fn holder_row(
+    place: usize,
+    group: GroupNumbers,
+    of: TypeItem,
+    given: u64,
+    i: u64,
+    after: usize,
+) -> Row
     ensures { λ r. ⌜
-        rowOf r ≡ itemRow place after (heading (groupOf plan) (typeOf given of) (parts (groupOf plan) i))
+        rowOf r ≡ itemRow place after (heading (groupOf group) (typeOf given of) (parts (groupOf group) i))
         ⌝ }
 {
-    if plan.shape == FIELD_VALUES {
+    if group.shape == FIELD_VALUES {
         return Row {
             kind: OBJECT,
             place: place as u64,
-            first: plan.class,
+            first: group.class,
             second: i,
             after: after as u64,
         };
     }
-    if plan.shape < PAIRS {
+    if group.shape < PAIRS {
         return Row {
             kind: LIST + type_tag(of),
             place: place as u64,
@@ -187,13 +194,13 @@ fn holder_row(place: usize, plan: Plan, of: TypeItem, given: u64, i: u64, after:
     }
 }
 
-// A list, map or object of this type opens: it gets the next reference number, and a type name the next type number. How many rows
-// its type has.
+// A list, map or object of this type opens: it gets the next reference number, and a type name the next type number.
+// How many rows its type has.
 fn enter(known: &mut [u64; KNOWN], of: TypeItem) -> usize
     requires { ⌜
         Kept (now known) × (getD (now known) referencesSlot 0 + 1 < 2 ^ 64) × TypeRoom of (getD (now known) typesSlot 0)
         ⌝ }
-    ensures { λ r. ⌜ Entered (now (known .entry)) of (now (known .exit)) r ⌝ }
+    ensures { λ r. ⌜ EntersHolder (now (known .entry)) of r (now (known .exit)) ⌝ }
 {
     known[REFERENCES_GIVEN] = known[REFERENCES_GIVEN] + 1;
     match of {
@@ -206,69 +213,90 @@ fn enter(known: &mut [u64; KNOWN], of: TypeItem) -> usize
     }
 }
 
-// The list, map or object at `at` opens: the row of its type is stored after its own.
-fn within(
+// The list, map or object at `holder` opens, and its values begin at `next`: the row of its type is stored after its
+// own.
+fn open_holder(
     numbers: &mut [u64],
     bytes: &mut [u8],
     known: &mut [u64; KNOWN],
-    at: usize,
-    row: usize,
-    plan: Plan,
+    holder: Spot,
+    group: GroupNumbers,
     next: usize,
     of: TypeItem,
-) -> Begun
-    requires { ⌜ Opens (now known) of at row next ⌝ }
-    ensures { λ r. ⌜ Opened (now (known .entry)) (now (numbers .entry)) (now (bytes .entry)) at row plan next of r (now (known .exit)) (now (numbers .exit)) (now (bytes .exit)) ⌝ }
+) -> Beginning
+    requires { ⌜ HolderFits (now known) holder next of ⌝ }
+    ensures { λ r. ⌜
+        OpensHolder
+        (now (numbers .entry)) (now (bytes .entry)) (now (known .entry))
+        holder group next of
+        r (now (numbers .exit)) (now (bytes .exit)) (now (known .exit))
+        ⌝ }
 {
-    store_type(numbers, bytes, row + 1, at + 1, of);
+    let type_spot = Spot {
+        at: holder.at + 1,
+        row: holder.row + 1,
+    };
+    store_type(numbers, bytes, type_spot, of);
     let given = known[TYPES_GIVEN];
     let more = enter(known, of);
-    Begun::Within {
-        at,
-        row,
-        plan,
+    Beginning::Holder {
+        holder,
+        group,
         of,
         given,
-        next,
-        rows: row + 1 + more,
+        next: Spot {
+            at: next,
+            row: holder.row + 1 + more,
+        },
     }
 }
 
-// The value at `at` by its head, and all of it where it holds no others.
+// The value at `here` by its head, and all of it where it holds no others.
 fn by_head(
     numbers: &mut [u64],
     bytes: &mut [u8],
     known: &mut [u64; KNOWN],
-    at: usize,
-    row: usize,
+    here: Spot,
     head: Head,
-) -> Begun
-    requires { ⌜ HeadFits (now known) at row head ⌝ }
-    ensures { λ r. ⌜ BegunBy (now (known .entry)) (now (numbers .entry)) (now (bytes .entry)) at row head r (now (known .exit)) (now (numbers .exit)) (now (bytes .exit)) ⌝ }
+) -> Beginning
+    requires { ⌜ HeadFits (now known) here head ⌝ }
+    ensures { λ r. ⌜
+        ByHeadMet
+        (now (numbers .entry)) (now (bytes .entry)) (now (known .entry))
+        here head
+        r (now (numbers .exit)) (now (bytes .exit)) (now (known .exit))
+        ⌝ }
 {
     match head {
-        Head::Wrong { number, place } => Begun::Fault { number, place },
+        Head::Refused { number, place } => Beginning::Refused { number, place },
         Head::Leaf {
             kind,
             first,
             second,
             next,
         } => {
-            let after = row + 1;
+            let after = here.row + 1;
             let leaf = Row {
                 kind,
-                place: at as u64,
+                place: here.at as u64,
                 first,
                 second,
                 after: after as u64,
             };
-            crate::rows::put_row(numbers, bytes, row, leaf);
-            Begun::Past { next, rows: after }
+            crate::rows::put_row(numbers, bytes, here.row, leaf);
+            Beginning::Leaf {
+                next: Spot {
+                    at: next,
+                    row: after,
+                },
+            }
         }
-        Head::Holder { plan, next, of } => within(numbers, bytes, known, at, row, plan, next, of),
-        Head::Definition => Begun::Fault {
+        Head::Holder { group, next, of } => {
+            open_holder(numbers, bytes, known, here, group, next, of)
+        }
+        Head::Definition => Beginning::Refused {
             number: BYTE,
-            place: at,
+            place: here.at,
         },
     }
 }
@@ -279,89 +307,89 @@ fn begin(
     numbers: &mut [u64],
     bytes: &mut [u8],
     known: &mut [u64; KNOWN],
-    from: usize,
-    row: usize,
+    from: Spot,
     allowed: usize,
-) -> Begun
-    requires { ⌜ Ready (now message) (now known) from row ⌝ }
-    ensures { λ r. ⌜ BeginMet allowed (now (message .entry)) from row (now (known .entry)) (now (numbers .entry)) (now (bytes .entry)) r (now (known .exit)) (now (numbers .exit)) (now (bytes .exit)) ⌝ }
+) -> Beginning
+    requires { ⌜ ReadyAt (now message) (now known) from ⌝ }
+    ensures { λ r. ⌜
+        BeginningMet
+        (now (message .entry)) (now (numbers .entry)) (now (bytes .entry)) (now (known .entry))
+        from allowed
+        r (now (numbers .exit)) (now (bytes .exit)) (now (known .exit))
+        ⌝ }
 {
-    let mut at = from;
-    let mut rows = row;
+    let mut here = from;
     loop {
-        let head = crate::heads::head_at(message, known, at, allowed);
+        let head = crate::heads::head_at(message, known, here.at, allowed);
         if let Head::Definition = head {
-            match crate::definitions::definition(message, numbers, bytes, known, at, rows) {
-                Out::Fault { number, place } => {
-                    return Begun::Fault { number, place };
+            match crate::definitions::definition(message, numbers, bytes, known, here) {
+                DefinitionRead::Refused { number, place } => {
+                    return Beginning::Refused { number, place };
                 }
-                Out::Done { next, rows: r } => {
-                    at = next;
-                    rows = r;
+                DefinitionRead::Done { next } => {
+                    here = next;
                 }
             }
         } else {
-            return by_head(numbers, bytes, known, at, rows, head);
+            return by_head(numbers, bytes, known, here, head);
         }
     }
 }
 
-// Reads the values from `from` on that are left of a list, map or object, with as many more as allowed open within them.
+// Reads the values of a group, the first of them at `from`, with as many more lists, maps and objects as allowed open
+// within them.
 pub(crate) fn read_values(
     message: &[u8],
     numbers: &mut [u64],
     bytes: &mut [u8],
     known: &mut [u64; KNOWN],
-    from: usize,
-    row: usize,
-    plan: Plan,
+    from: Spot,
+    group: GroupNumbers,
     allowed: usize,
-) -> Values
-    requires { ⌜ Ready (now message) (now known) from row ⌝ }
-    ensures { λ r. ⌜ ValuesMet allowed (now (message .entry)) from row (now (known .entry)) (now (numbers .entry)) (now (bytes .entry)) (groupOf plan) r (now (known .exit)) (now (numbers .exit)) (now (bytes .exit)) ⌝ }
+) -> ValuesRead
+    requires { ⌜ ReadyAt (now message) (now known) from ⌝ }
+    ensures { λ r. ⌜
+        ValuesReadMet
+        (now (message .entry)) (now (numbers .entry)) (now (bytes .entry)) (now (known .entry))
+        from (groupOf group) allowed
+        r (now (numbers .exit)) (now (bytes .exit)) (now (known .exit))
+        ⌝ }
 {
-    let mut at = from;
-    let mut rows = row;
+    let mut here = from;
     let mut i: u64 = 0;
     loop {
-        if stop(message, plan, i, at) {
-            return Values::Done {
-                next: passed(plan, at),
-                rows,
+        if stop(message, here.at, group, i) {
+            return ValuesRead::Done {
+                next: Spot {
+                    at: passed(here.at, group),
+                    row: here.row,
+                },
                 count: i,
             };
         }
-        match begin(message, numbers, bytes, known, at, rows, allowed) {
-            Begun::Fault { number, place } => {
-                return Values::Fault { number, place };
+        match begin(message, numbers, bytes, known, here, allowed) {
+            Beginning::Refused { number, place } => {
+                return ValuesRead::Refused { number, place };
             }
-            Begun::Past { next, rows: r } => {
-                at = next;
-                rows = r;
+            Beginning::Leaf { next } => {
+                here = next;
                 i += 1;
             }
-            Begun::Within {
-                at: place,
-                row: k,
-                plan: g,
+            Beginning::Holder {
+                holder,
+                group: inner,
                 of,
                 given,
                 next,
-                rows: r,
             } => {
-                match read_values(message, numbers, bytes, known, next, r, g, allowed - 1) {
-                    Values::Fault { number, place: p } => {
-                        return Values::Fault { number, place: p };
+                match read_values(message, numbers, bytes, known, next, inner, allowed - 1) {
+                    ValuesRead::Refused { number, place } => {
+                        return ValuesRead::Refused { number, place };
                     }
-                    Values::Done {
-                        next: end,
-                        rows: all,
-                        count,
-                    } => {
-                        let holder = holder_row(place, g, of, given, count, all);
-                        crate::rows::store_lent(numbers, bytes, k, holder);
-                        at = end;
-                        rows = all;
+                    ValuesRead::Done { next: end, count } => {
+                        let row = holder_row(holder.at, inner, of, given, count, end.row);
+                        crate::rows::store_lent(numbers, bytes, holder.row, row);
+                        here = end;
                         i += 1;
                     }
                 }

@@ -1,5 +1,6 @@
 // The kinds of rows, each once: the numbers of `enum hessian_kind` in include/hessian.h and of the definitions in
-// specs/Kinds.antt, to which the contracts hold the code. 0 to 8 hold no values, 9 to 13 hold some; names are 16 to 18.
+// specs/Model/Kinds.antt, to which the contracts hold the code. 0 to 8 hold no values, 9 to 13 hold some; names are 16
+// to 18.
 pub const NULL: u64 = 0;
 
 pub const FALSE: u64 = 1;

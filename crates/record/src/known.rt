@@ -1,8 +1,8 @@
 // What is known at a place of a message or table, in one array: each class's number of fields, and then how many
-// classes, types and references are given. specs/KnownArray.antt says what it means.
+// classes, types and references are given. specs/Laws/KnownArray.antt says what it means.
 use crate::limits::CLASSES;
 ghost use mathlib.Core.Path.{_≡_};
-ghost use Rattle.record.specs.KnownArray.{definedIn};
+ghost use Rattle.record.specs.Laws.KnownArray.{definedIn};
 
 // Where it counts the classes given, after the fields of each class that may be.
 pub const CLASSES_GIVEN: usize = CLASSES as usize;

@@ -4,8 +4,8 @@ pub mod kinds;
 pub mod known;
 pub mod limits;
 
-// How the values of a list, map or object are counted: so many elements; the fields of an object, with its class and how many;
-// elements up to 5a; keys and values up to 5a.
+// How the values of a list, map or object are counted: so many elements; the fields of an object, with its class and
+// how many; elements up to 5a; keys and values up to 5a.
 pub enum Group {
     Counted(u64),
     Fields(u64, u64),
@@ -13,7 +13,8 @@ pub enum Group {
     Pairs,
 }
 
-// What a list, map or object holds, as the writer counts it: so many elements or fields; so many keys, each with its value.
+// What a list, map or object holds, as the writer counts it: so many elements or fields; so many keys, each with its
+// value.
 pub enum Contents {
     Elements(u64),
     Couples(u64),

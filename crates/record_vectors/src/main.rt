@@ -3,9 +3,9 @@
 // A case is a line: how many numbers are lent in the table, in decimal, and the message in groups, as vectors::groups
 // takes them.
 //
-// The line printed has the answer: number, count and place; a sum over the lent table as it then is; and `ok` where all past the
-// accepted rows, or the whole table after a refusal, is as it was. What is no case is `bad`.
-// vectors.py writes the cases, stdin, and what is to be printed, stdout.
+// The line printed has the answer: number, count and place; a sum over the lent table as it then is; and `ok` where all
+// past the accepted rows, or the whole table after a refusal, is as it was. What is no case is `bad`. vectors.py writes
+// the cases, stdin, and what is to be printed, stdout.
 use libc::STDIN_FILENO;
 use libc::STDOUT_FILENO;
 use reader::ReadAnswer;

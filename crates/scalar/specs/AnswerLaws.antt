@@ -7,11 +7,13 @@ use Prim.Native.Nat.{ℕ, _+_, _≤_, _<_}
 use lib.Dec.{eqb}
 use lib.ListN.{length}
 use borrow.Author.Tests.{le-leb, lt-leb, eq-eqb, ne-eqb}
-use Rattle.flow.specs.Flow.{Done, Fault, Entry, One, stored}
+use Rattle.flow.specs.Flow.{Done, Fault, Entry, One, stored, reported}
 use Rattle.flow.specs.Tests.{pick-true, pick-false}
-use Rattle.scalar.specs.declared.Kind.{Kind}
+use Rattle.scalar.specs.declared.Encoding.{Encoding}
 use Rattle.scalar.specs.Scalars.{units, stringAt, shortestString}
-use Rattle.scalar.specs.Answers.{reported, reportOf, outputOf, sizes, measuredAt, sizedOf, sizedForm}
+use Rattle.flow.specs.Steps.{Answer, renamed}
+use Rattle.scalar.specs.Answers.{reportOf, outputOf, lengthOf, sizes, measuredAt, formOf, itemForm}
+use Rattle.scalar.specs.Answers.{sizedOf, sizedForm}
 
 -- ---- what storing a form comes to: there is none; it fits; it does not fit
 module _ (len at : ℕ) where
@@ -38,8 +40,21 @@ module _ (l : List ℕ) (at : ℕ) where
   unfolding outputOf
   output-some w = refl
 
--- ---- the sizes of a text or byte string: none stands there; one does
-module _ (k : Kind) (m : List ℕ) (p : ℕ) where
+-- how long the form is
+pub length-none : lengthOf none ≡ 0
+unfolding lengthOf
+length-none = refl
+
+pub length-some : (w : List ℕ) → lengthOf (some w) ≡ length w
+unfolding lengthOf
+length-some w = refl
+
+-- ---- the sizes of a text or byte string, by what is read there: in either case; none stands there; one does
+module _ (k : Encoding) (m : List ℕ) (p : ℕ) where
+  pub measured-as : {o : Answer (List ℕ)} → stringAt k m p ≡ o → measuredAt k m p ≡ renamed (sizes k) o
+  unfolding measuredAt
+  measured-as e = ap (renamed (sizes k)) e
+
   pub measured-fault : (x o : ℕ) → stringAt k m p ≡ Fault x o → measuredAt k m p ≡ Fault x o
   unfolding measuredAt
   measured-fault x o e = rw e refl
@@ -49,9 +64,19 @@ module _ (k : Kind) (m : List ℕ) (p : ℕ) where
   unfolding measuredAt
   measured-done n cs es c e = rw e refl
 
--- ---- its shortest form, if its content has u units and b bytes: none stands there; it has both; it has other units,
+  -- ---- its shortest form: none stands there; one does
+  pub item-fault : (x o : ℕ) → stringAt k m p ≡ Fault x o → itemForm k m p ≡ none
+  unfolding itemForm
+  item-fault x o e = ap (formOf k) e
+
+  pub item-done : (n : ℕ) (cs : List ℕ) (es : List (Entry One)) (c : One)
+      → stringAt k m p ≡ Done n cs es c → itemForm k m p ≡ shortestString k cs
+  unfolding itemForm
+  item-done n cs es c e = ap (formOf k) e
+
+-- the same, if its content has u units and b bytes: none stands there; it has both; it has other units,
 -- or other bytes
-module _ (k : Kind) (m : List ℕ) (p u b : ℕ) where
+module _ (k : Encoding) (m : List ℕ) (p u b : ℕ) where
   pub sized-fault : (x o : ℕ) → stringAt k m p ≡ Fault x o → sizedForm k m p u b ≡ none
   unfolding sizedForm
   sized-fault x o e = ap (sizedOf k u b) e

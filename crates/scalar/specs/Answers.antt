@@ -3,23 +3,21 @@ use mathlib.Core.{Bool._&&_, List.List, Option.Option, Option.none, Option.some}
 use Prim.Native.Nat.{ℕ, _+_}
 use lib.{Dec.leb, Dec.eqb, ListN.length}
 use Rattle.flow.specs.RefusalNumbers.{no-room, no-record}
-use Rattle.flow.specs.Flow.{pick, Done, Fault, byteAt, stored, Report}
+use Rattle.flow.specs.Flow.{pick, Done, Fault, byteAt, stored, Report, reported}
 use Rattle.flow.specs.Steps.{Answer, alone, renamed}
-use Rattle.scalar.specs.declared.{Sort.Sort, Kind.Kind, Written.Written, Written.the-variants.Stored, Written.the-variants.NoRoom, Written.the-variants.NotSuch}
+use Rattle.scalar.specs.declared.{Sort.Sort, Encoding.Encoding, Written.Written, Written.the-variants.Stored}
+use Rattle.scalar.specs.declared.{Written.the-variants.NoRoom, Written.the-variants.NoSuchForm}
 use Rattle.scalar.specs.Scalars.{formsOf, numberFrom, units, stringAt, shortestString}
 
 -- what stands at the place p of the message m, read as a value of this kind
 unfoldable pub numberAt : Sort → List ℕ → ℕ → Answer ℕ
 numberAt s m p = alone (byteAt (numberFrom (formsOf s))) m p
 
--- a refusal's number, 0 where accepted; the bytes stored or needed; the place is 0
-abbrev pub reported : ℕ → ℕ → Report
-reported number count = record { number = number; count = count; place = 0 }
-
+-- the bytes stored or needed
 abbrev pub report : Written → Report
 report (Stored n) = reported 0 n
 report (NoRoom n) = reported no-room n
-report NotSuch = reported no-record 0
+report NoSuchForm = reported no-record 0
 
 -- what storing a form from the index at on comes to, in a slice of len bytes; and what the slice then holds
 unfoldable pub reportOf : Option (List ℕ) → ℕ → ℕ → Report
@@ -42,25 +40,25 @@ pub record Sizes : Type 0 where
 abbrev pub sized : ℕ → ℕ → Sizes
 sized u b = record { units = u; bytes = b }
 
-abbrev pub sizes : Kind → List ℕ → Sizes
+abbrev pub sizes : Encoding → List ℕ → Sizes
 sizes k cs = sized (units k cs) (length cs)
 
 -- what stands at the place p of the message m, by its sizes
-unfoldable pub measuredAt : Kind → List ℕ → ℕ → Answer Sizes
+unfoldable pub measuredAt : Encoding → List ℕ → ℕ → Answer Sizes
 measuredAt k m p = renamed (sizes k) (stringAt k m p)
 
 -- ---- the shortest form of the text or byte string at the place p of the message m, if one stands there
-abbrev pub formOf : Kind → Answer (List ℕ) → Option (List ℕ)
+abbrev pub formOf : Encoding → Answer (List ℕ) → Option (List ℕ)
 formOf k (Done n cs es c) = shortestString k cs
 formOf k (Fault x o) = none
 
-unfoldable pub itemForm : Kind → List ℕ → ℕ → Option (List ℕ)
+unfoldable pub itemForm : Encoding → List ℕ → ℕ → Option (List ℕ)
 itemForm k m p = formOf k (stringAt k m p)
 
 -- the same, if its content has u units and b bytes
-abbrev pub sizedOf : Kind → ℕ → ℕ → Answer (List ℕ) → Option (List ℕ)
+abbrev pub sizedOf : Encoding → ℕ → ℕ → Answer (List ℕ) → Option (List ℕ)
 sizedOf k u b (Done n cs es c) = pick (eqb (units k cs) u && eqb (length cs) b) (shortestString k cs) none
 sizedOf k u b (Fault x o) = none
 
-unfoldable pub sizedForm : Kind → List ℕ → ℕ → ℕ → ℕ → Option (List ℕ)
+unfoldable pub sizedForm : Encoding → List ℕ → ℕ → ℕ → ℕ → Option (List ℕ)
 sizedForm k m p u b = sizedOf k u b (stringAt k m p)

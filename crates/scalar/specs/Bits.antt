@@ -1,4 +1,5 @@
--- A value has 64 bits; a content is no longer than the bytes of its form; it has at most two units a byte, and in a form no more units than bytes.
+-- A value has 64 bits; a content is no longer than the bytes of its form; it has at most two units a byte, and in a
+-- form no more units than bytes.
 use mathlib.Core.List.{List, [], _∷_, _++_}
 use Prim.Native.Nat.{ℕ, _*_, _^_, _≤_, _<_}
 use native.Mathlib.Omega.{arith}
@@ -10,7 +11,7 @@ use mir.ValLaws.{ofZ-fits, toZ-fits}
 use Rattle.scalar.specs.declared.Sort.{Sort}
 use Rattle.scalar.specs.declared.Sort.the-variants.{Null, False, True, Int, Long, Double, Date}
 use Rattle.scalar.specs.declared.Rule.the-variants.{Offset, Signed}
-use Rattle.scalar.specs.declared.Kind.{Kind}
+use Rattle.scalar.specs.declared.Encoding.{Encoding}
 use Rattle.scalar.specs.Signed.{minus-fits, fits-32, widen-fits, mul-fits}
 use Rattle.scalar.specs.DoubleLaws.{whole-lt, widened-lt}
 use Rattle.scalar.specs.Scalars.{value, formsOf, units}
@@ -33,36 +34,66 @@ unfolding formsOf value
 each-bits Null = (λ u l. omega arith, tt)
 each-bits False = (λ u l. omega arith, tt)
 each-bits True = (λ u l. omega arith, tt)
-each-bits Int = (λ u l. offset-bits 16 u (omega arith) (omega arith), (λ u l. offset-bits 2048 u (omega arith) (omega arith), (λ u l. offset-bits 262144 u (omega arith) (omega arith), (λ u l. signed-bits u (omega arith), tt))))
-each-bits Long = (λ u l. offset-bits 8 u (omega arith) (omega arith), (λ u l. offset-bits 2048 u (omega arith) (omega arith), (λ u l. offset-bits 262144 u (omega arith) (omega arith), (λ u l. signed-bits u (omega arith), (λ u l. omega arith, tt)))))
-each-bits Double = (λ u l. omega arith, (λ u l. omega arith, (λ u l. whole-lt (toZ w8 u) (omega (arith, toZ-fits w8 u (record { fits = omega arith }) .sfits)), (λ u l. whole-lt (toZ w16 u) (omega (arith, toZ-fits w16 u (record { fits = omega arith }) .sfits)), (λ u l. widened-lt u (omega arith), (λ u l. omega arith, tt))))))
-each-bits Date = (λ u l. ofZ-fits w64 (toZ w32 u *ℤ pos 60_000) (mul-fits (toZ w32 u) (fits-32 u (omega arith))) .fits, (λ u l. omega arith, tt))
+each-bits Int = (
+  λ u l. offset-bits 16 u (omega arith) (omega arith),
+  (
+    λ u l. offset-bits 2048 u (omega arith) (omega arith),
+    (λ u l. offset-bits 262144 u (omega arith) (omega arith), (λ u l. signed-bits u (omega arith), tt)),
+  ),
+)
+each-bits Long = (
+  λ u l. offset-bits 8 u (omega arith) (omega arith),
+  (
+    λ u l. offset-bits 2048 u (omega arith) (omega arith),
+    (
+      λ u l. offset-bits 262144 u (omega arith) (omega arith),
+      (λ u l. signed-bits u (omega arith), (λ u l. omega arith, tt)),
+    ),
+  ),
+)
+each-bits Double = (
+  λ u l. omega arith,
+  (
+    λ u l. omega arith,
+    (
+      λ u l. whole-lt (toZ w8 u) (omega (arith, toZ-fits w8 u (record { fits = omega arith }) .sfits)),
+      (
+        λ u l. whole-lt (toZ w16 u) (omega (arith, toZ-fits w16 u (record { fits = omega arith }) .sfits)),
+        (λ u l. widened-lt u (omega arith), (λ u l. omega arith, tt)),
+      ),
+    ),
+  ),
+)
+each-bits Date = (
+  λ u l. ofZ-fits w64 (toZ w32 u *ℤ pos 60_000) (mul-fits (toZ w32 u) (fits-32 u (omega arith))) .fits,
+  (λ u l. omega arith, tt),
+)
 
 pub number-bits : (s : Sort) {w : List ℕ} {v : ℕ} → Number (formsOf s) w v → v < 2 ^ 64
 number-bits s n = number-fact (λ k v. v < 2 ^ 64) n (each-bits s)
 
-pub content-length : {k : Kind} {w cs : List ℕ} → String k w cs → length cs ≤ length w
+pub content-length : {k : Encoding} {w cs : List ℕ} → String k w cs → length cs ≤ length w
 content-length (last-chunk {h = h} {w = w} n b) = omega (arith, length-append h w, body-length b)
 content-length (chunk-before {h = h} {w = w} {cs = cs} {v = v} {ds = ds} n b r) =
     let l = content-length r in
     omega (arith, length-append h (w ++ v), length-append w v, length-append cs ds, body-length b)
 
-pub units-few : (k : Kind) (cs : List ℕ) → units k cs ≤ 2 * length cs
+pub units-few : (k : Encoding) (cs : List ℕ) → units k cs ≤ 2 * length cs
 units-few k [] = omega arith
 units-few k (b ∷ cs) = omega (arith, weight-few k b, units-few k cs)
 
 -- what a form holds has no more units than bytes
-char-few : {k : Kind} {u : ℕ} {w : List ℕ} → Char k u w → u ≤ length w
+char-few : {k : Encoding} {u : ℕ} {w : List ℕ} → Char k u w → u ≤ length w
 char-few (one-byte l) = omega arith
 char-few (one-unit e c) = omega arith
 char-few (below-halves e c) = omega arith
 char-few (two-units e (follows l h c)) = omega arith
 
-pub content-few : {k : Kind} {n : ℕ} {cs : List ℕ} → Content k n cs → n ≤ length cs
+pub content-few : {k : Encoding} {n : ℕ} {cs : List ℕ} → Content k n cs → n ≤ length cs
 content-few no-chars = omega arith
 content-few (more-chars {w = w} {v = v} c b) = omega (arith, length-append w v, char-few c, content-few b)
 
-pub string-few : {k : Kind} {w cs : List ℕ} → String k w cs → units k cs ≤ length cs
+pub string-few : {k : Encoding} {w cs : List ℕ} → String k w cs → units k cs ≤ length cs
 string-few {k} (last-chunk n b) = omega (arith, body-units b, content-few (body-content b))
 string-few {k} (chunk-before {cs = cs} {ds = ds} n b r) =
     let l = content-few (body-content b) in

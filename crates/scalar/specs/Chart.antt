@@ -1,5 +1,6 @@
--- The chart: what each first byte opens, and how many bytes follow before any content. The code tells bytes apart by it; what is read is
--- defined without it (Scalars.antt, and record's Records.antt), and agrees with it (ChartLaws.antt).
+-- The chart: what each first byte opens, and how many bytes follow before any content. The code tells bytes apart by
+-- it; what is read is defined without it (Scalars.antt, and record's Model/Reading.antt), and agrees with it
+-- (ChartLaws.antt).
 use mathlib.Core.{List.List, List.[], List._∷_}
 use Prim.Native.Nat.{ℕ, suc, _+_, _*_}
 use Rattle.flow.specs.Flow.{pick, within}
@@ -27,10 +28,13 @@ ranges =
     ∷ only 0x52 lead.Text 2
     ∷ range 0x20 0x2f lead.Bytes 0 ∷ range 0x34 0x37 lead.Bytes 1 ∷ only 0x42 lead.Bytes 2
     ∷ only 0x41 lead.Bytes 2
-    ∷ range 0x80 0xbf (lead.Number Int) 0 ∷ range 0xc0 0xcf (lead.Number Int) 1 ∷ range 0xd0 0xd7 (lead.Number Int) 2 ∷ only 0x49 (lead.Number Int) 4
-    ∷ range 0xd8 0xef (lead.Number Long) 0 ∷ range 0xf0 0xff (lead.Number Long) 1 ∷ range 0x38 0x3f (lead.Number Long) 2 ∷ only 0x59 (lead.Number Long) 4 ∷ only 0x4c (lead.Number Long) 8
+    ∷ range 0x80 0xbf (lead.Number Int) 0 ∷ range 0xc0 0xcf (lead.Number Int) 1 ∷ range 0xd0 0xd7 (lead.Number Int) 2
+    ∷ only 0x49 (lead.Number Int) 4
+    ∷ range 0xd8 0xef (lead.Number Long) 0 ∷ range 0xf0 0xff (lead.Number Long) 1 ∷ range 0x38 0x3f (lead.Number Long) 2
+    ∷ only 0x59 (lead.Number Long) 4 ∷ only 0x4c (lead.Number Long) 8
     ∷ only 0x4a (lead.Number Date) 8 ∷ only 0x4b (lead.Number Date) 4
-    ∷ range 0x5b 0x5c (lead.Number Double) 0 ∷ only 0x5d (lead.Number Double) 1 ∷ only 0x5e (lead.Number Double) 2 ∷ only 0x5f (lead.Number Double) 4 ∷ only 0x44 (lead.Number Double) 8
+    ∷ range 0x5b 0x5c (lead.Number Double) 0 ∷ only 0x5d (lead.Number Double) 1 ∷ only 0x5e (lead.Number Double) 2
+    ∷ only 0x5f (lead.Number Double) 4 ∷ only 0x44 (lead.Number Double) 8
     ∷ only 0x4e (lead.Number Null) 0 ∷ only 0x46 (lead.Number False) 0 ∷ only 0x54 (lead.Number True) 0
     ∷ range 0x70 0x77 lead.TypedList 0 ∷ range 0x55 0x56 lead.TypedList 0
     ∷ range 0x78 0x7f lead.List 0 ∷ range 0x57 0x58 lead.List 0
@@ -62,7 +66,8 @@ kindOf lead.Definition = 15
 kindOf lead.Close = 20
 kindOf lead.Reserved = 21
 
--- how many bytes follow a first byte before any content; and its entry in the table: ten times the kind, and the bytes that follow
+-- how many bytes follow a first byte before any content; and its entry in the table: ten times the kind, and the bytes
+-- that follow
 unfoldable pub followOf : ℕ → ℕ
 followOf b = rangeOf ranges b .follow
 

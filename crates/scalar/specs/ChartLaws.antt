@@ -1,8 +1,8 @@
 -- The chart of first bytes: what holds of every byte, by computation over all 256.
 use mathlib.Core.Path.{_≡_, refl, sym, _∙_, ap, subst}
-use mathlib.Core.Bool.{Bool, not, _&&_}
+use mathlib.Core.Bool.{Bool, true, not, _&&_}
 use mathlib.Core.List.{List, [], _∷_}
-use Prim.Native.Nat.{ℕ, suc, _+_, _-_, _/_, _%_, _≤_, _<_}
+use Prim.Native.Nat.{ℕ, zero, suc, _+_, _*_, _-_, _/_, _%_, _≤_, _<_}
 use native.Mathlib.Omega.{arith}
 use borrow.Author.Tests.{eqb-true, eqb-false}
 use lib.Dec.{T, T-not, eqb, leb, eqb→eq, eqb-refl, leb→le}
@@ -22,8 +22,10 @@ use Rattle.scalar.specs.Chart.{ranges, rangeOf, leadOf, kindOf, followOf
 -- ---- a kind's number says the kind
 abbrev leads : List Lead
 leads =
-    lead.Number Null ∷ lead.Number False ∷ lead.Number True ∷ lead.Number Int ∷ lead.Number Long ∷ lead.Number Double ∷ lead.Number Date ∷ lead.Text ∷ lead.Bytes ∷ lead.List ∷ lead.TypedList
-    ∷ lead.Map ∷ lead.TypedMap ∷ lead.Object ∷ lead.Reference ∷ lead.Definition ∷ lead.Reserved ∷ lead.Reserved ∷ lead.Reserved ∷ lead.Reserved ∷ lead.Close ∷ []
+    lead.Number Null ∷ lead.Number False ∷ lead.Number True ∷ lead.Number Int ∷ lead.Number Long ∷ lead.Number Double
+    ∷ lead.Number Date ∷ lead.Text ∷ lead.Bytes ∷ lead.List ∷ lead.TypedList
+    ∷ lead.Map ∷ lead.TypedMap ∷ lead.Object ∷ lead.Reference ∷ lead.Definition ∷ lead.Reserved ∷ lead.Reserved
+    ∷ lead.Reserved ∷ lead.Reserved ∷ lead.Close ∷ []
 
 abbrev coded : ℕ → Lead
 coded n = getD leads n lead.Reserved
@@ -63,29 +65,89 @@ opened : (x : Lead) (b : ℕ) → T (opens x b) → leadOf b ≡ x
 opened x b t = kind-is (leadOf b) x (eqb→eq (kindOf (leadOf b)) (kindOf x) t)
 
 pub lead-in : (lo hi : ℕ) (x : Lead) → T (allOpen lo hi x) → (b : ℕ) → lo ≤ b → b ≤ hi → leadOf b ≡ x
-lead-in lo hi x t b h k = opened x b (subst (λ (n : ℕ). T (opens x n)) (omega arith) (every-at (suc hi - lo) (λ i. opens x (lo + i)) t (b - lo) (omega arith)))
+lead-in lo hi x t b h k =
+    opened x b
+    (subst (λ (n : ℕ). T (opens x n)) (omega arith)
+    (every-at (suc hi - lo) (λ i. opens x (lo + i)) t (b - lo) (omega arith)))
+
+-- the bytes that open x, from one to another
+abbrev pub spans : Lead → List (ℕ × ℕ)
+spans lead.Text = (0x00, 0x1f) ∷ (0x30, 0x33) ∷ (0x52, 0x53) ∷ []
+spans lead.Bytes = (0x20, 0x2f) ∷ (0x34, 0x37) ∷ (0x41, 0x42) ∷ []
+spans (lead.Number Int) = (0x80, 0xd7) ∷ (0x49, 0x49) ∷ []
+spans (lead.Number Long) = (0xd8, 0xff) ∷ (0x38, 0x3f) ∷ (0x59, 0x59) ∷ (0x4c, 0x4c) ∷ []
+spans (lead.Number Date) = (0x4a, 0x4b) ∷ []
+spans (lead.Number Double) = (0x5b, 0x5f) ∷ (0x44, 0x44) ∷ []
+spans (lead.Number Null) = (0x4e, 0x4e) ∷ []
+spans (lead.Number False) = (0x46, 0x46) ∷ []
+spans (lead.Number True) = (0x54, 0x54) ∷ []
+spans lead.TypedList = (0x70, 0x77) ∷ (0x55, 0x56) ∷ []
+spans lead.List = (0x78, 0x7f) ∷ (0x57, 0x58) ∷ []
+spans lead.TypedMap = (0x4d, 0x4d) ∷ []
+spans lead.Map = (0x48, 0x48) ∷ []
+spans lead.Definition = (0x43, 0x43) ∷ []
+spans lead.Object = (0x60, 0x6f) ∷ (0x4f, 0x4f) ∷ []
+spans lead.Reference = (0x51, 0x51) ∷ []
+spans lead.Close = (0x5a, 0x5a) ∷ []
+spans lead.Reserved = (0x40, 0x40) ∷ (0x45, 0x45) ∷ (0x47, 0x47) ∷ (0x50, 0x50) ∷ []
+
+-- the one with the index i; past the last there is no byte
+abbrev pub spanAt : List (ℕ × ℕ) → ℕ → ℕ × ℕ
+spanAt rs i = getD rs i (1, 0)
+
+abbrev spansOpen : Lead → List (ℕ × ℕ) → Bool
+spansOpen x [] = true
+spansOpen x (r ∷ rs) = allOpen (r .0) (r .1) x && spansOpen x rs
+
+all-open : (x : Lead) → T (spansOpen x (spans x))
+unfolding leadOf kindOf rangeOf ranges pick
+all-open (lead.Number Null) = tt
+all-open (lead.Number False) = tt
+all-open (lead.Number True) = tt
+all-open (lead.Number Int) = tt
+all-open (lead.Number Long) = tt
+all-open (lead.Number Double) = tt
+all-open (lead.Number Date) = tt
+all-open lead.Text = tt
+all-open lead.Bytes = tt
+all-open lead.List = tt
+all-open lead.TypedList = tt
+all-open lead.Map = tt
+all-open lead.TypedMap = tt
+all-open lead.Object = tt
+all-open lead.Reference = tt
+all-open lead.Definition = tt
+all-open lead.Close = tt
+all-open lead.Reserved = tt
+
+span-opens : (x : Lead) (rs : List (ℕ × ℕ)) → T (spansOpen x rs) → (i b : ℕ)
+    → spanAt rs i .0 ≤ b → b ≤ spanAt rs i .1 → leadOf b ≡ x
+span-opens x [] t i b h k = absurd (omega arith)
+span-opens x (r ∷ rs) t zero b h k =
+    lead-in (r .0) (r .1) x (and-left (allOpen (r .0) (r .1) x) (spansOpen x rs) t) b h k
+span-opens x (r ∷ rs) t (suc i) b h k =
+    span-opens x rs (and-right (allOpen (r .0) (r .1) x) (spansOpen x rs) t) i b h k
+
+pub span-lead : (x : Lead) (i : ℕ) {b : ℕ} → spanAt (spans x) i .0 ≤ b → b ≤ spanAt (spans x) i .1 → leadOf b ≡ x
+span-lead x i {b} h k = span-opens x (spans x) (all-open x) i b h k
 
 -- the upper half opens ints and longs, the lowest bytes texts; one byte opens a class definition
 module _ (b : ℕ) where
   pub int-lead : 0x80 ≤ b → b < 0xd8 → leadOf b ≡ lead.Number Int
-  unfolding leadOf kindOf rangeOf ranges pick
-  int-lead h k = lead-in 0x80 0xd7 (lead.Number Int) tt b h (omega arith)
+  int-lead h k = span-lead (lead.Number Int) 0 h (omega arith)
 
   pub long-lead : 0xd8 ≤ b → b < 256 → leadOf b ≡ lead.Number Long
-  unfolding leadOf kindOf rangeOf ranges pick
-  long-lead h k = lead-in 0xd8 0xff (lead.Number Long) tt b h (omega arith)
+  long-lead h k = span-lead (lead.Number Long) 0 h (omega arith)
 
   pub text-lead : b < 0x20 → leadOf b ≡ lead.Text
-  unfolding leadOf kindOf rangeOf ranges pick
-  text-lead h = lead-in 0 0x1f lead.Text tt b (omega arith) (omega arith)
+  text-lead h = span-lead lead.Text 0 (omega arith) (omega arith)
 
 pub definition-lead : leadOf 0x43 ≡ lead.Definition
-unfolding leadOf rangeOf ranges pick
-definition-lead = refl
+definition-lead = span-lead lead.Definition 0 (omega arith) (omega arith)
 
-pub text-kind : kindOf lead.Text ≡ 7
+pub kind-of-text : kindOf lead.Text ≡ 7
 unfolding kindOf
-text-kind = refl
+kind-of-text = refl
 
 -- ---- the bytes that open x: two by themselves, the others from `least` on
 abbrev amongThem : Lead → ℕ → ℕ → ℕ → ℕ → Bool
@@ -133,6 +195,41 @@ pub entry-parts : (b : ℕ) → b < 256 → (entry b / 10 ≡ kindOf (leadOf b))
 unfolding entry
 entry-parts b l = (omega (arith, follow-few b l), omega (arith, follow-few b l))
 
+-- ---- the table of entries, in the order of the bytes: so many bytes have this kind, and so many bytes follow
+abbrev pub entryRuns : List (ℕ × ℕ × ℕ)
+entryRuns =
+    (32, 7, 0)
+    ∷ (16, 8, 0)
+    ∷ (4, 7, 1) ∷ (4, 8, 1) ∷ (8, 4, 2)
+    ∷ (1, 21, 0) ∷ (2, 8, 2) ∷ (1, 15, 0) ∷ (1, 5, 8) ∷ (1, 21, 0) ∷ (1, 1, 0) ∷ (1, 21, 0) ∷ (1, 11, 0) ∷ (1, 3, 4)
+    ∷ (1, 6, 8) ∷ (1, 6, 4) ∷ (1, 4, 8) ∷ (1, 12, 0) ∷ (1, 0, 0) ∷ (1, 13, 0)
+    ∷ (1, 21, 0) ∷ (1, 14, 0) ∷ (2, 7, 2) ∷ (1, 2, 0) ∷ (2, 10, 0) ∷ (2, 9, 0) ∷ (1, 4, 4) ∷ (1, 20, 0) ∷ (2, 5, 0)
+    ∷ (1, 5, 1) ∷ (1, 5, 2) ∷ (1, 5, 4)
+    ∷ (16, 13, 0)
+    ∷ (8, 10, 0) ∷ (8, 9, 0)
+    ∷ (64, 3, 0)
+    ∷ (16, 3, 1)
+    ∷ (8, 3, 2) ∷ (24, 4, 0)
+    ∷ (16, 4, 1)
+    ∷ []
+
+abbrev repeated : ℕ → ℕ → List ℕ → List ℕ
+repeated zero v s = s
+repeated (suc n) v s = v ∷ repeated n v s
+
+abbrev pub spread : List (ℕ × ℕ × ℕ) → List ℕ
+spread [] = []
+spread (r ∷ rs) = repeated (r .0) (10 * r .1 + r .2) (spread rs)
+
+entry-listed : T (every 256 (λ b. eqb (getD (spread entryRuns) b 0) (entry b)))
+unfolding entry leadOf kindOf followOf rangeOf ranges pick
+entry-listed = tt
+
+pub entries : (b : ℕ) → b < 256 → getD (spread entryRuns) b 0 ≡ entry b
+entries b l =
+    eqb→eq (getD (spread entryRuns) b 0) (entry b)
+    (every-at 256 (λ b. eqb (getD (spread entryRuns) b 0) (entry b)) entry-listed b l)
+
 -- ---- a byte opens a kind of single value exactly where it begins a form of that kind, and as many bytes follow
 abbrev suits : Sort → ℕ → Begun → Bool
 suits s b NoForm = not (opens (lead.Number s) b)
@@ -154,10 +251,13 @@ all-agree Date = tt
 agreed : (s : Sort) (b : ℕ) (x : Begun) → b < 256 → formAt (formsOf s) b ≡ x → T (suits s b x)
 agreed s b x l e = subst (λ (z : Begun). T (suits s b z)) e (every-at 256 (agrees s) (all-agree s) b l)
 
-pub lead-number : (s : Sort) (b k u : ℕ) (r : Rule) → b < 256 → formAt (formsOf s) b ≡ Starts k u r → (leadOf b ≡ lead.Number s) × (followOf b ≡ k)
+pub lead-number : (s : Sort) (b k u : ℕ) (r : Rule) → b < 256 → formAt (formsOf s) b ≡ Starts k u r
+    → (leadOf b ≡ lead.Number s) × (followOf b ≡ k)
 lead-number s b k u r l e =
-    let t = agreed s b (Starts k u r) l e in
-    (opened (lead.Number s) b (and-left (opens (lead.Number s) b) (eqb (followOf b) k) t), eqb→eq (followOf b) k (and-right (opens (lead.Number s) b) (eqb (followOf b) k) t))
+    let t = agreed s b (Starts k u r) l e in (
+      opened (lead.Number s) b (and-left (opens (lead.Number s) b) (eqb (followOf b) k) t),
+      eqb→eq (followOf b) k (and-right (opens (lead.Number s) b) (eqb (followOf b) k) t),
+    )
 
 -- the byte begins a form of that kind
 pub record Begins (s : Sort) (b : ℕ) : Type 0 where
@@ -169,5 +269,7 @@ pub number-lead : (s : Sort) (b : ℕ) → b < 256 → leadOf b ≡ lead.Number 
 number-lead s b l e = go (formAt (formsOf s) b) refl
   where
     go : (x : Begun) → formAt (formsOf s) b ≡ x → Begins s b
-    go (Starts k u r) y = record { held = u; rule = r; starts = y ∙ ap (λ (n : ℕ). Starts n u r) (sym (lead-number s b k u r l y .1)) }
-    go NoForm y = absurd (T-not (opens (lead.Number s) b) (agreed s b NoForm l y) (rw e (eqb-refl (kindOf (lead.Number s)))))
+    go (Starts k u r) y =
+        record { held = u; rule = r; starts = y ∙ ap (λ (n : ℕ). Starts n u r) (sym (lead-number s b k u r l y .1)) }
+    go NoForm y =
+        absurd (T-not (opens (lead.Number s) b) (agreed s b NoForm l y) (rw e (eqb-refl (kindOf (lead.Number s)))))

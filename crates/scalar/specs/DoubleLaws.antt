@@ -1,7 +1,10 @@
--- Doubles by their bits: what the shift keeps, each definition by its cases, and that the candidates give back what became a double.
+-- Doubles by their bits: what the shift keeps, each definition by its cases, and that the candidates give back what
+-- became a double.
 use mathlib.Core.Path.{_≡_, refl, sym, _∙_}
 use Prim.Native.Nat.{ℕ, zero, suc, _+_, _-_, _*_, _/_, _%_, _^_, _≤_, _<_}
-use native.Mathlib.Nat.{mod-eq-of-lt, lt-of-lt-of-le, mul-lt-mul-of-pos-right, mul-le-mul-right, lt-irrefl, le-trans, add-mod-right}
+use native.Mathlib.Nat.{mod-eq-of-lt, lt-of-lt-of-le, mul-lt-mul-of-pos-right, mul-le-mul-right, lt-irrefl}
+use native.Mathlib.Nat.{le-trans, add-mod-right}
+use native.Mathlib.Nat.{mul-left-comm}
 use native.Mathlib.Omega.{arith}
 use lib.Arith.{digits-div, digits-mod}
 use lib.Count.{leadingZeros, leading-top}
@@ -33,7 +36,8 @@ lz-ge m h k =
 pub powers : (n i j : ℕ) → i + j ≡ n → 2 ^ n ≡ 2 ^ i * 2 ^ j
 powers n i j e = rw (← e) (pow-add 2 i j)
 
-pub moved : (m : ℕ) → 0 < m → m < 2 ^ 32 → (2 ^ 52 ≤ m * 2 ^ (21 + leadingZeros 32 m)) × (m * 2 ^ (21 + leadingZeros 32 m) < 2 ^ 53)
+pub moved : (m : ℕ) → 0 < m → m < 2 ^ 32
+    → (2 ^ 52 ≤ m * 2 ^ (21 + leadingZeros 32 m)) × (m * 2 ^ (21 + leadingZeros 32 m) < 2 ^ 53)
 moved m h k =
     let p = leading-top 32 m h k in
     let z = leadingZeros 32 m in (
@@ -42,10 +46,12 @@ moved m h k =
     )
 
 -- 64 bits hold it
-pub shifted : (m : ℕ) → 0 < m → m < 2 ^ 32 → (m * 2 ^ (21 + leadingZeros 32 m)) % 2 ^ 64 ≡ m * 2 ^ (21 + leadingZeros 32 m)
+pub shifted : (m : ℕ) → 0 < m → m < 2 ^ 32
+    → (m * 2 ^ (21 + leadingZeros 32 m)) % 2 ^ 64 ≡ m * 2 ^ (21 + leadingZeros 32 m)
 shifted m h k = mod-eq-of-lt (omega (arith, moved m h k .1))
 
-pub scaled-is : (c m : ℕ) → 0 < m → m < 2 ^ 32 → (c - 21 - leadingZeros 32 m) * 2 ^ 52 + (m * 2 ^ (21 + leadingZeros 32 m)) % 2 ^ 64 ≡ scaled c m
+pub scaled-is : (c m : ℕ) → 0 < m → m < 2 ^ 32
+    → (c - 21 - leadingZeros 32 m) * 2 ^ 52 + (m * 2 ^ (21 + leadingZeros 32 m)) % 2 ^ 64 ≡ scaled c m
 unfolding scaled
 scaled-is c m h k = rw (shifted m h k)
 
@@ -54,7 +60,9 @@ unfolding scaled
 scaled-lt c m h k l = omega (arith, moved m h k .1)
 
 -- m again, from the exponent and the fraction of `scaled c m`; and that exponent
-unscale : (c m : ℕ) → 0 < m → m < 2 ^ 32 → 52 ≤ c → (unscaled c (scaled c m / 2 ^ 52) (scaled c m % 2 ^ 52) ≡ m) × (scaled c m / 2 ^ 52 ≡ suc (c - 21 - leadingZeros 32 m))
+unscale : (c m : ℕ) → 0 < m → m < 2 ^ 32 → 52 ≤ c
+    → (unscaled c (scaled c m / 2 ^ 52) (scaled c m % 2 ^ 52) ≡ m)
+    × (scaled c m / 2 ^ 52 ≡ suc (c - 21 - leadingZeros 32 m))
 unfolding scaled
 unscale c m h k l =
     let z = leadingZeros 32 m in
@@ -62,14 +70,18 @@ unscale c m h k l =
     let p = moved m h k in
     let y = lz-lt m h k in
     let v : (c - 21 - z) * 2 ^ 52 + M ≡ suc (c - 21 - z) * 2 ^ 52 + (M - 2 ^ 52) = omega (arith, p .0) in
-    let x : ((c - 21 - z) * 2 ^ 52 + M) / 2 ^ 52 ≡ suc (c - 21 - z) = rw v (digits-div (suc (c - 21 - z)) (omega (arith, p .1))) in
-    let t : 2 ^ 52 + ((c - 21 - z) * 2 ^ 52 + M) % 2 ^ 52 ≡ M = rw (v, digits-mod (suc (c - 21 - z)) {m = 2 ^ 52} {r = M - 2 ^ 52} (omega (arith, p .1))) (omega (arith, p .0)) in
+    let x : ((c - 21 - z) * 2 ^ 52 + M) / 2 ^ 52 ≡ suc (c - 21 - z) =
+    rw v (digits-div (suc (c - 21 - z)) (omega (arith, p .1))) in
+    let t : 2 ^ 52 + ((c - 21 - z) * 2 ^ 52 + M) % 2 ^ 52 ≡ M =
+    rw (v, digits-mod (suc (c - 21 - z)) {m = 2 ^ 52} {r = M - 2 ^ 52} (omega (arith, p .1)))
+    (omega (arith, p .0)) in
     let s : c + 1 - suc (c - 21 - z) ≡ 21 + z = omega arith in
     (rw (t, x, s) (shl-shr m (21 + z)), x)
 
 -- ---- magnitude and widened, by the float's exponent
 
-pub by-magnitude : (P : ℕ → Type 0) (x t : ℕ) → (x ≡ 255 → P (2047 * 2 ^ 52 + t * 2 ^ 29)) → ((x ≡ 255 → ⊥) → 0 < x → P ((x + 896) * 2 ^ 52 + t * 2 ^ 29))
+pub by-magnitude : (P : ℕ → Type 0) (x t : ℕ) → (x ≡ 255 → P (2047 * 2 ^ 52 + t * 2 ^ 29))
+    → ((x ≡ 255 → ⊥) → 0 < x → P ((x + 896) * 2 ^ 52 + t * 2 ^ 29))
     → (x ≡ 0 → t ≡ 0 → P 0) → (x ≡ 0 → (t ≡ 0 → ⊥) → P (scaled 925 t)) → P (magnitude x t)
 unfolding magnitude
 by-magnitude P x t top normal none low =
@@ -77,14 +89,16 @@ by-magnitude P x t top normal none low =
     (λ n. split 0 x (λ h. rw (n, lt-ltb 0 x h) (normal (eqb-false x 255 n) h))
     (λ h.
     let e : x ≡ 0 = omega arith in
-    by-cases (eqb t 0) (λ z. rw (n, le-ltb 0 x h, z) (none e (eqb-true t 0 z))) (λ z. rw (n, le-ltb 0 x h, z) (low e (eqb-false t 0 z)))))
+    by-cases (eqb t 0) (λ z. rw (n, le-ltb 0 x h, z) (none e (eqb-true t 0 z)))
+    (λ z. rw (n, le-ltb 0 x h, z) (low e (eqb-false t 0 z)))))
 
 module _ (u : ℕ) where
   pub widened-top : u / 2 ^ 23 % 2 ^ 8 ≡ 255 → widened u ≡ u / 2 ^ 31 * 2 ^ 63 + (2047 * 2 ^ 52 + u % 2 ^ 23 * 2 ^ 29)
   unfolding widened magnitude
   widened-top e = rw (eq-eqb (u / 2 ^ 23 % 2 ^ 8) 255 e)
 
-  pub widened-normal : (u / 2 ^ 23 % 2 ^ 8 ≡ 255 → ⊥) → 0 < u / 2 ^ 23 % 2 ^ 8 → widened u ≡ u / 2 ^ 31 * 2 ^ 63 + ((u / 2 ^ 23 % 2 ^ 8 + 896) * 2 ^ 52 + u % 2 ^ 23 * 2 ^ 29)
+  pub widened-normal : (u / 2 ^ 23 % 2 ^ 8 ≡ 255 → ⊥) → 0 < u / 2 ^ 23 % 2 ^ 8
+      → widened u ≡ u / 2 ^ 31 * 2 ^ 63 + ((u / 2 ^ 23 % 2 ^ 8 + 896) * 2 ^ 52 + u % 2 ^ 23 * 2 ^ 29)
   unfolding widened magnitude
   widened-normal n h = rw (ne-eqb (u / 2 ^ 23 % 2 ^ 8) 255 n, lt-ltb 0 (u / 2 ^ 23 % 2 ^ 8) h)
 
@@ -92,7 +106,8 @@ module _ (u : ℕ) where
   unfolding widened magnitude
   widened-zero e t = rw (e, t) (omega arith)
 
-  pub widened-low : u / 2 ^ 23 % 2 ^ 8 ≡ 0 → (u % 2 ^ 23 ≡ 0 → ⊥) → widened u ≡ u / 2 ^ 31 * 2 ^ 63 + scaled 925 (u % 2 ^ 23)
+  pub widened-low : u / 2 ^ 23 % 2 ^ 8 ≡ 0 → (u % 2 ^ 23 ≡ 0 → ⊥)
+      → widened u ≡ u / 2 ^ 31 * 2 ^ 63 + scaled 925 (u % 2 ^ 23)
   unfolding widened magnitude
   widened-low e t = rw (e, ne-eqb (u % 2 ^ 23) 0 t)
 
@@ -147,12 +162,15 @@ narrow-low-lt x t h k = unscaled-lt 23 925 x t h (omega arith)
 pub size-lt : (x t : ℕ) → t < 2 ^ 52 → wholeSize x t < 2 ^ 32
 size-lt x t h =
     split 1022 x
-    (λ l. split x 1055 (λ k. rw (size-in x t l k) (unscaled-lt 32 1074 x t h (omega arith))) (λ k. rw (size-high x t k) (omega arith)))
+    (λ l.
+    split x 1055 (λ k. rw (size-in x t l k) (unscaled-lt 32 1074 x t h (omega arith)))
+    (λ k. rw (size-high x t k) (omega arith)))
     (λ l. rw (size-low x t l) (omega arith))
 
 -- ---- a double's fields, from its sign and the 63 bits below it
 
-below : (s r v : ℕ) → r < 2 ^ 63 → v ≡ s * 2 ^ 63 + r → (v / 2 ^ 63 ≡ s) × (v / 2 ^ 52 % 2 ^ 11 ≡ r / 2 ^ 52) × (v % 2 ^ 52 ≡ r % 2 ^ 52)
+below : (s r v : ℕ) → r < 2 ^ 63 → v ≡ s * 2 ^ 63 + r
+    → (v / 2 ^ 63 ≡ s) × (v / 2 ^ 52 % 2 ^ 11 ≡ r / 2 ^ 52) × (v % 2 ^ 52 ≡ r % 2 ^ 52)
 below s r v h e = (omega arith, omega arith, omega arith)
 
 -- ---- floats
@@ -163,7 +181,8 @@ magnitude-lt x t hx ht =
     (λ e n. scaled-lt 925 t (omega arith) (omega arith) (omega arith))
 
 -- the double's exponent and fraction give those of the float
-magnitude-back : (x t : ℕ) → x < 2 ^ 8 → t < 2 ^ 23 → narrowMagnitude (magnitude x t / 2 ^ 52) (magnitude x t % 2 ^ 52) ≡ x * 2 ^ 23 + t
+magnitude-back : (x t : ℕ) → x < 2 ^ 8 → t < 2 ^ 23
+    → narrowMagnitude (magnitude x t / 2 ^ 52) (magnitude x t % 2 ^ 52) ≡ x * 2 ^ 23 + t
 magnitude-back x t hx ht =
     by-magnitude (λ (v : ℕ). narrowMagnitude (v / 2 ^ 52) (v % 2 ^ 52) ≡ x * 2 ^ 23 + t) x t
     (λ e. fields 2047 ∙ narrow-top 2047 (t * 2 ^ 29) refl ∙ omega arith)
@@ -176,14 +195,24 @@ magnitude-back x t hx ht =
     let l = lz-lt t (omega arith) (omega arith) in
     narrow-low (v / 2 ^ 52) (v % 2 ^ 52) (omega (arith, p .1)) (omega (arith, p .1)) ∙ p .0 ∙ omega arith)
   where
-    fields : (k : ℕ) → narrowMagnitude ((k * 2 ^ 52 + t * 2 ^ 29) / 2 ^ 52) ((k * 2 ^ 52 + t * 2 ^ 29) % 2 ^ 52) ≡ narrowMagnitude k (t * 2 ^ 29)
-    fields k = rw (digits-div k {m = 2 ^ 52} {r = t * 2 ^ 29} (omega arith), digits-mod k {m = 2 ^ 52} {r = t * 2 ^ 29} (omega arith))
+    fields : (k : ℕ)
+        → narrowMagnitude ((k * 2 ^ 52 + t * 2 ^ 29) / 2 ^ 52) ((k * 2 ^ 52 + t * 2 ^ 29) % 2 ^ 52)
+        ≡ narrowMagnitude k (t * 2 ^ 29)
+    fields k =
+        rw (
+          digits-div k {m = 2 ^ 52} {r = t * 2 ^ 29} (omega arith),
+          digits-mod k {m = 2 ^ 52} {r = t * 2 ^ 29} (omega arith),
+        )
 
 module _ (u : ℕ) (h : u < 2 ^ 32) where
   -- the sign, the exponent and the fraction of what u widens to
-  widened-fields : (widened u / 2 ^ 63 ≡ u / 2 ^ 31) × (widened u / 2 ^ 52 % 2 ^ 11 ≡ magnitude (u / 2 ^ 23 % 2 ^ 8) (u % 2 ^ 23) / 2 ^ 52) × (widened u % 2 ^ 52 ≡ magnitude (u / 2 ^ 23 % 2 ^ 8) (u % 2 ^ 23) % 2 ^ 52)
+  widened-fields : (widened u / 2 ^ 63 ≡ u / 2 ^ 31)
+      × (widened u / 2 ^ 52 % 2 ^ 11 ≡ magnitude (u / 2 ^ 23 % 2 ^ 8) (u % 2 ^ 23) / 2 ^ 52)
+      × (widened u % 2 ^ 52 ≡ magnitude (u / 2 ^ 23 % 2 ^ 8) (u % 2 ^ 23) % 2 ^ 52)
   unfolding widened
-  widened-fields = below (u / 2 ^ 31) (magnitude (u / 2 ^ 23 % 2 ^ 8) (u % 2 ^ 23)) (widened u) (magnitude-lt (u / 2 ^ 23 % 2 ^ 8) (u % 2 ^ 23) (omega arith) (omega arith)) refl
+  widened-fields =
+      below (u / 2 ^ 31) (magnitude (u / 2 ^ 23 % 2 ^ 8) (u % 2 ^ 23)) (widened u)
+      (magnitude-lt (u / 2 ^ 23 % 2 ^ 8) (u % 2 ^ 23) (omega arith) (omega arith)) refl
 
   pub widened-lt : widened u < 2 ^ 64
   unfolding widened
@@ -193,10 +222,18 @@ module _ (u : ℕ) (h : u < 2 ^ 32) where
   pub float-back : narrowed (widened u) ≡ u
   unfolding narrowed
   float-back =
-      rw (widened-fields .0, widened-fields .1, widened-fields .2, magnitude-back (u / 2 ^ 23 % 2 ^ 8) (u % 2 ^ 23) (omega arith) (omega arith)) (omega arith)
+      rw (
+        widened-fields .0,
+        widened-fields .1,
+        widened-fields .2,
+        magnitude-back (u / 2 ^ 23 % 2 ^ 8) (u % 2 ^ 23) (omega arith) (omega arith),
+      )
+      (omega arith)
 
   -- a NaN keeps its sign and its fraction, with the quiet bit untouched
-  pub quiet-bit : u / 2 ^ 23 % 2 ^ 8 ≡ 255 → (widened u / 2 ^ 63 ≡ u / 2 ^ 31) × (widened u % 2 ^ 52 ≡ u % 2 ^ 23 * 2 ^ 29) × (widened u / 2 ^ 52 % 2 ^ 11 ≡ 2047)
+  pub quiet-bit : u / 2 ^ 23 % 2 ^ 8 ≡ 255
+      → (widened u / 2 ^ 63 ≡ u / 2 ^ 31) × (widened u % 2 ^ 52 ≡ u % 2 ^ 23 * 2 ^ 29)
+      × (widened u / 2 ^ 52 % 2 ^ 11 ≡ 2047)
   quiet-bit e = rw (widened-top u e) (omega arith, omega arith, omega arith)
 
 -- ---- whole numbers
@@ -215,7 +252,8 @@ negative-zero (pos (suc n)) h e = omega (arith, scaled-lt 1074 (suc n) (omega ar
 negative-zero (negsuc n) h e = omega (arith, moved (suc n) (omega arith) (omega arith) .0)
 
 -- the size of a number from its double, whatever the sign
-size-back : (s m v : ℕ) → 0 < m → m < 2 ^ 32 → v ≡ s * 2 ^ 63 + scaled 1074 m → wholeSize (v / 2 ^ 52 % 2 ^ 11) (v % 2 ^ 52) ≡ m
+size-back : (s m v : ℕ) → 0 < m → m < 2 ^ 32 → v ≡ s * 2 ^ 63 + scaled 1074 m
+    → wholeSize (v / 2 ^ 52 % 2 ^ 11) (v % 2 ^ 52) ≡ m
 size-back s m v h k e =
     let r = scaled 1074 m in
     let f = below s r v (scaled-lt 1074 m h k (omega arith)) e in
@@ -229,7 +267,10 @@ unfolding wholeGuess whole
 guess-is n (pos zero) h = rw (size-low 0 0 (omega arith))
 guess-is n (pos (suc m)) h =
     let v = scaled 1074 (suc m) in
-    rw (lt-ltb v (2 ^ 63) (scaled-lt 1074 (suc m) (omega arith) (omega arith) (omega arith)), size-back 0 (suc m) v (omega arith) (omega arith) (omega arith))
+    rw (
+      lt-ltb v (2 ^ 63) (scaled-lt 1074 (suc m) (omega arith) (omega arith) (omega arith)),
+      size-back 0 (suc m) v (omega arith) (omega arith) (omega arith),
+    )
 guess-is n (negsuc m) h =
     let v = 2 ^ 63 + scaled 1074 (suc m) in
     rw (le-ltb v (2 ^ 63) (omega arith), size-back 1 (suc m) v (omega arith) (omega arith) (omega arith))
@@ -246,14 +287,17 @@ whole-back w u h k =
     (λ l.
     let x = 2 ^ 32 - suc (n - suc u) in
     let e : x + n ≡ q * n + u = omega (arith, powers 32 (32 - bits w) (bits w) (omega arith)) in
-    rw (le-ltb u (2 ^ hbits w) l) (guess-is n (negsuc (n - suc u)) (omega arith) ∙ sym (add-mod-right x n) ∙ rw e (digits-mod q k)))
+    rw (le-ltb u (2 ^ hbits w) l)
+    (guess-is n (negsuc (n - suc u)) (omega arith) ∙ sym (add-mod-right x n) ∙ rw e (digits-mod q k)))
 
 -- a number of w bits whose first bit is set is u less 2 ^ bits w, which a wider v holds
-pub lowered : (v w : Width) (u : ℕ) → bits w < bits v → 2 ^ hbits w ≤ u → u < 2 ^ bits w → SFits v (toZ v u -ℤ pos (2 ^ bits w)) × (toZ v (ofZ v (toZ v u -ℤ pos (2 ^ bits w))) ≡ toZ w u)
+pub lowered : (v w : Width) (u : ℕ) → bits w < bits v → 2 ^ hbits w ≤ u → u < 2 ^ bits w
+    → SFits v (toZ v u -ℤ pos (2 ^ bits w)) × (toZ v (ofZ v (toZ v u -ℤ pos (2 ^ bits w))) ≡ toZ w u)
 lowered v w u h l k =
     let room : 2 ^ bits w ≤ 2 ^ hbits v = pow-mono {i = bits w} {j = hbits v} (omega (arith, bits-suc v)) in
     let f : SFits v (negsuc (2 ^ bits w - suc u)) = record { sfits = omega arith } in
-    let e : toZ v u -ℤ pos (2 ^ bits w) ≡ negsuc (2 ^ bits w - suc u) = rw (toZ-pos v u (omega arith)) (less (2 ^ bits w) k) in
+    let e : toZ v u -ℤ pos (2 ^ bits w) ≡ negsuc (2 ^ bits w - suc u) =
+    rw (toZ-pos v u (omega arith)) (less (2 ^ bits w) k) in
     rw (e, le-ltb u (2 ^ hbits w) l) (f, toZ-ofZ v (negsuc (2 ^ bits w - suc u)) f)
   where
     less : (n : ℕ) → u < n → pos u -ℤ pos n ≡ negsuc (n - suc u)
@@ -265,3 +309,25 @@ byte-back u h = whole-back w8 u (omega arith) h
 
 pub pair-back : (u : ℕ) → u < 2 ^ 16 → wholeGuess (2 ^ 16) (whole (toZ w16 u)) ≡ u
 pair-back u h = whole-back w16 u (omega arith) h
+
+-- ---- the doubles of the forms shorter than nine bytes are multiples of 2 ^ 21
+scaled-multiple : (c m : ℕ) → scaled c m % 2 ^ 21 ≡ 0
+unfolding scaled
+scaled-multiple c m =
+    let z = leadingZeros 32 m in
+    let e : 2 ^ (21 + z) ≡ 2 ^ 21 * 2 ^ z = powers (21 + z) 21 z refl in
+    let f : m * (2 ^ 21 * 2 ^ z) ≡ 2 ^ 21 * (m * 2 ^ z) = mul-left-comm m (2 ^ 21) (2 ^ z) in
+    rw (e, f) (omega arith)
+
+pub whole-multiple : (z : ℤ) → whole z % 2 ^ 21 ≡ 0
+unfolding whole
+whole-multiple (pos zero) = refl
+whole-multiple (pos (suc n)) = scaled-multiple 1074 (suc n)
+whole-multiple (negsuc n) = omega (arith, scaled-multiple 1074 (suc n))
+
+pub widened-multiple : (u : ℕ) → widened u % 2 ^ 21 ≡ 0
+unfolding widened
+widened-multiple u =
+    by-magnitude (λ (n : ℕ). (u / 2 ^ 31 * 2 ^ 63 + n) % 2 ^ 21 ≡ 0) (u / 2 ^ 23 % 2 ^ 8) (u % 2 ^ 23)
+    (λ e. omega arith) (λ e l. omega arith) (λ e f. omega arith)
+    (λ e f. omega (arith, scaled-multiple 925 (u % 2 ^ 23)))

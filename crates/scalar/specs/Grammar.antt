@@ -5,7 +5,7 @@ use lib.ListN.{length}
 use Rattle.flow.specs.Flow.{Bytes}
 use Rattle.wire.specs.BigEndian.{joined}
 use Rattle.scalar.specs.declared.Sort.the-variants as sort
-use Rattle.scalar.specs.declared.{Sort.Sort, Kind.Kind, Kind.the-variants.{Utf8, Binary}}
+use Rattle.scalar.specs.declared.{Sort.Sort, Encoding.Encoding, Encoding.the-variants.{Utf8, Binary}}
 use Rattle.scalar.specs.declared.CharLead.the-variants.{Basic, Supplementary, Halved}
 use Rattle.scalar.specs.Scalars.{value, Form, formsOf, partHead, lastHeads, charLead, paired, Scalar, Num, Str}
 
@@ -26,7 +26,7 @@ pub data Continued : ℕ → ℕ → ℕ → List ℕ → Type 0 where
       → Continued (suc n) lo hi (b ∷ cs)
 
 -- a byte of a byte string; a character of a text in UTF-8, with the units that it counts
-pub data Char : Kind → ℕ → List ℕ → Type 0 where
+pub data Char : Encoding → ℕ → List ℕ → Type 0 where
   one-byte : {b : ℕ} → b < 256 → Char Binary 1 (b ∷ [])
   one-unit : {b k lo hi : ℕ} {cs : List ℕ} → charLead b ≡ Basic k lo hi → Continued k lo hi cs → Char Utf8 1 (b ∷ cs)
   -- ed, 80..9f, 80..bf: from a0 on the second byte is that of a half
@@ -45,26 +45,26 @@ abbrev pub IsLow : ℕ → ℕ → Type 0  -- ed y z is a low half: ed, b0..bf, 
 IsLow y z = Half 0xb0 0xc0 y z
 
 -- a character, with its units: the bytes that stand in the message, and those that stand in the content
-pub data Sent : Kind → ℕ → List ℕ → List ℕ → Type 0 where
-  as-it-is : {k : Kind} {u : ℕ} {w : List ℕ} → Char k u w → Sent k u w w
+pub data Sent : Encoding → ℕ → List ℕ → List ℕ → Type 0 where
+  as-it-is : {k : Encoding} {u : ℕ} {w : List ℕ} → Char k u w → Sent k u w w
   -- 2026-04: a high half and a low half, for the one character in four bytes
   as-a-pair : {d x y z : ℕ} → IsHigh d x → IsLow y z
       → Sent Utf8 2 (0xed ∷ d ∷ x ∷ 0xed ∷ y ∷ z ∷ []) (paired d x y z)
 
 -- what a chunk holds after its head, of so many units: the bytes, and the content
-pub data Body (k : Kind) : ℕ → List ℕ → List ℕ → Type 0 where
+pub data Body (k : Encoding) : ℕ → List ℕ → List ℕ → Type 0 where
   empty : Body k 0 [] []
   with-char : {u n : ℕ} {w v cs ds : List ℕ} → Sent k u w cs → Body k n v ds → Body k (u + n) (w ++ v) (cs ++ ds)
 
 -- the bytes of a text or byte string, and its content
-pub data String (k : Kind) : List ℕ → List ℕ → Type 0 where
+pub data String (k : Encoding) : List ℕ → List ℕ → Type 0 where
   last-chunk : {n : ℕ} {h w cs : List ℕ} → Number (lastHeads k) h n → Body k n w cs → String k (h ++ w) cs
   chunk-before : {n : ℕ} {h w cs v ds : List ℕ} → Number (partHead k ∷ []) h n → Body k n w cs → String k v ds
       → String k (h ++ (w ++ v)) (cs ++ ds)
 
 pub data Spelt : List ℕ → Scalar → Type 0 where
   a-number : {s : Sort} {w : List ℕ} {v : ℕ} → Number (formsOf s) w v → Spelt w (Num s v)
-  a-string : {k : Kind} {w cs : List ℕ} → String k w cs → Spelt w (Str k cs)
+  a-string : {k : Encoding} {w cs : List ℕ} → String k w cs → Spelt w (Str k cs)
 
 abbrev pub Int : List ℕ → ℕ → Type 0
 Int w v = Number (formsOf sort.Int) w v

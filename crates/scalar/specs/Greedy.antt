@@ -1,4 +1,5 @@
--- The longest chunks first are the shortest spelling. Chunks count units. A content is here the list of its bytes' units, at most two each.
+-- The longest chunks first are the shortest spelling. Chunks count units. A content is here the list of its bytes'
+-- units, at most two each.
 use mathlib.Core.Path.{_≡_, refl, sym, _∙_, ap}
 use mathlib.Core.Bool.{Bool, true, false, cond}
 use mathlib.Core.List.{List, [], _∷_}
@@ -34,11 +35,15 @@ total-drop (suc j) (w ∷ ws) = omega (arith, total-drop j ws)
 pub span-most : (cap j : ℕ) (ws : List ℕ) → j ≤ length ws → total (take j ws) ≤ cap → j ≤ span cap ws
 span-most cap zero ws l h = omega arith
 span-most cap (suc j) [] l h = absurd (omega arith)
-span-most cap (suc j) (w ∷ ws) l h = by-test (λ (n : ℕ). suc j ≤ n) (ltb cap w) (λ t. absurd (omega (arith, tests))) (λ t. omega (arith, span-most (cap - w) j ws (omega arith) (omega (arith, tests))))
+span-most cap (suc j) (w ∷ ws) l h =
+    by-test (λ (n : ℕ). suc j ≤ n) (ltb cap w) (λ t. absurd (omega (arith, tests)))
+    (λ t. omega (arith, span-most (cap - w) j ws (omega arith) (omega (arith, tests))))
 
 pub span-fits : (cap : ℕ) (ws : List ℕ) → (span cap ws ≤ length ws) × (total (take (span cap ws) ws) ≤ cap)
 span-fits cap [] = (omega arith, omega arith)
-span-fits cap (w ∷ ws) = by-test (λ (n : ℕ). (n ≤ length (w ∷ ws)) × (total (take n (w ∷ ws)) ≤ cap)) (ltb cap w) (λ t. (omega arith, omega arith))
+span-fits cap (w ∷ ws) =
+    by-test (λ (n : ℕ). (n ≤ length (w ∷ ws)) × (total (take n (w ∷ ws)) ≤ cap)) (ltb cap w)
+    (λ t. (omega arith, omega arith))
     (λ t. let p = span-fits (cap - w) ws in (omega arith, omega (arith, tests)))
 
 -- where j fit, what fits of the rest
@@ -65,7 +70,9 @@ span-room a b ws h = let p = span-fits a ws in span-most b (span a ws) ws (p .0)
 span-reach : (cap j : ℕ) (ws : List ℕ) → span cap ws ≤ j + span cap (drop j ws)
 span-reach cap zero ws = omega arith
 span-reach cap (suc j) [] = omega arith
-span-reach cap (suc j) (w ∷ ws) = by-test (λ (n : ℕ). n ≤ suc j + span cap (drop j ws)) (ltb cap w) (λ t. omega arith) (λ t. omega (arith, span-reach cap j ws, span-room (cap - w) cap ws (omega arith)))
+span-reach cap (suc j) (w ∷ ws) =
+    by-test (λ (n : ℕ). n ≤ suc j + span cap (drop j ws)) (ltb cap w) (λ t. omega arith)
+    (λ t. omega (arith, span-reach cap j ws, span-room (cap - w) cap ws (omega arith)))
 
 -- two starts, the second no earlier
 drop-later : (a b : ℕ) (ws : List ℕ) → a ≤ b → drop b ws ≡ drop (b - a) (drop a ws)
@@ -78,39 +85,55 @@ same-test : {A : Type 0} (t : Bool) {x x′ : A} (y : A) → (T t → x ≡ x′
 same-test true y h = h tt
 same-test false y h = refl
 
-module _ (cap : ℕ) (two : 2 ≤ cap) (last : ℕ → ℕ) (grows : (m n : ℕ) → m ≤ n → last m ≤ last n) (three : (n : ℕ) → n ≤ cap → last n ≤ 3) where
+module _ (cap : ℕ) (two : 2 ≤ cap) (last : ℕ → ℕ) (grows : (m n : ℕ) → m ≤ n → last m ≤ last n)
+    (three : (n : ℕ) → n ≤ cap → last n ≤ 3) where
   pub progress : (ws : List ℕ) → Chars ws → cap < total ws → 0 < span cap ws
   progress [] c h = absurd (omega arith)
   progress (w ∷ ws) c h = by-test (λ (n : ℕ). 0 < n) (ltb cap w) (λ t. absurd (omega (arith, tests))) (λ t. omega arith)
 
   -- what is left is shorter
-  pub shorter : (ws : List ℕ) → Chars ws → cap < total ws → (k : ℕ) → length ws < suc k → length (drop (span cap ws) ws) < k
+  pub shorter : (ws : List ℕ) → Chars ws → cap < total ws → (k : ℕ) → length ws < suc k
+      → length (drop (span cap ws) ws) < k
   shorter ws c h k l = rw length-drop (omega (arith, progress ws c h, span-fits cap ws .0))
 
   -- a later start costs no more
   mono : (k : ℕ) (ws : List ℕ) → Chars ws → length ws < k → (j : ℕ) → best cap last k (drop j ws) ≤ best cap last k ws
   mono zero ws c l j = absurd (omega arith)
   mono (suc k) ws c l j =
-      by-test (λ (x : ℕ). x ≤ cond (ltb cap (total ws)) (3 + best cap last k (drop (span cap ws) ws)) (last (total ws))) (ltb cap (total (drop j ws)))
+      by-test (λ (x : ℕ). x ≤ cond (ltb cap (total ws)) (3 + best cap last k (drop (span cap ws) ws)) (last (total ws)))
+      (ltb cap (total (drop j ws)))
       (λ t. by-test (λ (y : ℕ). 3 + best cap last k (drop (span cap (drop j ws)) (drop j ws)) ≤ y) (ltb cap (total ws))
-      (λ u. main (mono k (drop (span cap ws) ws) (chars-drop (span cap ws) ws c) (shorter ws c (omega (arith, tests)) k l)))
+      (λ u.
+      main
+      (mono k (drop (span cap ws) ws) (chars-drop (span cap ws) ws c) (shorter ws c (omega (arith, tests)) k l)))
       (λ u. absurd (omega (arith, tests, total-drop j ws))))
       (λ t. by-test (λ (y : ℕ). last (total (drop j ws)) ≤ y) (ltb cap (total ws))
-      (λ u. omega (arith, three (total (drop j ws)) (omega (arith, tests)))) (λ u. grows (total (drop j ws)) (total ws) (total-drop j ws)))
+      (λ u. omega (arith, three (total (drop j ws)) (omega (arith, tests))))
+      (λ u. grows (total (drop j ws)) (total ws) (total-drop j ws)))
     where
-      main : ((i : ℕ) → best cap last k (drop i (drop (span cap ws) ws)) ≤ best cap last k (drop (span cap ws) ws)) → 3 + best cap last k (drop (span cap (drop j ws)) (drop j ws)) ≤ 3 + best cap last k (drop (span cap ws) ws)
-      main ih = rw (drop-drop (span cap (drop j ws)) j ws ∙ drop-later (span cap ws) (j + span cap (drop j ws)) ws (span-reach cap j ws)) (omega (arith, ih (j + span cap (drop j ws) - span cap ws)))
+      main : ((i : ℕ) → best cap last k (drop i (drop (span cap ws) ws)) ≤ best cap last k (drop (span cap ws) ws))
+          → 3 + best cap last k (drop (span cap (drop j ws)) (drop j ws)) ≤ 3 + best cap last k (drop (span cap ws) ws)
+      main ih =
+          rw
+          (drop-drop (span cap (drop j ws)) j ws
+          ∙ drop-later (span cap ws) (j + span cap (drop j ws)) ws (span-reach cap j ws))
+          (omega (arith, ih (j + span cap (drop j ws) - span cap ws)))
 
   -- more fuel is of no use
   enough : (k : ℕ) (ws : List ℕ) → Chars ws → length ws < k → best cap last (suc k) ws ≡ best cap last k ws
   enough zero ws c l = absurd (omega arith)
   enough (suc k) ws c l = same-test (ltb cap (total ws)) (last (total ws))
-      (λ t. ap (λ (n : ℕ). 3 + n) (enough k (drop (span cap ws) ws) (chars-drop (span cap ws) ws c) (shorter ws c (omega (arith, tests)) k l)))
+      (λ t.
+      ap (λ (n : ℕ). 3 + n)
+      (enough k (drop (span cap ws) ws) (chars-drop (span cap ws) ws c) (shorter ws c (omega (arith, tests)) k l)))
 
   -- one chunk more, of any j characters that fit, never beats the longest
-  pub chunk-more : (k : ℕ) (ws : List ℕ) → Chars ws → length ws < k → (j : ℕ) → j ≤ length ws → total (take j ws) ≤ cap → best cap last k ws ≤ 3 + best cap last k (drop j ws)
+  pub chunk-more : (k : ℕ) (ws : List ℕ) → Chars ws → length ws < k → (j : ℕ) → j ≤ length ws → total (take j ws) ≤ cap
+      → best cap last k ws ≤ 3 + best cap last k (drop j ws)
   chunk-more zero ws c l j i h = absurd (omega arith)
-  chunk-more (suc k) ws c l j i h = by-test (λ (x : ℕ). x ≤ 3 + best cap last (suc k) (drop j ws)) (ltb cap (total ws)) (λ t. big (omega (arith, tests))) (λ t. omega (arith, three (total ws) (omega (arith, tests))))
+  chunk-more (suc k) ws c l j i h =
+      by-test (λ (x : ℕ). x ≤ 3 + best cap last (suc k) (drop j ws)) (ltb cap (total ws))
+      (λ t. big (omega (arith, tests))) (λ t. omega (arith, three (total ws) (omega (arith, tests))))
     where
       big : cap < total ws → 3 + best cap last k (drop (span cap ws) ws) ≤ 3 + best cap last (suc k) (drop j ws)
       big u =
@@ -129,8 +152,17 @@ abbrev pub Cut : ℕ → List ℕ → List ℕ → Type 0
 Cut cap [] ws = total ws ≤ cap
 Cut cap (j ∷ js) ws = (j ≤ length ws) × (total (take j ws) ≤ cap) × Cut cap js (drop j ws)
 
-module _ (cap : ℕ) (two : 2 ≤ cap) (last : ℕ → ℕ) (grows : (m n : ℕ) → m ≤ n → last m ≤ last n) (three : (n : ℕ) → n ≤ cap → last n ≤ 3) where
-  pub greedy : (js ws : List ℕ) → Chars ws → Cut cap js ws → (k : ℕ) → length ws < k → best cap last k ws ≤ cost last js ws
+module _ (cap : ℕ) (two : 2 ≤ cap) (last : ℕ → ℕ) (grows : (m n : ℕ) → m ≤ n → last m ≤ last n)
+    (three : (n : ℕ) → n ≤ cap → last n ≤ 3) where
+  pub greedy : (js ws : List ℕ) → Chars ws → Cut cap js ws → (k : ℕ) → length ws < k
+      → best cap last k ws ≤ cost last js ws
   greedy [] ws c x zero l = absurd (omega arith)
-  greedy [] ws c x (suc k) l = by-test (λ (n : ℕ). n ≤ last (total ws)) (ltb cap (total ws)) (λ t. absurd (omega (arith, tests))) (λ t. omega arith)
-  greedy (j ∷ js) ws c x k l = omega (arith, chunk-more cap two last grows three k ws c l j (x .0) (x .1), greedy js (drop j ws) (chars-drop j ws c) (x .2) k (rw length-drop (omega arith)))
+  greedy [] ws c x (suc k) l =
+      by-test (λ (n : ℕ). n ≤ last (total ws)) (ltb cap (total ws)) (λ t. absurd (omega (arith, tests)))
+      (λ t. omega arith)
+  greedy (j ∷ js) ws c x k l =
+      omega (
+        arith,
+        chunk-more cap two last grows three k ws c l j (x .0) (x .1),
+        greedy js (drop j ws) (chars-drop j ws c) (x .2) k (rw length-drop (omega arith)),
+      )

@@ -1,4 +1,5 @@
--- The other way: for a value, a number that a form of a rule might hold. A candidate: it is right where it stands for the value again.
+-- The other way: for a value, a number that a form of a rule might hold. A candidate: it is right where it stands for
+-- the value again.
 use mathlib.Core.Bool.{cond, _&&_}
 use Prim.Native.Nat.{ℕ, _+_, _-_, _*_, _/_, _%_, _^_}
 use lib.Dec.{ltb, eqb}
@@ -7,7 +8,8 @@ use lib.Signed.{quotZ}
 use mir.Syntax.{w64}
 use mir.Val.{ofZ, toZ}
 use Rattle.scalar.specs.declared.Rule.{Rule}
-use Rattle.scalar.specs.declared.Rule.the-variants.{Exactly, Plain, Offset, Signed, Minutes, WholeByte, WholePair, Float}
+use Rattle.scalar.specs.declared.Rule.the-variants.{Exactly, Plain, Offset, Signed, Minutes}
+use Rattle.scalar.specs.declared.Rule.the-variants.{WholeByte, WholePair, Float}
 
 -- the m of `scaled c m`, from the double's exponent x and fraction t
 abbrev pub unscaled : ℕ → ℕ → ℕ → ℕ

@@ -20,15 +20,18 @@ use Rattle.scalar.specs.Answers.{numberAt}
 
 -- ---- the bytes after the first: all there, or the message ends
 module _ {C I : Type 0} where
-  pub bytes-there : (k u : ℕ) (c : C) (at : ℕ) (s : List ℕ) → k ≤ length s → bytesOf {I = I} k u c at s ≡ Done k (joined u (take k s)) [] c
+  pub bytes-there : (k u : ℕ) (c : C) (at : ℕ) (s : List ℕ) → k ≤ length s
+      → bytesOf {I = I} k u c at s ≡ Done k (joined u (take k s)) [] c
   bytes-there zero u c at s l = refl
   bytes-there (suc k) u c at [] l = absurd (omega arith)
   bytes-there (suc k) u c at (b ∷ s) l = ap stepped (bytes-there k (256 * u + b) c (at + 1) s (omega arith))
 
-  pub bytes-cut : (k u : ℕ) (c : C) (at : ℕ) (s : List ℕ) → length s < k → bytesOf {I = I} k u c at s ≡ Fault 2 (at + length s)
+  pub bytes-cut : (k u : ℕ) (c : C) (at : ℕ) (s : List ℕ) → length s < k
+      → bytesOf {I = I} k u c at s ≡ Fault 2 (at + length s)
   bytes-cut zero u c at s l = absurd (omega arith)
   bytes-cut (suc k) u c at [] l = ap (λ (o : ℕ). Fault 2 o) (sym (add-zero at))
-  bytes-cut (suc k) u c at (b ∷ s) l = ap stepped (bytes-cut k (256 * u + b) c (at + 1) s (omega arith)) ∙ ap (λ (o : ℕ). Fault 2 o) (omega arith)
+  bytes-cut (suc k) u c at (b ∷ s) l =
+      ap stepped (bytes-cut k (256 * u + b) c (at + 1) s (omega arith)) ∙ ap (λ (o : ℕ). Fault 2 o) (omega arith)
 
 -- ---- a value of any forms, by the first byte
 module _ (ws : List Form) (m : List ℕ) (p : ℕ) where
@@ -53,7 +56,10 @@ module _ (ws : List Form) (m : List ℕ) (p : ℕ) where
           (ap (λ (o : ℕ). Fault 2 o) (omega (arith, length-drop (suc p) m)))
 
       there : p + k < length m → at-place ≡ Done (suc k) (value r (joined u (take k (drop (suc p) m)))) [] tt
-      there h = first ∙ rw (e, bytes-there {I = One} k u (tt {0}) (p + 1) (drop (suc p) m) (omega (arith, length-drop (suc p) m))) refl
+      there h =
+          first
+          ∙ rw
+          (e, bytes-there {I = One} k u (tt {0}) (p + 1) (drop (suc p) m) (omega (arith, length-drop (suc p) m))) refl
 
 -- ---- the same of a kind of value
 module _ (s : Sort) (m : List ℕ) (p : ℕ) where
@@ -71,7 +77,8 @@ module _ (s : Sort) (m : List ℕ) (p : ℕ) where
       unfolding numberAt
       number-cut h = cut (formsOf s) m p l k u r e h
 
-      pub number-there : p + k < length m → numberAt s m p ≡ Done (suc k) (value r (joined u (take k (drop (suc p) m)))) [] tt
+      pub number-there : p + k < length m
+          → numberAt s m p ≡ Done (suc k) (value r (joined u (take k (drop (suc p) m)))) [] tt
       unfolding numberAt
       number-there h = there (formsOf s) m p l k u r e h
 

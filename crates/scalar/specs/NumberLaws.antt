@@ -7,7 +7,8 @@ use Prim.Native.Nat.{ℕ, zero, suc, _+_, _*_, _-_, _≤_, _<_}
 use native.Mathlib.Omega.{arith}
 use lib.Dec.{T, ltb, leb, leb→le, eqb, eqb→eq, eqb-refl, ltb→lt}
 use lib.ListN.{length}
-use Rattle.flow.specs.Tests.{by-test, pass, and-left, and-right, and-both, pick-true, pick-false, pick-either, within-yes, within-below, within-above, within-is, First}
+use Rattle.flow.specs.Tests.{by-test, pass, and-left, and-right, and-both, pick-true, pick-false, pick-either}
+use Rattle.flow.specs.Tests.{within-yes, within-below, within-above, within-is, First}
 use Rattle.flow.specs.Flow.{pick, within, Bytes, Read, fail, mapped}
 use Rattle.flow.specs.Laws.{Goal, Parsed, gives, takes, maps, Makes, byte-makes, map-makes, Quiet, quiet}
 use Rattle.wire.specs.BigEndian.{joined, be, high, wider}
@@ -30,7 +31,8 @@ abbrev pub size : Form → ℕ
 size w = wider (w .extra) (w .codes)
 
 -- ---- the first byte
-pub form-here : (w : Form) (ws : List Form) (b : ℕ) → inside w b ≡ true → formAt (w ∷ ws) b ≡ Starts (w .extra) (b - w .head) (w .rule)
+pub form-here : (w : Form) (ws : List Form) (b : ℕ) → inside w b ≡ true
+    → formAt (w ∷ ws) b ≡ Starts (w .extra) (b - w .head) (w .rule)
 unfolding formAt
 form-here w ws b h = pick-true _ _ h
 
@@ -56,31 +58,45 @@ proper (w ∷ ws) = clear w ws && (leb (w .head + w .codes) 256 && proper ws)
 apart-by : (w x : Form) (q : ℕ) → T (apart w x) → q < x .codes → inside w (x .head + q) ≡ false
 apart-by w x q h l = go (leb (w .head + w .codes) (x .head)) refl h
   where
-    go : (t : Bool) → leb (w .head + w .codes) (x .head) ≡ t → T (cond t true (leb (x .head + x .codes) (w .head))) → inside w (x .head + q) ≡ false
-    go true e h = within-above (w .head) (w .head + w .codes) (x .head + q) (omega (arith, leb→le (w .head + w .codes) (x .head) (rw e tt)))
-    go false e h = within-below (w .head) (w .head + w .codes) (x .head + q) (omega (arith, leb→le (x .head + x .codes) (w .head) h))
+    go : (t : Bool) → leb (w .head + w .codes) (x .head) ≡ t → T (cond t true (leb (x .head + x .codes) (w .head)))
+        → inside w (x .head + q) ≡ false
+    go true e h =
+        within-above (w .head) (w .head + w .codes) (x .head + q)
+        (omega (arith, leb→le (w .head + w .codes) (x .head) (rw e tt)))
+    go false e h =
+        within-below (w .head) (w .head + w .codes) (x .head + q)
+        (omega (arith, leb→le (x .head + x .codes) (w .head) h))
 
-pub number-apart : (w : Form) {ws : List Form} {t : List ℕ} {v : ℕ} → Number ws t v → T (clear w ws) → First (λ b. inside w b ≡ false) t
+pub number-apart : (w : Form) {ws : List Form} {t : List ℕ} {v : ℕ} → Number ws t v → T (clear w ws)
+    → First (λ b. inside w b ≡ false) t
 number-apart w (here {w = x} {ws = ws} (held q t l e i)) h = apart-by w x q (and-left (apart w x) (clear w ws) h) l
 number-apart w (later {w = x} {ws = ws} n) h = number-apart w n (and-right (apart w x) (clear w ws) h)
 
 -- ---- reading: what is read is one of the forms
 module _ {C I : Type 0} where
-  bytes-read : (k u : ℕ) (H : Goal C I ℕ) (c : C) (at : ℕ) (s : List ℕ) → Bytes s → ((t : List ℕ) → length t ≡ k → Bytes t → H t (joined u t) [] c) → Parsed H s (bytesOf k u c at s)
+  bytes-read : (k u : ℕ) (H : Goal C I ℕ) (c : C) (at : ℕ) (s : List ℕ) → Bytes s
+      → ((t : List ℕ) → length t ≡ k → Bytes t → H t (joined u t) [] c) → Parsed H s (bytesOf k u c at s)
   bytes-read zero u H c at s l h = gives H u c at s (h [] refl tt)
   bytes-read (suc k) u H c at s l h =
-      takes H (λ p b. bytesOf k (256 * u + b)) c at s l (λ b t m n. bytes-read k (256 * u + b) (λ w a is c′. H (b ∷ w) a is c′) c (at + 1) t n (λ r e i. h (b ∷ r) (ap suc e) (m, i)))
+      takes H (λ p b. bytesOf k (256 * u + b)) c at s l
+      (λ b t m n.
+      bytes-read k (256 * u + b) (λ w a is c′. H (b ∷ w) a is c′) c (at + 1) t n
+      (λ r e i. h (b ∷ r) (ap suc e) (m, i)))
 
-  pub number-reads : (ws : List Form) (H : ℕ → Goal C I ℕ) (p b : ℕ) (c : C) (at : ℕ) (s : List ℕ) → Bytes s → ((t : List ℕ) (v : ℕ) → Number ws (b ∷ t) v → H b t v [] c)
+  pub number-reads : (ws : List Form) (H : ℕ → Goal C I ℕ) (p b : ℕ) (c : C) (at : ℕ) (s : List ℕ) → Bytes s
+      → ((t : List ℕ) (v : ℕ) → Number ws (b ∷ t) v → H b t v [] c)
       → Parsed (H b) s (numberFrom ws p b c at s)
   unfolding formAt
   number-reads [] H p b c at s l h = tt
-  number-reads (w ∷ ws) H p b c at s l h = pick-either (λ (x : Begun). Parsed (H b) s (numberBy x p c at s)) (inside w b)
+  number-reads (w ∷ ws) H p b c at s l h =
+      pick-either (λ (x : Begun). Parsed (H b) s (numberBy x p c at s)) (inside w b)
       (λ x. let r = within-is (w .head) (w .head + w .codes) b (rw x tt) in
       maps (H b) (value (w .rule)) s (bytesOf (w .extra) (b - w .head) c at s)
       (bytes-read (w .extra) (b - w .head) (λ u a is c′. H b u (value (w .rule) a) is c′) c at s l
       (λ t e i. h t (value (w .rule) (joined (b - w .head) t))
-      (here (subst (λ (z : ℕ). Held w (z ∷ t) (value (w .rule) (joined (b - w .head) t))) (omega (arith, r .0)) (held (b - w .head) t (omega (arith, r .0, r .1)) e i))))))
+      (here
+      (subst (λ (z : ℕ). Held w (z ∷ t) (value (w .rule) (joined (b - w .head) t))) (omega (arith, r .0))
+      (held (b - w .head) t (omega (arith, r .0, r .1)) e i))))))
       (λ x. number-reads ws H p b c at s l (λ t v n. h t v (later n)))
 
 -- ---- and the forms are read
@@ -93,29 +109,49 @@ module _ {C : Type 0} (I : Type 0) where
   bytes-make zero u [] e c = record { makes = λ at tail. ([], refl, refl) }
   bytes-make zero u (b ∷ t) e c = absurd (omega arith)
   bytes-make (suc k) u [] e c = absurd (omega arith)
-  bytes-make (suc k) u (b ∷ t) e c = byte-makes {I = I} (λ p b. bytesOf k (256 * u + b)) b (λ p. bytes-make k (256 * u + b) t (omega arith) c)
+  bytes-make (suc k) u (b ∷ t) e c =
+      byte-makes {I = I} (λ p b. bytesOf k (256 * u + b)) b (λ p. bytes-make k (256 * u + b) t (omega arith) c)
 
-  skip-form : (w : Form) (ws : List Form) (c : C) (t : List ℕ) (v : ℕ) → First (λ b. inside w b ≡ false) t → NumberLed I ws t v c → NumberLed I (w ∷ ws) t v c
+  skip-form : (w : Form) (ws : List Form) (c : C) (t : List ℕ) (v : ℕ) → First (λ b. inside w b ≡ false) t
+      → NumberLed I ws t v c → NumberLed I (w ∷ ws) t v c
   skip-form w ws c [] v x h = h
-  skip-form w ws c (b ∷ t) v x h = λ p. subst (λ (z : Begun). Makes {I = I} (numberBy z p) c t v [] c) (sym (form-skip w ws b x)) (h p)
+  skip-form w ws c (b ∷ t) v x h =
+      λ p. subst (λ (z : Begun). Makes {I = I} (numberBy z p) c t v [] c) (sym (form-skip w ws b x)) (h p)
 
-  pub number-makes : {ws : List Form} {t : List ℕ} {v : ℕ} → Number ws t v → T (proper ws) → (c : C) → NumberLed I ws t v c
+  pub number-makes : {ws : List Form} {t : List ℕ} {v : ℕ} → Number ws t v → T (proper ws) → (c : C)
+      → NumberLed I ws t v c
   number-makes (here {w = w} {ws = ws} (held q t l e i)) x c = λ p.
-      let d : Starts (w .extra) (w .head + q - w .head) (w .rule) ≡ Starts (w .extra) q (w .rule) = ap (λ (z : ℕ). Starts (w .extra) z (w .rule)) (omega arith) in
-      subst (λ (z : Begun). Makes {I = I} (numberBy z p) c t (value (w .rule) (joined q t)) [] c) (sym (form-here w ws (w .head + q) (inside-self w q l) ∙ d))
+      let d : Starts (w .extra) (w .head + q - w .head) (w .rule) ≡ Starts (w .extra) q (w .rule) =
+      ap (λ (z : ℕ). Starts (w .extra) z (w .rule)) (omega arith) in
+      subst (λ (z : Begun). Makes {I = I} (numberBy z p) c t (value (w .rule) (joined q t)) [] c)
+      (sym (form-here w ws (w .head + q) (inside-self w q l) ∙ d))
       (map-makes (value (w .rule)) (bytesOf (w .extra) q) (bytes-make (w .extra) q t e c))
   number-makes (later {w = w} {ws = ws} {t = t} {v = v} n) x c =
       skip-form w ws c t v (number-apart w n (and-left (clear w ws) (leb (w .head + w .codes) 256 && proper ws) x))
-      (number-makes n (and-right (leb (w .head + w .codes) 256) (proper ws) (and-right (clear w ws) (leb (w .head + w .codes) 256 && proper ws) x)) c)
+      (number-makes n
+      (and-right (leb (w .head + w .codes) 256) (proper ws)
+      (and-right (clear w ws) (leb (w .head + w .codes) 256 && proper ws) x)) c)
 
-  pub number-scans : (ws : List Form) (p b : ℕ) (c : C) (at : ℕ) (s : List ℕ) → Bytes s → Parsed {I = I} (Quiet (λ t v. Number ws (b ∷ t) v) c) s (numberFrom ws p b c at s)
-  number-scans ws p b c at s l = number-reads ws (λ b. Quiet (λ t v. Number ws (b ∷ t) v) c) p b c at s l (λ t v n. quiet n)
+  pub number-scans : (ws : List Form) (p b : ℕ) (c : C) (at : ℕ) (s : List ℕ) → Bytes s
+      → Parsed {I = I} (Quiet (λ t v. Number ws (b ∷ t) v) c) s (numberFrom ws p b c at s)
+  number-scans ws p b c at s l =
+      number-reads ws (λ b. Quiet (λ t v. Number ws (b ∷ t) v) c) p b c at s l (λ t v n. quiet n)
 
 -- ---- a form's bytes
 pub number-bytes : {ws : List Form} {t : List ℕ} {v : ℕ} → Number ws t v → T (proper ws) → Bytes t
-number-bytes (here {w = w} {ws = ws} (held q t l e i)) x =
-    (omega (arith, leb→le (w .head + w .codes) 256 (and-left (leb (w .head + w .codes) 256) (proper ws) (and-right (clear w ws) (leb (w .head + w .codes) 256 && proper ws) x))), i)
-number-bytes (later {w = w} {ws = ws} n) x = number-bytes n (and-right (leb (w .head + w .codes) 256) (proper ws) (and-right (clear w ws) (leb (w .head + w .codes) 256 && proper ws) x))
+number-bytes (here {w = w} {ws = ws} (held q t l e i)) x = (
+  omega (
+    arith,
+    leb→le (w .head + w .codes) 256
+        (and-left (leb (w .head + w .codes) 256) (proper ws)
+        (and-right (clear w ws) (leb (w .head + w .codes) 256 && proper ws) x)),
+  ),
+  i,
+)
+number-bytes (later {w = w} {ws = ws} n) x =
+    number-bytes n
+    (and-right (leb (w .head + w .codes) 256) (proper ws)
+    (and-right (clear w ws) (leb (w .head + w .codes) 256 && proper ws) x))
 
 pub number-some : {ws : List Form} {t : List ℕ} {v : ℕ} → Number ws t v → 0 < length t
 number-some (here (held q t l e i)) = omega arith
@@ -123,7 +159,9 @@ number-some (later n) = number-some n
 
 -- a form holds each number below its size
 pub held-by : (w : Form) (u : ℕ) → high (w .extra) u < w .codes → Held w (spelling w u) (value (w .rule) u)
-held-by w u l = subst (λ (z : ℕ). Held w (spelling w u) (value (w .rule) z)) (joined-be (w .extra) u) (held (high (w .extra) u) (be (w .extra) u) l (be-length (w .extra) u) (be-bytes (w .extra) u))
+held-by w u l =
+    subst (λ (z : ℕ). Held w (spelling w u) (value (w .rule) z)) (joined-be (w .extra) u)
+    (held (high (w .extra) u) (be (w .extra) u) l (be-length (w .extra) u) (be-bytes (w .extra) u))
 
 pub spelling-length : (w : Form) (u : ℕ) → length (spelling w u) ≡ suc (w .extra)
 spelling-length w u = ap suc (be-length (w .extra) u)
@@ -143,8 +181,13 @@ shortest-is [] v = tt
 shortest-is (w ∷ ws) v =
     let g = guess (w .rule) v in
     by-test (IsNumber (w ∷ ws) v) (fits w v)
-    (λ x. here (subst (λ (z : ℕ). Held w (spelling w g) z) (eqb→eq (value (w .rule) g) v (and-right (ltb (high (w .extra) g) (w .codes)) (eqb (value (w .rule) g) v) x))
-    (held-by w g (ltb→lt (high (w .extra) g) (w .codes) (and-left (ltb (high (w .extra) g) (w .codes)) (eqb (value (w .rule) g) v) x)))))
+    (λ x.
+    here
+    (subst (λ (z : ℕ). Held w (spelling w g) z)
+    (eqb→eq (value (w .rule) g) v (and-right (ltb (high (w .extra) g) (w .codes)) (eqb (value (w .rule) g) v) x))
+    (held-by w g
+    (ltb→lt (high (w .extra) g) (w .codes)
+    (and-left (ltb (high (w .extra) g) (w .codes)) (eqb (value (w .rule) g) v) x)))))
     (λ x. further w ws v (shortest ws v) (shortest-is ws v))
 
 -- ---- and no form is shorter: a value that a form holds is found again, and a later form is no shorter
@@ -172,11 +215,18 @@ fits-held w u s l =
 pub number-short : (k : ℕ) {ws : List Form} {t : List ℕ} {v : ℕ} → Number ws t v → Sanes k ws → Shorter ws v (length t)
 unfolding shortest
 number-short k (here {w = w} {ws = ws} (held q t l e i)) s =
-    let v = value (w .rule) (joined q t) in
-    (spelling w (guess (w .rule) v), pass (fits w v) _ _ (fits-held w (joined q t) (s .1) (joined-below t (w .extra) q (w .codes) e i l)) refl, omega (arith, be-length (w .extra) (guess (w .rule) v)))
+    let v = value (w .rule) (joined q t) in (
+      spelling w (guess (w .rule) v),
+      pass (fits w v) _ _ (fits-held w (joined q t) (s .1) (joined-below t (w .extra) q (w .codes) e i l)) refl,
+      omega (arith, be-length (w .extra) (guess (w .rule) v)),
+    )
 number-short k (later {w = w} {ws = ws} {t = t} {v = v} n) s =
     by-test (λ (o : Option (List ℕ)). (b : List ℕ) × (o ≡ some b) × (length b ≤ length t)) (fits w v)
-    (λ x. (spelling w (guess (w .rule) v), refl, omega (arith, be-length (w .extra) (guess (w .rule) v), long-enough (w .extra) n (s .2))))
+    (λ x. (
+      spelling w (guess (w .rule) v),
+      refl,
+      omega (arith, be-length (w .extra) (guess (w .rule) v), long-enough (w .extra) n (s .2)),
+    ))
     (λ x. number-short (w .extra) n (s .2))
 
 -- ---- a fact of every form is a fact of every number
@@ -184,7 +234,9 @@ abbrev pub EachForm : (ℕ → ℕ → Type 0) → List Form → Type 0
 EachForm P [] = Unit {0}
 EachForm P (w ∷ ws) = ((u : ℕ) → u < size w → P (suc (w .extra)) (value (w .rule) u)) × EachForm P ws
 
-pub number-fact : (P : ℕ → ℕ → Type 0) {ws : List Form} {t : List ℕ} {v : ℕ} → Number ws t v → EachForm P ws → P (length t) v
+pub number-fact : (P : ℕ → ℕ → Type 0) {ws : List Form} {t : List ℕ} {v : ℕ} → Number ws t v → EachForm P ws
+    → P (length t) v
 number-fact P (here {w = w} (held q t l e i)) h =
-    subst (λ (z : ℕ). P (suc z) (value (w .rule) (joined q t))) (sym e) (h .0 (joined q t) (joined-below t (w .extra) q (w .codes) e i l))
+    subst (λ (z : ℕ). P (suc z) (value (w .rule) (joined q t))) (sym e)
+    (h .0 (joined q t) (joined-below t (w .extra) q (w .codes) e i l))
 number-fact P (later n) h = number-fact P n (h .1)

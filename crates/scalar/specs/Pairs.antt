@@ -9,7 +9,7 @@ use Rattle.flow.specs.Tests.{split}
 use Rattle.flow.specs.Flow.{pick}
 use Rattle.wire.specs.BigEndian.{be}
 use Rattle.wire.specs.Laws.{be-four}
-use Rattle.scalar.specs.declared.Kind.the-variants.{Utf8}
+use Rattle.scalar.specs.declared.Encoding.the-variants.{Utf8}
 use Rattle.scalar.specs.declared.CharLead.the-variants.{Supplementary}
 use Rattle.scalar.specs.Scalars.{charLead, paired}
 use Rattle.scalar.specs.Grammar.{no-more, follows, Char, two-units, Half, IsHigh, IsLow}

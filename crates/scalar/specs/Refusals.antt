@@ -1,4 +1,5 @@
--- The refusals of single values, texts and byte strings: 2, 3 and 4. Their places are at most `end`, where the message ends.
+-- The refusals of single values, texts and byte strings: 2, 3 and 4. Their places are at most `end`, where the message
+-- ends.
 use mathlib.Core.Bool.{cond}
 use mathlib.Core.List.{List, [], _∷_, _++_}
 use mathlib.Core.Option.{Option, none, some}
@@ -12,8 +13,8 @@ use Rattle.scalar.specs.declared.Sort.{Sort}
 use Rattle.scalar.specs.declared.Sort.the-variants as sort
 use Rattle.scalar.specs.declared.Begun.{Begun}
 use Rattle.scalar.specs.declared.Begun.the-variants.{Starts, NoForm}
-use Rattle.scalar.specs.declared.Kind.{Kind}
-use Rattle.scalar.specs.declared.Kind.the-variants.{Utf8, Binary}
+use Rattle.scalar.specs.declared.Encoding.{Encoding}
+use Rattle.scalar.specs.declared.Encoding.the-variants.{Utf8, Binary}
 use Rattle.scalar.specs.declared.CharLead.{CharLead}
 use Rattle.scalar.specs.declared.CharLead.the-variants.{Basic, Supplementary, Halved, NoChar}
 use Rattle.scalar.specs.Scalars.{Form, formsOf, formAt, inside, value, bytesOf, numberFrom, partHead, lastHeads}
@@ -26,7 +27,8 @@ module _ (C I : Type 0) (P : ℕ → Type 0) (end : ℕ) (two : P 2) (three : P 
   -- ---- numbers
   bytes-tell : (k u : ℕ) → Tells {C = C} {I = I} P end (bytesOf k u)
   bytes-tell zero u c at s l = omega arith
-  bytes-tell (suc k) u c at s l = byte-tells P end two (λ p b. bytesOf k (256 * u + b)) (λ p b h. bytes-tell k (256 * u + b)) c at s l
+  bytes-tell (suc k) u c at s l =
+      byte-tells P end two (λ p b. bytesOf k (256 * u + b)) (λ p b h. bytes-tell k (256 * u + b)) c at s l
 
   by-tells : (x : Begun) (p : ℕ) → p ≤ end → Tells {C = C} {I = I} P end (numberBy x p)
   by-tells NoForm p h = λ c at s l. (three, h)
@@ -84,44 +86,65 @@ module _ (C I : Type 0) (P : ℕ → Type 0) (end : ℕ) (two : P 2) (three : P 
   characters-tell : (n : ℕ) → Tells {C = C} {I = I} P end (characters n)
   characters-tell zero c at s l = omega arith
   characters-tell (suc zero) c at s l =
-      byte-tells P end two (λ p b. character (charLead b) (characters zero) none p b) (λ p b. character-tells (charLead b) (characters zero) none (characters-tell zero) tt p b) c at s l
+      byte-tells P end two (λ p b. character (charLead b) (characters zero) none p b)
+      (λ p b. character-tells (charLead b) (characters zero) none (characters-tell zero) tt p b) c at s l
   characters-tell (suc (suc n)) c at s l =
       byte-tells P end two (λ p b. character (charLead b) (characters (suc n)) (some (characters n)) p b)
-      (λ p b. character-tells (charLead b) (characters (suc n)) (some (characters n)) (characters-tell (suc n)) (characters-tell n) p b) c at s l
+      (λ p b.
+      character-tells (charLead b) (characters (suc n)) (some (characters n)) (characters-tell (suc n))
+      (characters-tell n) p b) c at s l
 
   octets-tell : (n : ℕ) → Tells {C = C} {I = I} P end (octets n)
   octets-tell zero c at s l = omega arith
-  octets-tell (suc n) c at s l = byte-tells P end two (λ p b. mapped (λ cs. b ∷ cs) (octets n)) (λ p b h. mapped-tells P end (λ cs. b ∷ cs) (octets n) (octets-tell n)) c at s l
+  octets-tell (suc n) c at s l =
+      byte-tells P end two (λ p b. mapped (λ cs. b ∷ cs) (octets n))
+      (λ p b h. mapped-tells P end (λ cs. b ∷ cs) (octets n) (octets-tell n)) c at s l
 
-  pub body-tells : (k : Kind) (n : ℕ) → Tells {C = C} {I = I} P end (body k n)
+  pub body-tells : (k : Encoding) (n : ℕ) → Tells {C = C} {I = I} P end (body k n)
   body-tells Binary n = octets-tell n
   body-tells Utf8 n = characters-tell n
 
-  chunk-tells : (k : Kind) (next : Read C I (List ℕ)) → Tells P end next → TellsFrom P end (chunk k next)
+  chunk-tells : (k : Encoding) (next : Read C I (List ℕ)) → Tells P end next → TellsFrom P end (chunk k next)
   chunk-tells k next h p b m =
-      cond-tells P end (inside (partHead k) b) (bind (numberFrom (partHead k ∷ []) p b) (λ n. bind (body k n) (λ cs. mapped (λ ds. cs ++ ds) next))) (bind (numberFrom (lastHeads k) p b) (body k))
-      (bind-tells P end (numberFrom (partHead k ∷ []) p b) (λ n. bind (body k n) (λ cs. mapped (λ ds. cs ++ ds) next)) (number-tells (partHead k ∷ []) p b m)
-      (λ n. bind-tells P end (body k n) (λ cs. mapped (λ ds. cs ++ ds) next) (body-tells k n) (λ cs. mapped-tells P end (λ ds. cs ++ ds) next h)))
+      cond-tells P end (inside (partHead k) b)
+      (bind (numberFrom (partHead k ∷ []) p b) (λ n. bind (body k n) (λ cs. mapped (λ ds. cs ++ ds) next)))
+      (bind (numberFrom (lastHeads k) p b) (body k))
+      (bind-tells P end (numberFrom (partHead k ∷ []) p b) (λ n. bind (body k n) (λ cs. mapped (λ ds. cs ++ ds) next))
+      (number-tells (partHead k ∷ []) p b m)
+      (λ n.
+      bind-tells P end (body k n) (λ cs. mapped (λ ds. cs ++ ds) next) (body-tells k n)
+      (λ cs. mapped-tells P end (λ ds. cs ++ ds) next h)))
       (bind-tells P end (numberFrom (lastHeads k) p b) (body k) (number-tells (lastHeads k) p b m) (body-tells k))
 
-  chunks-tell : (k : Kind) (j : ℕ) → Tells {C = C} {I = I} P end (chunks k j)
+  chunks-tell : (k : Encoding) (j : ℕ) → Tells {C = C} {I = I} P end (chunks k j)
   chunks-tell k zero c at s l = (two, omega arith)
-  chunks-tell k (suc j) c at s l = byte-tells P end two (chunk k (chunks k j)) (chunk-tells k (chunks k j) (chunks-tell k j)) c at s l
+  chunks-tell k (suc j) c at s l =
+      byte-tells P end two (chunk k (chunks k j)) (chunk-tells k (chunks k j) (chunks-tell k j)) c at s l
 
-  string-tells : (k : Kind) → TellsFrom {C = C} {I = I} P end (stringFrom k)
+  string-tells : (k : Encoding) → TellsFrom {C = C} {I = I} P end (stringFrom k)
   unfolding stringFrom
   string-tells k p b m c at s l = chunk-tells k (chunks k (length s)) (chunks-tell k (length s)) p b m c at s l
 
   -- ---- what the layer above reads
-  string-or : (k : Kind) (g : From C I Scalar) → TellsFrom {C = C} {I = I} P end g → TellsFrom {C = C} {I = I} P end (orString k g)
-  string-or k g h p b m = pick-either (Tells P end) (begins (partHead k ∷ lastHeads k) b) (λ e. mapped-tells P end (Str k) (stringFrom k p b) (string-tells k p b m)) (λ e. h p b m)
+  string-or : (k : Encoding) (g : From C I Scalar) → TellsFrom {C = C} {I = I} P end g
+      → TellsFrom {C = C} {I = I} P end (orString k g)
+  string-or k g h p b m =
+      pick-either (Tells P end) (begins (partHead k ∷ lastHeads k) b)
+      (λ e. mapped-tells P end (Str k) (stringFrom k p b) (string-tells k p b m)) (λ e. h p b m)
 
-  number-or : (s : Sort) (g : From C I Scalar) → TellsFrom {C = C} {I = I} P end g → TellsFrom {C = C} {I = I} P end (orNumber s g)
-  number-or s g h p b m = pick-either (Tells P end) (begins (formsOf s) b) (λ e. mapped-tells P end (Num s) (numberFrom (formsOf s) p b) (number-tells (formsOf s) p b m)) (λ e. h p b m)
+  number-or : (s : Sort) (g : From C I Scalar) → TellsFrom {C = C} {I = I} P end g
+      → TellsFrom {C = C} {I = I} P end (orNumber s g)
+  number-or s g h p b m =
+      pick-either (Tells P end) (begins (formsOf s) b)
+      (λ e. mapped-tells P end (Num s) (numberFrom (formsOf s) p b) (number-tells (formsOf s) p b m)) (λ e. h p b m)
 
   pub scalar-tells : TellsFrom {C = C} {I = I} P end scalarFrom
   unfolding scalarFrom
-  scalar-tells = string-or Utf8 _ (string-or Binary _ (number-or sort.Int _ (number-or sort.Long _ (number-or sort.Date _ (number-or sort.Double _ (number-or sort.Null _
+  scalar-tells =
+      string-or Utf8 _
+      (string-or Binary _
+      (number-or sort.Int _
+      (number-or sort.Long _ (number-or sort.Date _ (number-or sort.Double _ (number-or sort.Null _
       (number-or sort.False _ (number-or sort.True _ (λ p b m c at s l. (three, m))))))))))
 
   pub int-tells : TellsFrom {C = C} {I = I} P end intFrom

@@ -1,31 +1,38 @@
 -- Scalars: single values, which are null, false, true, int, long, double, date; texts and byte strings.
-use mathlib.Core.{Bool.Bool, Bool.true, Bool.false, Bool.cond, Bool._&&_, List.List, List.[], List._∷_, List._++_, List.map, Option.Option, Option.none, Option.some}
+use mathlib.Core.{Bool.Bool, Bool.true, Bool.false, Bool.cond, Bool._&&_}
+use mathlib.Core.{List.List, List.[], List._∷_, List._++_, List.map, Option.Option, Option.none, Option.some}
 use Prim.Native.Nat.{ℕ, zero, suc, _+_, _*_, _-_, _/_, _%_, _^_, min}
-use lib.{Dec.ltb, Dec.eqb, ListN.length, ListN.take, ListN.drop, Count.leadingZeros, Pow.areBytes, IntN.ℤ, IntN.pos, IntN.negsuc, IntN._-ℤ_, IntN._*ℤ_}
+use lib.{Dec.ltb, Dec.eqb, ListN.length, ListN.take, ListN.drop, Count.leadingZeros, Pow.areBytes}
+use lib.IntN.{ℤ, pos, negsuc, _-ℤ_, _*ℤ_}
 use mir.{Syntax.w8, Syntax.w16, Syntax.w32, Syntax.w64, Val.ofZ, Val.toZ}
 use Rattle.flow.specs.RefusalNumbers.{cut, wrong-byte, not-utf8}
 use Rattle.flow.specs.Flow.{pick, within, sameList, Outcome, Done, Fault, Read, From, One}
 use Rattle.flow.specs.Flow.{give, fail, byteAt, mapped, bind}
 use Rattle.wire.specs.BigEndian.{be, high, wider}
-use Rattle.scalar.specs.declared.{Sort.Sort, Rule.Rule, Begun.Begun, Begun.the-variants.Starts, Begun.the-variants.NoForm, Kind.Kind, Kind.the-variants.Utf8, Kind.the-variants.Binary}
+use Rattle.scalar.specs.declared.{Sort.Sort, Rule.Rule, Begun.Begun, Encoding.Encoding}
+use Rattle.scalar.specs.declared.Begun.the-variants.{Starts, NoForm}
+use Rattle.scalar.specs.declared.Encoding.the-variants.{Utf8, Binary}
 use Rattle.scalar.specs.declared.Sort.the-variants.{Null, False, True, Int, Long, Double, Date}
-use Rattle.scalar.specs.declared.Rule.the-variants.{Exactly, Plain, Offset, Signed, Minutes, WholeByte, WholePair, Float}
+use Rattle.scalar.specs.declared.Rule.the-variants.{Exactly, Plain, Offset, Signed, Minutes}
+use Rattle.scalar.specs.declared.Rule.the-variants.{WholeByte, WholePair, Float}
 use Rattle.scalar.specs.declared.CharLead.{CharLead}
 use Rattle.scalar.specs.declared.CharLead.the-variants.{Basic, Supplementary, Halved, NoChar}
 use Rattle.scalar.specs.Guesses.{guess}
 
 -- ---- doubles by their 64 bits: a sign, 11 bits of exponent, 52 of fraction
--- the bits of the double m · 2 ^ (c − 1074), for an m of 1 to 32 bits: its leading zeros say how far to shift, so that its
--- first one bit, which adds one to the exponent, is bit 52
+-- the bits of the double m · 2 ^ (c − 1074), for an m of 1 to 32 bits: its leading zeros say how far to shift, so that
+-- its first one bit, which adds one to the exponent, is bit 52
 unfoldable pub scaled : ℕ → ℕ → ℕ
 scaled c m = (c - 21 - leadingZeros 32 m) * 2 ^ 52 + m * 2 ^ (21 + leadingZeros 32 m)
 
-unfoldable pub whole : ℤ → ℕ  -- 5d, 5e: the double whose exact worth is the whole number; 0 is +0.0
+-- 5d, 5e: the double whose exact worth is the whole number; 0 is +0.0
+unfoldable pub whole : ℤ → ℕ
 whole (pos zero) = 0
 whole (pos (suc n)) = scaled 1074 (suc n)
 whole (negsuc n) = 2 ^ 63 + scaled 1074 (suc n)
 
--- a float's exponent x and fraction t: infinities and NaNs keep their fraction · 2 ^ 29; normal numbers; zero; those below the normal range
+-- a float's exponent x and fraction t: infinities and NaNs keep their fraction · 2 ^ 29; normal numbers; zero; those
+-- below the normal range
 unfoldable pub magnitude : ℕ → ℕ → ℕ
 magnitude x t =
     cond (eqb x 255) (2047 * 2 ^ 52 + t * 2 ^ 29)
@@ -47,25 +54,43 @@ value WholeByte u = whole (toZ w8 u)
 value WholePair u = whole (toZ w16 u)
 value Float u = widened u
 
--- `codes` first bytes from `head` on, and `extra` bytes more. They hold (code − head) · 256 ^ extra + the bytes, highest first
+-- `codes` first bytes from `head` on, and `extra` bytes more. They hold (code − head) · 256 ^ extra + the bytes,
+-- highest first
 abbrev pub Form : Type 0
 Form = record { head : ℕ; codes : ℕ; extra : ℕ; rule : Rule }
 
 abbrev pub form : ℕ → ℕ → ℕ → Rule → Form
 form head codes extra rule = record { head = head; codes = codes; extra = extra; rule = rule }
 
-abbrev pub compact : ℕ → ℕ → ℕ → ℕ → Form  -- ints and longs of one to three bytes: (code − zero) · 256 ^ extra + the bytes
+-- ints and longs of one to three bytes: (code − zero) · 256 ^ extra + the bytes
+abbrev pub compact : ℕ → ℕ → ℕ → ℕ → Form
 compact head codes extra zero-code = form head codes extra (Offset (wider extra (zero-code - head)))
 
 unfoldable pub formsOf : Sort → List Form  -- the forms of each kind of value, the shorter first
 formsOf Null = form 0x4e 1 0 (Exactly 0) ∷ []
 formsOf False = form 0x46 1 0 (Exactly 0) ∷ []
 formsOf True = form 0x54 1 0 (Exactly 0) ∷ []
-formsOf Int = compact 0x80 64 0 0x90 ∷ compact 0xc0 16 1 0xc8 ∷ compact 0xd0 8 2 0xd4 ∷ form 0x49 1 4 Signed ∷ []
-formsOf Long = compact 0xd8 24 0 0xe0 ∷ compact 0xf0 16 1 0xf8 ∷ compact 0x38 8 2 0x3c ∷ form 0x59 1 4 Signed ∷ form 0x4c 1 8 Plain ∷ []
+formsOf Int =
+    compact 0x80 64 0 0x90
+    ∷ compact 0xc0 16 1 0xc8
+    ∷ compact 0xd0 8 2 0xd4
+    ∷ form 0x49 1 4 Signed
+    ∷ []
+formsOf Long =
+    compact 0xd8 24 0 0xe0
+    ∷ compact 0xf0 16 1 0xf8
+    ∷ compact 0x38 8 2 0x3c
+    ∷ form 0x59 1 4 Signed
+    ∷ form 0x4c 1 8 Plain
+    ∷ []
 formsOf Double =
-    form 0x5b 1 0 (Exactly 0) ∷ form 0x5c 1 0 (Exactly 0x3ff0_0000_0000_0000) ∷ form 0x5d 1 1 WholeByte ∷ form 0x5e 1 2 WholePair
-    ∷ form 0x5f 1 4 Float ∷ form 0x44 1 8 Plain ∷ []
+    form 0x5b 1 0 (Exactly 0)
+    ∷ form 0x5c 1 0 (Exactly 0x3ff0_0000_0000_0000)
+    ∷ form 0x5d 1 1 WholeByte
+    ∷ form 0x5e 1 2 WholePair
+    ∷ form 0x5f 1 4 Float
+    ∷ form 0x44 1 8 Plain
+    ∷ []
 formsOf Date = form 0x4b 1 4 Minutes ∷ form 0x4a 1 8 Plain ∷ []
 
 abbrev pub sortKind : Sort → ℕ  -- the kind of the row of such a value
@@ -83,10 +108,12 @@ module _ {C I : Type 0} where
   bytesOf zero u c at s = give u c at s
   bytesOf (suc k) u c at s = byteAt (λ p b. bytesOf k (256 * u + b)) c at s
 
-  abbrev pub numberFrom : List Form → From C I ℕ  -- a value of one of these forms, whose first byte is b, at p; any other is a wrong byte
+  -- a value of one of these forms, whose first byte is b, at p; any other is a wrong byte
+  abbrev pub numberFrom : List Form → From C I ℕ
   numberFrom ws p b = elim (formAt ws b) [ NoForm ↦ fail wrong-byte p | Starts k u r ↦ mapped (value r) (bytesOf k u) ]
 
--- ---- spelling: the first form that holds the value. `guess` is a candidate for what it holds, right where it stands for v
+-- ---- spelling: the first form that holds the value. `guess` is a candidate for what it holds, right where it stands
+-- for v
 abbrev pub spelling : Form → ℕ → List ℕ  -- the bytes of a form that holds u
 spelling w u = (w .head + high (w .extra) u) ∷ be (w .extra) u
 
@@ -99,11 +126,11 @@ shortest (w ∷ ws) v = cond (fits w v) (some (spelling w (guess (w .rule) v))) 
 
 -- ---- texts and byte strings: chunks, each with its length before it. A text's length counts UTF-16 units, a byte
 -- string's bytes
-unfoldable pub partHead : Kind → Form  -- the head of a chunk that is not the last: its code and length
+unfoldable pub partHead : Encoding → Form  -- the head of a chunk that is not the last: its code and length
 partHead Utf8 = form 0x52 1 2 Plain
 partHead Binary = form 0x41 1 2 Plain
 
-unfoldable pub lastHeads : Kind → List Form  -- the heads of the last chunk, the shorter first
+unfoldable pub lastHeads : Encoding → List Form  -- the heads of the last chunk, the shorter first
 lastHeads Utf8 = form 0x00 32 0 Plain ∷ form 0x30 4 1 Plain ∷ form 0x53 1 2 Plain ∷ []
 lastHeads Binary = form 0x20 16 0 Plain ∷ form 0x34 4 1 Plain ∷ form 0x42 1 2 Plain ∷ []
 
@@ -135,7 +162,7 @@ paired d x y z =
 
 -- what a content's byte adds to its length: in a text a character's first byte one unit, or two if supplementary; in a
 -- byte string one
-abbrev pub weight : Kind → ℕ → ℕ
+abbrev pub weight : Encoding → ℕ → ℕ
 weight Binary b = 1
 weight Utf8 b = cond (within 0x80 0xc0 b) 0 (cond (ltb b 0xf0) 1 2)
 
@@ -143,7 +170,7 @@ abbrev pub total : List ℕ → ℕ
 total [] = 0
 total (u ∷ us) = u + total us
 
-abbrev pub units : Kind → List ℕ → ℕ  -- a content's length, as its head counts it
+abbrev pub units : Encoding → List ℕ → ℕ  -- a content's length, as its head counts it
 units k cs = total (map (weight k) cs)
 
 -- ---- reading: the result is the content, the chunks joined
@@ -209,31 +236,31 @@ module _ {C I : Type 0} where
   octets zero c at s = give [] c at s
   octets (suc n) c at s = byteAt (λ p b. mapped (λ cs. b ∷ cs) (octets n)) c at s
 
-  abbrev pub body : Kind → ℕ → Read C I (List ℕ)
+  abbrev pub body : Encoding → ℕ → Read C I (List ℕ)
   body Binary n = octets n
   body Utf8 n = characters n
 
   -- a chunk after its first byte b, at p; `next` reads the chunks after it, if it is not the last
-  abbrev pub chunk : Kind → Read C I (List ℕ) → From C I (List ℕ)
+  abbrev pub chunk : Encoding → Read C I (List ℕ) → From C I (List ℕ)
   chunk k next p b = cond (inside (partHead k) b)
       (bind (numberFrom (partHead k ∷ []) p b) (λ n. bind (body k n) (λ cs. mapped (λ ds. cs ++ ds) next)))
       (bind (numberFrom (lastHeads k) p b) (body k))
 
-  abbrev pub chunks : Kind → ℕ → Read C I (List ℕ)  -- the number only bounds the recursion
+  abbrev pub chunks : Encoding → ℕ → Read C I (List ℕ)  -- the number only bounds the recursion
   chunks k zero c at s = Fault cut at
   chunks k (suc j) c at s = byteAt (chunk k (chunks k j)) c at s
 
-  unfoldable pub stringFrom : Kind → From C I (List ℕ)  -- a text or byte string, whose first byte is b, at p
+  unfoldable pub stringFrom : Encoding → From C I (List ℕ)  -- a text or byte string, whose first byte is b, at p
   stringFrom k p b c at s = chunk k (chunks k (length s)) p b c at s
 
 -- what stands at the place p of the message m, read as a text or as a byte string: its content. A place past the end is
 -- the end
-unfoldable pub stringAt : Kind → List ℕ → ℕ → Outcome One One (List ℕ)
+unfoldable pub stringAt : Encoding → List ℕ → ℕ → Outcome One One (List ℕ)
 stringAt k m p = byteAt (stringFrom k) tt (min p (length m)) (drop p m)
 
 -- ---- spelling: chunks as long as may be, the rest last in its shortest form
-unfoldable pub longest : ℕ  -- the longest chunk
-longest = 65_535
+unfoldable pub longestChunk : ℕ
+longestChunk = 65_535
 
 -- how many bytes of these weights fit cap units: whole characters, since the bytes after a character's first weigh
 -- nothing
@@ -245,11 +272,11 @@ abbrev pub shortestHead : List Form → ℕ → List ℕ
 shortestHead ws n = elim (shortest ws n) [ none ↦ [] | some w ↦ w ]
 
 -- while more than the longest chunk is left, what fits one; then the rest. The number only bounds the recursion
-abbrev pub spelled : Kind → ℕ → List ℕ → List ℕ
+abbrev pub spelled : Encoding → ℕ → List ℕ → List ℕ
 spelled k zero cs = []
 spelled k (suc f) cs =
-    let n = span longest (map (weight k) cs) in
-    cond (ltb longest (units k cs))
+    let n = span longestChunk (map (weight k) cs) in
+    cond (ltb longestChunk (units k cs))
     (shortestHead (partHead k ∷ []) (units k (take n cs)) ++ (take n cs ++ spelled k f (drop n cs)))
     (shortestHead (lastHeads k) (units k cs) ++ cs)
 
@@ -258,16 +285,16 @@ readsAs cs o = elim o [ Done m ds es c ↦ sameList ds cs | Fault x p ↦ false 
 
 -- cs is a content: bytes that, read as a body of so many units as they count, are read as themselves. So in a text each
 -- character has one spelling: what has a pair of halves in it is read as other bytes, and is no content
-unfoldable pub content : Kind → List ℕ → Bool
+unfoldable pub content : Encoding → List ℕ → Bool
 content k cs = areBytes cs && readsAs cs (body k (units k cs) tt 0 cs)
 
-unfoldable pub shortestString : Kind → List ℕ → Option (List ℕ)  -- the shortest form of a content, or none
+unfoldable pub shortestString : Encoding → List ℕ → Option (List ℕ)  -- the shortest form of a content, or none
 shortestString k cs = cond (content k cs) (some (spelled k (suc (length cs)) cs)) none
 
 -- ---- scalars: single values, texts and byte strings, as the layer above sees them
 pub data Scalar : Type 0 where
   Num : Sort → ℕ → Scalar
-  Str : Kind → List ℕ → Scalar
+  Str : Encoding → List ℕ → Scalar
 
 abbrev pub begins : List Form → ℕ → Bool  -- the byte begins one of the forms
 begins [] b = false
@@ -277,16 +304,19 @@ abbrev pub isText : ℕ → Bool  -- the byte opens a text
 isText b = begins (partHead Utf8 ∷ lastHeads Utf8) b
 
 module _ {C I : Type 0} where
-  abbrev pub orString : Kind → From C I Scalar → From C I Scalar  -- a text or byte string, where b begins one, or what g reads
+  -- a text or byte string, where b begins one, or what g reads
+  abbrev pub orString : Encoding → From C I Scalar → From C I Scalar
   orString k g p b = pick (begins (partHead k ∷ lastHeads k) b) (mapped (Str k) (stringFrom k p b)) (g p b)
 
-  abbrev pub orNumber : Sort → From C I Scalar → From C I Scalar  -- a single value, where b begins one of its kind, or what g reads
+  -- a single value, where b begins one of its kind, or what g reads
+  abbrev pub orNumber : Sort → From C I Scalar → From C I Scalar
   orNumber s g p b = pick (begins (formsOf s) b) (mapped (Num s) (numberFrom (formsOf s) p b)) (g p b)
 
   -- a scalar whose first byte is b, at p, in the order of 01's table of first bytes; any other is a wrong byte
   unfoldable pub scalarFrom : From C I Scalar
   scalarFrom = orString Utf8 (orString Binary
-      (orNumber Int (orNumber Long (orNumber Date (orNumber Double (orNumber Null (orNumber False (orNumber True (λ p b. fail wrong-byte p)))))))))
+      (orNumber Int (orNumber Long (orNumber Date (orNumber Double
+      (orNumber Null (orNumber False (orNumber True (λ p b. fail wrong-byte p)))))))))
 
   unfoldable pub intFrom : From C I ℕ  -- an int: for counts and numbers
   intFrom p b = numberFrom (formsOf Int) p b

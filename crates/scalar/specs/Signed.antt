@@ -14,15 +14,20 @@ use Rattle.flow.specs.Tests.{by-test, split}
 
 -- ---- differences
 sub-is : (a b : ℕ) → pos a -ℤ pos b ≡ subℕ a b
-sub-is a zero = by-test (λ (z : ℤ). pos (a + zero) ≡ z) (ltb a zero) (λ t. absurd (none (ltb→lt a zero t))) (λ t. ap pos (omega arith))
+sub-is a zero =
+    by-test (λ (z : ℤ). pos (a + zero) ≡ z) (ltb a zero) (λ t. absurd (none (ltb→lt a zero t)))
+    (λ t. ap pos (omega arith))
   where
     none : a < zero → ⊥
     none h = omega arith
 sub-is a (suc b) = refl
 
 -- what holds of both readings of a difference holds of it
-pub minus-case : (a b : ℕ) (P : ℤ → Type 0) → ((n : ℕ) → a + suc n ≡ b → P (negsuc n)) → ((n : ℕ) → b + n ≡ a → P (pos n)) → P (pos a -ℤ pos b)
-minus-case a b P f g = subst P (sym (sub-is a b)) (by-test P (ltb a b) (λ t. f (b - suc a) (low (ltb→lt a b t))) (λ t. g (a - b) (above (nltb→le a b t))))
+pub minus-case : (a b : ℕ) (P : ℤ → Type 0) → ((n : ℕ) → a + suc n ≡ b → P (negsuc n))
+    → ((n : ℕ) → b + n ≡ a → P (pos n)) → P (pos a -ℤ pos b)
+minus-case a b P f g =
+    subst P (sym (sub-is a b))
+    (by-test P (ltb a b) (λ t. f (b - suc a) (low (ltb→lt a b t))) (λ t. g (a - b) (above (nltb→le a b t))))
   where
     low : a < b → a + suc (b - suc a) ≡ b
     low h = omega arith
@@ -31,10 +36,12 @@ minus-case a b P f g = subst P (sym (sub-is a b)) (by-test P (ltb a b) (λ t. f 
     above h = omega arith
 
 pub minus-fits : (a b : ℕ) → a < 2 ^ 63 → b ≤ 2 ^ 63 → SFits w64 (pos a -ℤ pos b)
-minus-fits a b ha hb = minus-case a b (λ z. SFits w64 z) (λ n e. record { sfits = omega arith }) (λ n e. record { sfits = omega arith })
+minus-fits a b ha hb =
+    minus-case a b (λ z. SFits w64 z) (λ n e. record { sfits = omega arith }) (λ n e. record { sfits = omega arith })
 
 pub minus-bits : (a b : ℕ) → a < 2 ^ 63 → b ≤ 2 ^ 63 → ofZ w64 (pos a -ℤ pos b) ≡ (a + (2 ^ 64 - b)) % 2 ^ 64
-minus-bits a b ha hb = minus-case a b (λ z. ofZ w64 z ≡ (a + (2 ^ 64 - b)) % 2 ^ 64) (λ n e. omega arith) (λ n e. omega arith)
+minus-bits a b ha hb =
+    minus-case a b (λ z. ofZ w64 z ≡ (a + (2 ^ 64 - b)) % 2 ^ 64) (λ n e. omega arith) (λ n e. omega arith)
 
 -- ---- a number's bits
 -- of a negative number, −1 − v is its magnitude less one
@@ -64,7 +71,9 @@ pos-view (negsuc n) h = let z : true ≡ false = h in cc
 
 -- the upper half of the patterns is negative
 pub upper : (n : ℕ) → 2 ^ 63 ≤ n → n < 2 ^ 64 → toZ w64 n ≡ negsuc (18446744073709551615 - n)
-upper n h k = subst (λ (x : ℕ). toZ w64 x ≡ negsuc (18446744073709551615 - n)) (back n k) (toZ-neg w64 (18446744073709551615 - n) (small n h k))
+upper n h k =
+    subst (λ (x : ℕ). toZ w64 x ≡ negsuc (18446744073709551615 - n)) (back n k)
+    (toZ-neg w64 (18446744073709551615 - n) (small n h k))
   where
     small : (n : ℕ) → 2 ^ 63 ≤ n → n < 2 ^ 64 → 18446744073709551615 - n < 2 ^ 63
     small n h k = omega arith
@@ -84,7 +93,8 @@ pub low-32 : (n : ℕ) → n < 2 ^ 31 → toZ w32 n ≡ pos n
 low-32 n h = toZ-pos w32 n h
 
 pub high-32 : (n : ℕ) → 2 ^ 31 ≤ n → n < 2 ^ 32 → toZ w32 n ≡ negsuc (0xffff_ffff - n)
-high-32 n h k = subst (λ (x : ℕ). toZ w32 x ≡ negsuc (0xffff_ffff - n)) (back n k) (toZ-neg w32 (0xffff_ffff - n) (small n h k))
+high-32 n h k =
+    subst (λ (x : ℕ). toZ w32 x ≡ negsuc (0xffff_ffff - n)) (back n k) (toZ-neg w32 (0xffff_ffff - n) (small n h k))
   where
     small : (n : ℕ) → 2 ^ 31 ≤ n → n < 2 ^ 32 → 0xffff_ffff - n < 2 ^ 31
     small n h k = omega arith
@@ -94,13 +104,18 @@ high-32 n h k = subst (λ (x : ℕ). toZ w32 x ≡ negsuc (0xffff_ffff - n)) (ba
 
 -- a number of the upper half stands for itself less 2 ^ 32
 pub less-32 : (n : ℕ) → 2 ^ 31 ≤ n → n < 2 ^ 32 → pos n -ℤ pos 0x1_0000_0000 ≡ toZ w32 n
-less-32 n h k = rw (high-32 n h k) (minus-case n 0x1_0000_0000 (λ z. z ≡ negsuc (0xffff_ffff - n)) (λ m e. ap negsuc (omega arith)) (λ m e. absurd (clash m e)))
+less-32 n h k =
+    rw (high-32 n h k)
+    (minus-case n 0x1_0000_0000 (λ z. z ≡ negsuc (0xffff_ffff - n)) (λ m e. ap negsuc (omega arith))
+    (λ m e. absurd (clash m e)))
   where
     clash : (m : ℕ) → 0x1_0000_0000 + m ≡ n → ⊥
     clash m e = omega arith
 
 pub fits-32 : (n : ℕ) → n < 2 ^ 32 → SFits w32 (toZ w32 n)
-fits-32 n k = split n (2 ^ 31) (λ h. rw (low-32 n h) (record { sfits = h })) (λ h. rw (high-32 n h k) (record { sfits = small n h k }))
+fits-32 n k =
+    split n (2 ^ 31) (λ h. rw (low-32 n h) (record { sfits = h }))
+    (λ h. rw (high-32 n h k) (record { sfits = small n h k }))
   where
     small : (n : ℕ) → 2 ^ 31 ≤ n → n < 2 ^ 32 → 0xffff_ffff - n < 2 ^ 31
     small n h k = omega arith
@@ -135,5 +150,8 @@ quot-mul (negsuc a) = subst (λ (n : ℕ). quotZ (negℤ (pos n)) (pos 60000) �
     d = omega arith
 
 -- minutes are found again in their milliseconds
-pub minutes-back : (n : ℕ) → n < 2 ^ 32 → ofZ w64 (quotZ (toZ w64 (ofZ w64 (toZ w32 n *ℤ pos 60000))) (pos 60000)) % 2 ^ 32 ≡ n
-minutes-back n k = rw (toZ-ofZ w64 (toZ w32 n *ℤ pos 60000) (mul-fits (toZ w32 n) (fits-32 n k)), quot-mul (toZ w32 n)) (signed-back n k)
+pub minutes-back : (n : ℕ) → n < 2 ^ 32
+    → ofZ w64 (quotZ (toZ w64 (ofZ w64 (toZ w32 n *ℤ pos 60000))) (pos 60000)) % 2 ^ 32 ≡ n
+minutes-back n k =
+    rw (toZ-ofZ w64 (toZ w32 n *ℤ pos 60000) (mul-fits (toZ w32 n) (fits-32 n k)), quot-mul (toZ w32 n))
+    (signed-back n k)

@@ -13,8 +13,8 @@ use Rattle.flow.specs.Lifts.{Lifts, give-lifts, fail-lifts, byte-lifts, map-lif
 use Rattle.flow.specs.Laws.{Goal, Parsed, gives, takes, maps, Quiet, quiet, quietly, binds-quiet}
 use Rattle.flow.specs.Laws.{Makes, give-makes, byte-makes, bind-makes, map-makes, pass-makes, skip-makes, bound-makes}
 use Rattle.flow.specs.Laws.{Leads}
-use Rattle.scalar.specs.declared.Kind.{Kind}
-use Rattle.scalar.specs.declared.Kind.the-variants.{Utf8, Binary}
+use Rattle.scalar.specs.declared.Encoding.{Encoding}
+use Rattle.scalar.specs.declared.Encoding.the-variants.{Utf8, Binary}
 use Rattle.scalar.specs.declared.CharLead.{CharLead}
 use Rattle.scalar.specs.declared.CharLead.the-variants.{Basic, Supplementary, Halved, NoChar}
 use Rattle.scalar.specs.Scalars.{Form, inside, numberFrom, partHead, lastHeads}
@@ -24,28 +24,31 @@ use Rattle.scalar.specs.Grammar.{Number, here, held, Continued, no-more,
 use Rattle.scalar.specs.Grammar.{Char, one-byte, one-unit, below-halves, two-units}
 use Rattle.scalar.specs.Grammar.{IsHigh, IsLow, Sent, as-it-is, as-a-pair, Body, empty, with-char}
 use Rattle.scalar.specs.Grammar.{String, last-chunk, chunk-before}
-use Rattle.scalar.specs.NumberLaws.{proper, clear, number-apart, number-scans, NumberLed, number-makes, number-bytes, number-some}
+use Rattle.scalar.specs.NumberLaws.{proper, clear, number-apart, number-scans, NumberLed, number-makes}
+use Rattle.scalar.specs.NumberLaws.{number-bytes, number-some}
 use Rattle.scalar.specs.NumberAt.{number-lifts}
 use Rattle.scalar.specs.CharLeads.{says}
 use Rattle.scalar.specs.TextUnits.{body-bytes}
 
 -- ---- heads: no first byte is of two of them, and all are bytes
-pub heads-proper : (k : Kind) → T (proper (lastHeads k)) × T (proper (partHead k ∷ []))
+pub heads-proper : (k : Encoding) → T (proper (lastHeads k)) × T (proper (partHead k ∷ []))
 unfolding lastHeads partHead
 heads-proper Utf8 = (tt, tt)
 heads-proper Binary = (tt, tt)
 
-heads-apart : (k : Kind) → T (clear (partHead k) (lastHeads k))
+heads-apart : (k : Encoding) → T (clear (partHead k) (lastHeads k))
 unfolding lastHeads partHead
 heads-apart Utf8 = tt
 heads-apart Binary = tt
 
 -- the first byte tells a last chunk from another
-last-first : (k : Kind) {h : List ℕ} {n : ℕ} → Number (lastHeads k) h n → First (λ b. inside (partHead k) b ≡ false) h
+last-first : (k : Encoding) {h : List ℕ} {n : ℕ} → Number (lastHeads k) h n
+    → First (λ b. inside (partHead k) b ≡ false) h
 last-first k y = number-apart (partHead k) y (heads-apart k)
 
 part-first : (w : Form) {h : List ℕ} {n : ℕ} → Number (w ∷ []) h n → First (λ b. inside w b ≡ true) h
-part-first w (here (held q t l e i)) = within-yes (w .head) (w .head + w .codes) (w .head + q) (omega arith) (omega arith)
+part-first w (here (held q t l e i)) =
+    within-yes (w .head) (w .head + w .codes) (w .head + q) (omega arith) (omega arith)
 
 -- ---- reading: what is read is a string
 module _ {C : Type 0} (I : Type 0) where
@@ -79,10 +82,10 @@ module _ {C : Type 0} (I : Type 0) where
       (rw same (h x y z p q (p₂, q₂, p₃, q₃)))))))
 
   -- f reads characters, or bytes, of n units
-  abbrev pub Whole : Kind → ℕ → C → Goal C I (List ℕ)
+  abbrev pub Whole : Encoding → ℕ → C → Goal C I (List ℕ)
   Whole k n c = Quiet (Body k n) c
 
-  abbrev pub Fills : Kind → ℕ → C → Read C I (List ℕ) → Type 0
+  abbrev pub Fills : Encoding → ℕ → C → Read C I (List ℕ) → Type 0
   Fills k n c f = (at : ℕ) (s : List ℕ) → Bytes s → Parsed (Whole k n c) s (f c at s)
 
   -- the same, the bytes `front` being read already
@@ -167,19 +170,19 @@ module _ {C : Type 0} (I : Type 0) where
       (λ w cs z. rw (← e) (quiet (with-char (as-it-is (one-byte m)) z)))
       (octets n c (at + 1) t) (octets-read n c (at + 1) t i)))
 
-  pub body-read : (k : Kind) (n : ℕ) (c : C) → Fills k n c (body k n)
+  pub body-read : (k : Encoding) (n : ℕ) (c : C) → Fills k n c (body k n)
   body-read Utf8 n = characters-read n
   body-read Binary n = octets-read n
 
   -- a string, and what stands after its first byte b
-  abbrev Text : Kind → C → Goal C I (List ℕ)
+  abbrev Text : Encoding → C → Goal C I (List ℕ)
   Text k c = Quiet (String k) c
 
-  abbrev Rest : Kind → ℕ → C → Goal C I (List ℕ)
+  abbrev Rest : Encoding → ℕ → C → Goal C I (List ℕ)
   Rest k b c = Quiet (λ w cs. String k (b ∷ w) cs) c
 
   -- a chunk, where `next` reads what stands after one that is not the last
-  chunk-read : (k : Kind) (next : Read C I (List ℕ)) (c : C)
+  chunk-read : (k : Encoding) (next : Read C I (List ℕ)) (c : C)
       → ((at : ℕ) (s : List ℕ) → Bytes s → Parsed (Text k c) s (next c at s)) → (p b at : ℕ) (s : List ℕ) → Bytes s
       → Parsed (Rest k b c) s (chunk k next p b c at s)
   chunk-read k next c hn p b at s l =
@@ -202,19 +205,24 @@ module _ {C : Type 0} (I : Type 0) where
           (λ v ds r. quiet (chunk-before y z r)) (next c at₂ t₂) (hn at₂ t₂ m₂))))
 
       last : Parsed (Rest k b c) s (bind (numberFrom (lastHeads k) p b) (body k) c at s)
-      last = binds-quiet (λ h n. Number (lastHeads k) (b ∷ h) n) (Rest k b c) (numberFrom (lastHeads k) p b) (body k) c at s l
+      last =
+          binds-quiet (λ h n. Number (lastHeads k) (b ∷ h) n) (Rest k b c) (numberFrom (lastHeads k) p b)
+          (body k) c at s l
           (number-scans I (lastHeads k) p b c at s l)
           (λ h n at₁ t m y. quietly (Body k n) (λ w a is c′. Rest k b c (h ++ w) a is c′) c t
           (λ w cs z. quiet (last-chunk y z)) (body k n c at₁ t) (body-read k n c at₁ t m))
 
-  chunks-read : (k : Kind) (j : ℕ) (c : C) (at : ℕ) (s : List ℕ) → Bytes s → Parsed (Text k c) s (chunks k j c at s)
+  chunks-read : (k : Encoding) (j : ℕ) (c : C) (at : ℕ) (s : List ℕ) → Bytes s → Parsed (Text k c) s (chunks k j c at s)
   chunks-read k zero c at s l = tt
   chunks-read k (suc j) c at s l = takes (Text k c) (chunk k (chunks k j)) c at s l
-      (λ b t m i. quietly (λ w cs. String k (b ∷ w) cs) (λ w a is c′. Text k c (b ∷ w) a is c′) c t (λ w cs x. quiet x) (chunk k (chunks k j) at b c (at + 1) t)
+      (λ b t m i.
+      quietly (λ w cs. String k (b ∷ w) cs) (λ w a is c′. Text k c (b ∷ w) a is c′) c t (λ w cs x. quiet x)
+      (chunk k (chunks k j) at b c (at + 1) t)
       (chunk-read k (chunks k j) c (chunks-read k j c) at b (at + 1) t i))
 
 -- what is read as a text or byte string is one of its forms
-pub string-scans : {C : Type 0} (I : Type 0) (k : Kind) (p b : ℕ) (c : C) (at : ℕ) (s : List ℕ) → Bytes s → Parsed {I = I} (Quiet (λ w cs. String k (b ∷ w) cs) c) s (stringFrom k p b c at s)
+pub string-scans : {C : Type 0} (I : Type 0) (k : Encoding) (p b : ℕ) (c : C) (at : ℕ) (s : List ℕ) → Bytes s
+    → Parsed {I = I} (Quiet (λ w cs. String k (b ∷ w) cs) c) s (stringFrom k p b c at s)
 unfolding stringFrom
 string-scans I k p b c at s l = chunk-read I k (chunks k (length s)) c (chunks-read I k (length s) c) p b at s l
 
@@ -278,7 +286,8 @@ module _ {C : Type 0} (I : Type 0) where
       (pass-makes (within 0xa0 0xb0 d) _ _ (rw (within-yes 0xa0 0xb0 d (h .0) (h .1)) tt)
       (chained-make [] (pairOf p d) g c (pair-make p d x y z c (h .2) (h .3) l) k)))
 
-  char-make : (k : Kind) {u : ℕ} {w : List ℕ} → Char k u w → (n : ℕ) {v ds : List ℕ} (c : C) → Gives (body k n) c v ds
+  char-make : (k : Encoding) {u : ℕ} {w : List ℕ} → Char k u w → (n : ℕ) {v ds : List ℕ} (c : C)
+      → Gives (body k n) c v ds
       → Gives (body k (u + n)) c (w ++ v) (w ++ ds)
   char-make Binary (one-byte {b = b} l) n c h =
       let e : 1 + n ≡ suc n = omega arith in
@@ -295,7 +304,7 @@ module _ {C : Type 0} (I : Type 0) where
       rw i (lead-make n b (Supplementary lo hi) c e
       (λ p. chained-make (b ∷ []) (continued p 3 lo hi) (characters n) c (continued-make x p c) h))
 
-  sent-make : (k : Kind) {u : ℕ} {w cs : List ℕ} → Sent k u w cs → (n : ℕ) {v ds : List ℕ} (c : C)
+  sent-make : (k : Encoding) {u : ℕ} {w cs : List ℕ} → Sent k u w cs → (n : ℕ) {v ds : List ℕ} (c : C)
       → Gives (body k n) c v ds → Gives (body k (u + n)) c (w ++ v) (cs ++ ds)
   unfolding charLead pick
   sent-make k (as-it-is x) n c h = char-make k x n c h
@@ -303,16 +312,17 @@ module _ {C : Type 0} (I : Type 0) where
       let e : 2 + n ≡ suc (suc n) = omega arith in
       rw e (lead-make n 0xed Halved c refl (λ p. high-make (characters (suc n)) (characters n) p 0xed c i j h))
 
-  body-none : (k : Kind) (c : C) → Gives (body k 0) c [] []
+  body-none : (k : Encoding) (c : C) → Gives (body k 0) c [] []
   body-none Utf8 c = record { makes = λ at tail. ([], refl, refl) }
   body-none Binary c = record { makes = λ at tail. ([], refl, refl) }
 
-  pub body-make : (k : Kind) {n : ℕ} {w cs : List ℕ} → Body k n w cs → (c : C) → Makes {I = I} (body k n) c w cs [] c
+  pub body-make : (k : Encoding) {n : ℕ} {w cs : List ℕ} → Body k n w cs → (c : C)
+      → Makes {I = I} (body k n) c w cs [] c
   body-make k empty c = body-none k c
   body-make k (with-char {n = n} x r) c = sent-make k x n c (body-make k r c)
 
 -- a string after its first byte, read with any bound of the recursion that is not less than its bytes
-module _ {C : Type 0} (I : Type 0) (k : Kind) where
+module _ {C : Type 0} (I : Type 0) (k : Encoding) where
   abbrev LedBy : List ℕ → List ℕ → C → Type 0
   LedBy [] cs c = ⊥
   LedBy (b ∷ t) cs c = (j : ℕ) → length t ≤ j → (p : ℕ) → Makes {I = I} (chunk k (chunks k j) p b) c t cs [] c
@@ -362,12 +372,12 @@ module _ {C : Type 0} (I : Type 0) (k : Kind) where
 
 -- ---- a string's bytes
 -- a string is bytes, and at least one
-pub string-bytes : {k : Kind} {w cs : List ℕ} → String k w cs → Bytes w
+pub string-bytes : {k : Encoding} {w cs : List ℕ} → String k w cs → Bytes w
 string-bytes {k} (last-chunk {h = h} {w = w} y r) = bytes-append h w (number-bytes y (heads-proper k .0)) (body-bytes r)
 string-bytes {k} (chunk-before {h = h} {w = w} {v = v} y r x) =
     bytes-append h (w ++ v) (number-bytes y (heads-proper k .1)) (bytes-append w v (body-bytes r) (string-bytes x))
 
-pub string-some : {k : Kind} {w cs : List ℕ} → String k w cs → 0 < length w
+pub string-some : {k : Encoding} {w cs : List ℕ} → String k w cs → 0 < length w
 string-some (last-chunk y r) = rw length-append (omega (arith, number-some y))
 string-some (chunk-before y r x) = rw length-append (omega (arith, number-some y))
 
@@ -415,24 +425,29 @@ module _ {C I : Type 0} (c : C) where
   characters-lifts : (n : ℕ) → Lifts {I = I} c (characters n) (characters n)
   characters-lifts zero = give-lifts c []
   characters-lifts (suc zero) = byte-lifts c (λ p b. character-lifts (charLead b) (characters-lifts zero) neither p b)
-  characters-lifts (suc (suc n)) = byte-lifts c (λ p b. character-lifts (charLead b) (characters-lifts (suc n)) (both (characters-lifts n)) p b)
+  characters-lifts (suc (suc n)) =
+      byte-lifts c (λ p b. character-lifts (charLead b) (characters-lifts (suc n)) (both (characters-lifts n)) p b)
 
   octets-lifts : (n : ℕ) → Lifts {I = I} c (octets n) (octets n)
   octets-lifts zero = give-lifts c []
   octets-lifts (suc n) = byte-lifts c (λ p b. map-lifts c (λ cs. b ∷ cs) (octets-lifts n))
 
-  pub body-lifts : (k : Kind) (n : ℕ) → Lifts {I = I} c (body k n) (body k n)
+  pub body-lifts : (k : Encoding) (n : ℕ) → Lifts {I = I} c (body k n) (body k n)
   body-lifts Utf8 n = characters-lifts n
   body-lifts Binary n = octets-lifts n
 
-  chunk-lifts : (k : Kind) {f : Read C I (List ℕ)} {g : Read One One (List ℕ)} → Lifts c f g → (p b : ℕ) → Lifts c (chunk k f p b) (chunk k g p b)
+  chunk-lifts : (k : Encoding) {f : Read C I (List ℕ)} {g : Read One One (List ℕ)} → Lifts c f g → (p b : ℕ)
+      → Lifts c (chunk k f p b) (chunk k g p b)
   chunk-lifts k h p b =
-      test-lifts c (inside (partHead k) b) (bind-lifts c (number-lifts c (partHead k ∷ []) p b) (λ n. bind-lifts c (body-lifts k n) (λ cs. map-lifts c (λ ds. cs ++ ds) h))) (bind-lifts c (number-lifts c (lastHeads k) p b) (body-lifts k))
+      test-lifts c (inside (partHead k) b)
+      (bind-lifts c (number-lifts c (partHead k ∷ []) p b)
+      (λ n. bind-lifts c (body-lifts k n) (λ cs. map-lifts c (λ ds. cs ++ ds) h)))
+      (bind-lifts c (number-lifts c (lastHeads k) p b) (body-lifts k))
 
-  chunks-lifts : (k : Kind) (j : ℕ) → Lifts {I = I} c (chunks k j) (chunks k j)
+  chunks-lifts : (k : Encoding) (j : ℕ) → Lifts {I = I} c (chunks k j) (chunks k j)
   chunks-lifts k zero = record { lifts = λ at s. refl }
   chunks-lifts k (suc j) = byte-lifts c (chunk-lifts k (chunks-lifts k j))
 
-  pub string-lifts : (k : Kind) (p b : ℕ) → Lifts {I = I} c (stringFrom k p b) (stringFrom k p b)
+  pub string-lifts : (k : Encoding) (p b : ℕ) → Lifts {I = I} c (stringFrom k p b) (stringFrom k p b)
   unfolding stringFrom
   string-lifts k p b = record { lifts = λ at s. chunk-lifts k (chunks-lifts k (length s)) p b .lifts at s }

@@ -56,14 +56,14 @@ pub enum Begun {
 }
 
 // What a string holds: characters in UTF-8, or bytes.
-pub enum Kind {
+pub enum Encoding {
     Utf8,
     Binary,
 }
 
-// A character's first byte: how many bytes follow, and from where to below where the first of those lies. A supplementary
-// character has three, and counts two units. Halved is ed, after which the second byte tells a character of three bytes
-// from a half.
+// A character's first byte: how many bytes follow, and from where to below where the first of those lies. A
+// supplementary character has three, and counts two units. Halved is ed, after which the second byte tells a character
+// of three bytes from a half.
 pub enum CharLead {
     Basic { more: usize, from: u8, below: u8 },
     Supplementary { from: u8, below: u8 },
@@ -71,9 +71,10 @@ pub enum CharLead {
     NoChar,
 }
 
-// What storing a shortest form comes to: the bytes stored; the bytes needed, where they do not fit; or there is no such form.
+// What storing a shortest form comes to: the bytes stored; the bytes needed, where they do not fit; or there is no such
+// form.
 pub enum Written {
     Stored { size: usize },
     NoRoom { needed: usize },
-    NotSuch,
+    NoSuchForm,
 }

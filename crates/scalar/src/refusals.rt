@@ -1,5 +1,5 @@
-// The numbers of the refusals, each once: those of `enum hessian_refusal` in include/hessian.h and of the definitions in
-// flow's specs/RefusalNumbers.antt, to which the contracts hold the code. An answer's number is 0 where it accepts.
+// The numbers of the refusals, each once: those of `enum hessian_refusal` in include/hessian.h and of the definitions
+// in flow's specs/RefusalNumbers.antt, to which the contracts hold the code. An answer's number is 0 where it accepts.
 
 // The message is empty or too long; the source or the shortest message is too long.
 pub const LENGTH: u8 = 1;

@@ -1,5 +1,5 @@
-// Reads a message from standard input, and writes the shortest message of its record to standard output.
-// A message that is not accepted prints one line to standard error, `refused`, number and place, and nothing to standard output. More
+// Reads a message from standard input, and writes the shortest message of its record to standard output. A message that
+// is not accepted prints one line to standard error, `refused`, number and place, and nothing to standard output. More
 // than 60,000 bytes are refusal 1.
 use libc::STDERR_FILENO;
 use libc::STDIN_FILENO;
@@ -11,7 +11,8 @@ use scalar::refusals::NO_RECORD;
 use scalar::refusals::ROOM;
 use writer::WriteAnswer;
 
-// The most bytes of a message. Each row has a byte of its own, so there are no more rows, and the shortest message is no longer.
+// The most bytes of a message. Each row has a byte of its own, so there are no more rows, and the shortest message is
+// no longer.
 const MOST: usize = 60_000;
 
 // The numbers of as many rows as bytes, which a message never needs more than.

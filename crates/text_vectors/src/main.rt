@@ -1,19 +1,20 @@
 // Runs the functions on texts and byte strings over cases from standard input, and prints a line for each case.
 //
-// A case is a line: `u` for a text or `b` for a byte string, the place in decimal, and the message in segments, one space between. A
-// segment is bytes, two hexadecimal digits each; `*` and a number after them say how often they stand there.
+// A case is a line: `u` for a text or `b` for a byte string, the place in decimal, and the message in segments, one
+// space between. A segment is bytes, two hexadecimal digits each; `*` and a number after them say how often they stand
+// there.
 //
-// Where a string stands at the place, the line has its units, its content's bytes, and the bytes that it takes; its shortest form's
-// length, and that form in segments; and what holds:
+// Where a string stands at the place, the line has its units, its content's bytes, and the bytes that it takes; its
+// shortest form's length, and that form in segments; and what holds:
 //   rest ok   the bytes around the stored form stay
 //   back ok   it is read back, with the same units and bytes
 //   short ok  with one byte less of room the length is answered, and nothing stored
-// Else it has `refused`, number and place; and `none ok` where there is no length, and nothing is stored.
-// In a form, bytes that stand four times or more in a row, up to four at once, are a segment of their own, as few at once as do.
+// Else it has `refused`, number and place; and `none ok` where there is no length, and nothing is stored. In a form,
+// bytes that stand four times or more in a row, up to four at once, are a segment of their own, as few at once as do.
 // What is no case is `bad`. vectors.py writes the cases, stdin, and what is to be printed, stdout.
 use libc::STDIN_FILENO;
 use libc::STDOUT_FILENO;
-use scalar::Kind;
+use scalar::Encoding;
 use scalar::Written;
 use texts::StringRead;
 use vectors::Scanned;
@@ -37,7 +38,11 @@ const LONG: usize = 5_000;
 const OFTEN: usize = 4;
 
 enum Case {
-    Of { kind: Kind, at: usize, size: usize },
+    Of {
+        kind: Encoding,
+        at: usize,
+        size: usize,
+    },
     NoCase,
 }
 
@@ -53,12 +58,12 @@ struct Group {
 fn case_of(letter: u8, at: usize, size: usize) -> Case {
     match letter {
         b'u' => Case::Of {
-            kind: Kind::Utf8,
+            kind: Encoding::Utf8,
             at,
             size,
         },
         b'b' => Case::Of {
-            kind: Kind::Binary,
+            kind: Encoding::Binary,
             at,
             size,
         },
@@ -193,9 +198,10 @@ fn say_segments(bytes: &[u8]) {
 
 // ---- reading and writing
 
-// Storing the string at `at`, of this length, where only `lent` bytes are lent is refused as it should be, and changes nothing.
+// Storing the string at `at`, of this length, where only `lent` bytes are lent is refused as it should be, and changes
+// nothing.
 fn refused(
-    kind: Kind,
+    kind: Encoding,
     message: &[u8],
     at: usize,
     length: usize,
@@ -212,12 +218,12 @@ fn refused(
     match written {
         Written::Stored { size: _ } => false,
         Written::NoRoom { needed } => needed == length && 0 < length,
-        Written::NotSuch => length == 0,
+        Written::NoSuchForm => length == 0,
     }
 }
 
 // The string at PLACE is read as one of these sizes.
-fn read_again(kind: Kind, out: &[u8], units: usize, bytes: usize, size: usize) -> bool {
+fn read_again(kind: Encoding, out: &[u8], units: usize, bytes: usize, size: usize) -> bool {
     match texts::read_string(kind, out, PLACE) {
         StringRead::Content {
             units: u,
@@ -232,7 +238,7 @@ fn read_again(kind: Kind, out: &[u8], units: usize, bytes: usize, size: usize) -
 }
 
 // The form of `size` bytes that is stored in `out`, and what was kept.
-fn say_stored(kind: Kind, out: &[u8], units: usize, bytes: usize, size: usize) {
+fn say_stored(kind: Encoding, out: &[u8], units: usize, bytes: usize, size: usize) {
     let len = out.len();
     if LARGEST < size {
         return;
@@ -251,21 +257,28 @@ fn say_stored(kind: Kind, out: &[u8], units: usize, bytes: usize, size: usize) {
 }
 
 // The string at `at` is stored where `lent` bytes are lent.
-fn fits(kind: Kind, message: &[u8], at: usize, length: usize, out: &mut [u8], lent: usize) -> bool {
+fn fits(
+    kind: Encoding,
+    message: &[u8],
+    at: usize,
+    length: usize,
+    out: &mut [u8],
+    lent: usize,
+) -> bool {
     if out.len() < lent {
         return false;
     }
     match text_writer::write_string(kind, message, at, &mut out[0..lent], PLACE) {
         Written::Stored { size } => size == length,
         Written::NoRoom { needed: _ } => false,
-        Written::NotSuch => false,
+        Written::NoSuchForm => false,
     }
 }
 
-// The string at `at`, whose form ends at `end`, is refused where one byte less is lent. One that is not long is also refused where PLACE
-// lies past what is lent, and stored where no byte more is lent.
+// The string at `at`, whose form ends at `end`, is refused where one byte less is lent. One that is not long is also
+// refused where PLACE lies past what is lent, and stored where no byte more is lent.
 fn room_told(
-    kind: Kind,
+    kind: Encoding,
     message: &[u8],
     at: usize,
     length: usize,
@@ -287,7 +300,7 @@ fn room_told(
 }
 
 // The shortest form of the string at `at`, of these units and bytes, stored in `out`.
-fn say_form(kind: Kind, message: &[u8], at: usize, units: usize, bytes: usize, out: &mut [u8]) {
+fn say_form(kind: Encoding, message: &[u8], at: usize, units: usize, bytes: usize, out: &mut [u8]) {
     let length = text_writer::string_length(kind, message, at);
     say_number(length);
     if LARGEST < length {
@@ -301,7 +314,7 @@ fn say_form(kind: Kind, message: &[u8], at: usize, units: usize, bytes: usize, o
     match text_writer::write_string(kind, message, at, &mut out[0..lent], PLACE) {
         Written::Stored { size } => say_stored(kind, &out[0..lent], units, bytes, size),
         Written::NoRoom { needed: _ } => say(b" no room"),
-        Written::NotSuch => say(b" none"),
+        Written::NoSuchForm => say(b" none"),
     }
     vectors::fill(&mut out[0..lent]);
     if room_told(kind, message, at, length, out, end) {
@@ -327,14 +340,14 @@ fn say_refused(number: u8, place: usize) {
 }
 
 // No string at `at` has a length or is stored.
-fn none_told(kind: Kind, message: &[u8], at: usize, out: &mut [u8]) -> bool {
+fn none_told(kind: Encoding, message: &[u8], at: usize, out: &mut [u8]) -> bool {
     if text_writer::string_length(kind, message, at) != 0 {
         return false;
     }
     refused(kind, message, at, 0, out, PLACE + BEHIND)
 }
 
-fn answer(kind: Kind, message: &[u8], at: usize, out: &mut [u8]) {
+fn answer(kind: Encoding, message: &[u8], at: usize, out: &mut [u8]) {
     match texts::read_string(kind, message, at) {
         StringRead::Content { units, bytes, size } => {
             say_content(units, bytes, size);

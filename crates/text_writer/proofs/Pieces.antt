@@ -13,8 +13,8 @@ use Rattle.flow.specs.Tests.{within-below, split}
 use Rattle.flow.specs.Flow.{within, stored}
 use Rattle.flow.specs.OverlayLaws.{stored-out, stored-sets}
 use Rattle.wire.specs.BigEndian.{be}
-use Rattle.scalar.specs.declared.Kind.{Kind}
-use Rattle.scalar.specs.declared.Kind.the-variants.{Utf8, Binary}
+use Rattle.scalar.specs.declared.Encoding.{Encoding}
+use Rattle.scalar.specs.declared.Encoding.the-variants.{Utf8, Binary}
 use Rattle.text_writer.specs.declared.Cursor.{Cursor}
 use Rattle.text_writer.specs.declared.Piece.{Piece}
 use Rattle.scalar.specs.Scalars.{paired, weight, total}
@@ -68,10 +68,10 @@ module _ (m : List ℕ) (p n : ℕ) (l : p + n ≤ length m) where
         let b = window-at m p n 1 (omega arith) in
         sym (in-told (window m p n) (omega (arith, window-length m p n l)) (first-byte m p n (omega arith) ∙ e) (rw b h) ∙ ap (λ (d : ℕ). ltb d 0xb0) b)
 
-pub pair-text : {k : Kind} (w : List ℕ) (r : Bool) → k ≡ Utf8 → r ≡ pairIn Utf8 w → r ≡ pairIn k w
+pub pair-text : {k : Encoding} (w : List ℕ) (r : Bool) → k ≡ Utf8 → r ≡ pairIn Utf8 w → r ≡ pairIn k w
 pair-text w r e h = rw e h
 
-pub pair-bytes : {k : Kind} (w : List ℕ) → k ≡ Binary → false ≡ pairIn k w
+pub pair-bytes : {k : Encoding} (w : List ℕ) → k ≡ Binary → false ≡ pairIn k w
 pair-bytes {k} w e = rw e (go w)
   where
     go : (w : List ℕ) → false ≡ pairIn Binary w
@@ -79,7 +79,7 @@ pair-bytes {k} w e = rw e (go w)
     go (a ∷ s) = refl
 
 -- ---- the first piece, or none, where its first byte weighs more than cap
-module _ (k : Kind) (w : List ℕ) (cap : ℕ) (front tail : List ℕ) (e : decoded k w ≡ front ++ tail) where
+module _ (k : Encoding) (w : List ℕ) (cap : ℕ) (front tail : List ℕ) (e : decoded k w ≡ front ++ tail) where
   stops-there : (u : ℕ) (others : List ℕ) → weights k front ≡ u ∷ others → cap < u → (l : List ℕ) (to : ℕ)
       → NextMet k w cap l to (record { size = 0; bytes = 0; units = 0 }) l
   stops-there u others q h l to = record {
@@ -96,12 +96,12 @@ module _ (k : Kind) (w : List ℕ) (cap : ℕ) (front tail : List ℕ) (e : deco
     stops = λ z v. rw (e, append-assoc front tail v, weights-append k front (tail ++ v), q, lt-ltb cap u h) refl;
   }
 
-passed : {k : Kind} {w : List ℕ} {cap : ℕ} {l : List ℕ} {to : ℕ} {r : Piece} {l′ : List ℕ}
+passed : {k : Encoding} {w : List ℕ} {cap : ℕ} {l : List ℕ} {to : ℕ} {r : Piece} {l′ : List ℕ}
     → 0 < r .size → PieceMet k w cap l to r l′ → NextMet k w cap l to r l′
 passed h x = record { piece = x; kept = λ z. absurd (omega arith); stops = λ z v. absurd (omega arith) }
 
 -- r says whether a pair stands there
-module _ (k : Kind) (m : List ℕ) (p n : ℕ) (l : p + n ≤ length m) (r : Bool) (x : r ≡ pairIn k (window m p n)) (cap : ℕ)
+module _ (k : Encoding) (m : List ℕ) (p n : ℕ) (l : p + n ≤ length m) (r : Bool) (x : r ≡ pairIn k (window m p n)) (cap : ℕ)
     (out : List ℕ) (to : ℕ) where
   module _ (t : r ≡ true) where
     first : (k ≡ Utf8) × (6 ≤ length (window m p n))
@@ -167,7 +167,7 @@ module _ (k : Kind) (m : List ℕ) (p n : ℕ) (l : p + n ≤ length m) (r : Boo
 
 -- ---- what comes next from a cursor on
 module _
-    {k : Kind} {m : List ℕ} {c : Cursor} (g : Going k m c) (z : 0 < c .left)
+    {k : Encoding} {m : List ℕ} {c : Cursor} (g : Going k m c) (z : 0 < c .left)
     {cap : ℕ} (l : List ℕ) (to : ℕ) (l′ : List ℕ) where
   pub next-plain : c .plain ≡ true → c .units ≤ cap → l′ ≡ stored l to (bytesLeft m c)
       → NextMet k (bytesLeft m c) cap l to (leftOf c) l′

@@ -11,8 +11,8 @@ use lib.Dec.{eqb, eqb→eq}
 use Rattle.flow.specs.Steps.{Answer}
 use Rattle.flow.specs.Flow.{Done, Fault, stored}
 use Rattle.flow.specs.OverlayLaws.{stored-sets, stored-seam, length-stored}
-use Rattle.scalar.specs.declared.Kind.{Kind}
-use Rattle.scalar.specs.declared.Kind.the-variants.{Utf8, Binary}
+use Rattle.scalar.specs.declared.Encoding.{Encoding}
+use Rattle.scalar.specs.declared.Encoding.the-variants.{Utf8, Binary}
 use Rattle.texts.specs.declared.ChunkRead.the-variants as chunk
 use Rattle.text_writer.specs.declared.Cursor.{Cursor}
 use Rattle.text_writer.specs.declared.Piece.{Piece}
@@ -52,7 +52,7 @@ prefixed-content n cs (Fault x o) d = absurd d
 abbrev pub opening : (p h n b u : ℕ) → Bool → Cursor
 opening p h n b u a = record { here = p + h; left = n; units = u; last = a; plain = eqb n b }
 
-module _ (k : Kind) (m : List ℕ) (p : ℕ) where
+module _ (k : Encoding) (m : List ℕ) (p : ℕ) where
   chunk-going : (h n b u : ℕ) (a : Bool) → ChunkSays k m p (chunk.Chunk h n b u a)
       → (a ≡ false → IsDone (stringAt k m (p + h + n))) → Going k m (opening p h n b u a)
   chunk-going h n b u a s o = record {
@@ -91,7 +91,7 @@ moved c r = record {
   plain = c .plain;
 }
 
-module _ (k : Kind) (m : List ℕ) (c : Cursor) where
+module _ (k : Encoding) (m : List ℕ) (c : Cursor) where
   rest-end : c .left ≡ 0 → c .last ≡ true → rest k m c ≡ []
   unfolding rest
   rest-end z f = rw (z, f) refl
@@ -107,7 +107,7 @@ module _ (k : Kind) (m : List ℕ) (c : Cursor) where
 
 -- ---- a piece is passed
 module _
-    {k : Kind} {m : List ℕ} {c : Cursor} (g : Going k m c)
+    {k : Encoding} {m : List ℕ} {c : Cursor} (g : Going k m c)
     {cap : ℕ} {l : List ℕ} {to : ℕ} {r : Piece} {l′ : List ℕ} (x : PieceMet k (bytesLeft m c) cap l to r l′) where
   pub piece-inside : r .size ≤ c .left
   piece-inside = omega (arith, x .inside, window-length m (c .here) (c .left) (g .inside))
@@ -155,7 +155,7 @@ module _
 -- ---- from the cursor a on `front` is passed, and is in the list, where it fits. What fits cap units is that, and what
 -- fits of the rest
 pub record Copying
-    (k : Kind) (m : List ℕ) (a : Cursor) (cap : ℕ) (l : List ℕ) (to : ℕ)
+    (k : Encoding) (m : List ℕ) (a : Cursor) (cap : ℕ) (l : List ℕ) (to : ℕ)
     (c : Cursor) (bytes done : ℕ) (l′ : List ℕ)
     : Type 0 where
   pub front : List ℕ
@@ -168,7 +168,7 @@ pub record Copying
   pub same : length l′ ≡ length l
   pub holds : to + bytes ≤ length l → l′ ≡ stored l to front
 
-pub copying-start : (k : Kind) (m : List ℕ) (a : Cursor) (cap : ℕ) (l : List ℕ) (to : ℕ) → Going k m a
+pub copying-start : (k : Encoding) (m : List ℕ) (a : Cursor) (cap : ℕ) (l : List ℕ) (to : ℕ) → Going k m a
     → Copying k m a cap l to a 0 0 l
 copying-start k m a cap l to g =
     let e : cap - 0 ≡ cap = omega arith in
@@ -185,7 +185,7 @@ copying-start k m a cap l to g =
     }
 
 module _
-    {k : Kind} {m : List ℕ} {a : Cursor} {cap : ℕ} {l : List ℕ} {to : ℕ} {c : Cursor} {bytes done : ℕ} {l′ : List ℕ}
+    {k : Encoding} {m : List ℕ} {a : Cursor} {cap : ℕ} {l : List ℕ} {to : ℕ} {c : Cursor} {bytes done : ℕ} {l′ : List ℕ}
     (R : Copying k m a cap l to c bytes done l′) where
   -- the place after what is passed is a number
   pub copying-below : to + span cap (weights k (rest k m a)) < 2 ^ 64 → to + bytes < 2 ^ 64
@@ -263,7 +263,7 @@ module _
       }
 
 -- where cap is the content's units, that is all of it
-pub all-copied : {k : Kind} {m : List ℕ} {c : Cursor} {u : ℕ} {l : List ℕ} {to : ℕ} {r : Copied} {l′ : List ℕ}
+pub all-copied : {k : Encoding} {m : List ℕ} {c : Cursor} {u : ℕ} {l : List ℕ} {to : ℕ} {r : Copied} {l′ : List ℕ}
     → CopyMet k m c u l to r l′ → u ≡ units k (rest k m c) → (n : ℕ) → n ≡ length (rest k m c)
     → Copies k m c n l to l′ (r .next)
 all-copied {k} {m} {c} {u} {r = r} y e n d =
@@ -276,7 +276,7 @@ all-copied {k} {m} {c} {u} {r = r} y e n d =
 abbrev pub leftOf : Cursor → Piece
 leftOf c = record { size = c .left; bytes = c .left; units = c .units }
 
-module _ {k : Kind} {m : List ℕ} {c : Cursor} (g : Going k m c) (p : c .plain ≡ true) where
+module _ {k : Encoding} {m : List ℕ} {c : Cursor} (g : Going k m c) (p : c .plain ≡ true) where
   pub piece-plain : (cap : ℕ) → c .units ≤ cap → (l : List ℕ) (to : ℕ) (l′ : List ℕ) → l′ ≡ stored l to (bytesLeft m c)
       → PieceMet k (bytesLeft m c) cap l to (leftOf c) l′
   piece-plain cap h l to l′ d =
@@ -319,17 +319,17 @@ module _ {k : Kind} {m : List ℕ} {c : Cursor} (g : Going k m c) (p : c .plain 
         rw b at (copying-end R left-none f .copies)
 
 -- ---- bytes that weigh one each
-pub singles-few : (k : Kind) (m : List ℕ) (p most n : ℕ) → n ≡ singlesAt k m p most → n ≤ most
+pub singles-few : (k : Encoding) (m : List ℕ) (p most n : ℕ) → n ≡ singlesAt k m p most → n ≤ most
 unfolding singlesAt
 singles-few Utf8 m p most n e = few-are m p most e
 singles-few Binary m p most n e = omega arith
 
-singles-units : (k : Kind) (m : List ℕ) (p most n : ℕ) → p + n ≤ length m → n ≡ singlesAt k m p most
+singles-units : (k : Encoding) (m : List ℕ) (p most n : ℕ) → p + n ≤ length m → n ≡ singlesAt k m p most
     → units k (window m p n) ≡ n
 unfolding singlesAt
 singles-units k m p most n l e = singles k (window m p n) (single k e) ∙ window-length m p n l
   where
-    single : (k : Kind) → n ≡ singlesAt k m p most → (i : ℕ) → i < length (window m p n)
+    single : (k : Encoding) → n ≡ singlesAt k m p most → (i : ℕ) → i < length (window m p n)
         → weight k (getD (window m p n) i 0) ≡ 1
     single Utf8 e i j =
         let g : i < n = omega (arith, length-take n (drop p m)) in
@@ -340,7 +340,7 @@ bytes-same : (w : List ℕ) → length (decoded Binary w) ≡ length w
 bytes-same [] = refl
 bytes-same (b ∷ w) = omega (arith, bytes-same w)
 
-singles-decoded : (k : Kind) (m : List ℕ) (p left most n : ℕ) → n ≤ left → n ≡ singlesAt k m p most
+singles-decoded : (k : Encoding) (m : List ℕ) (p left most n : ℕ) → n ≤ left → n ≡ singlesAt k m p most
     → decoded k (window m p left) ≡ window m p n ++ decoded k (drop n (window m p left))
 unfolding singlesAt
 singles-decoded Binary m p left most n h e =
@@ -357,7 +357,7 @@ singles-decoded Utf8 m p left most n h e =
         omega (arith, ascii-are m p most e .below i g)
 
 module _
-    {k : Kind} {m : List ℕ} {c : Cursor} (g : Going k m c)
+    {k : Encoding} {m : List ℕ} {c : Cursor} (g : Going k m c)
     {most n : ℕ} (cap : ℕ) (e : n ≡ singlesAt k m (c .here) most) (d : most ≡ min (c .left) cap) where
   pub singles-inside : c .here + n ≤ length m
   singles-inside = omega (arith, g .inside, singles-few k m (c .here) most n e)

@@ -8,10 +8,11 @@ use native.Mathlib.Omega.{arith}
 use borrow.Author.Tests.{lt-ltb, le-ltb, eq-eqb}
 use Rattle.wire.specs.BigEndian.{be, high, wider}
 use Rattle.scalar.specs.declared.Rule.the-variants.{Plain}
-use Rattle.scalar.specs.declared.Kind.{Kind}
+use Rattle.scalar.specs.declared.Encoding.{Encoding}
 use Rattle.text_writer.specs.declared.Heads.{Heads}
-use Rattle.scalar.specs.Scalars.{value, Form, form, shortest, partHead, lastHeads, shortestHead}
-use Rattle.scalar.specs.Guesses.{guess}
+use Rattle.scalar.specs.Scalars.{Form, form, shortest, partHead, lastHeads, shortestHead}
+use Rattle.scalar.specs.RuleLaws.{value-plain, guess-plain}
+use Rattle.scalar.specs.FormLaws.{shortest-first}
 use Rattle.scalar.specs.TextShort.{orEmpty}
 use Rattle.text_writer.specs.Writing.{HeadsOf}
 
@@ -27,22 +28,21 @@ be-under (suc k) a u l =
 module _ (a codes k u : ℕ) (ws : List Form) where
   held-here : high k u < codes → a + codes ≤ 256
       → shortestHead (form a codes k Plain ∷ ws) u ≡ be (suc k) (wider k a + u)
-  unfolding shortest guess value
   held-here l h = ap orEmpty found
     where
       found : shortest (form a codes k Plain ∷ ws) u ≡ some (be (suc k) (wider k a + u))
       found =
-          rw (lt-ltb (high k u) codes l, eq-eqb u u refl)
+          shortest-first u (form a codes k Plain) ws
+          ∙ rw (guess-plain u, value-plain u, lt-ltb (high k u) codes l, eq-eqb u u refl)
           (ap {B = Option (List ℕ)} some (sym (be-under k a u (omega arith))))
 
   held-later : codes ≤ high k u → shortestHead (form a codes k Plain ∷ ws) u ≡ shortestHead ws u
-  unfolding shortest guess value
   held-later l = ap orEmpty past
     where
       past : shortest (form a codes k Plain ∷ ws) u ≡ shortest ws u
-      past = rw (le-ltb (high k u) codes l) refl
+      past = shortest-first u (form a codes k Plain) ws ∙ rw (guess-plain u, le-ltb (high k u) codes l) refl
 
-module _ {k : Kind} {r : Heads} (h : HeadsOf k r) (u : ℕ) where
+module _ {k : Encoding} {r : Heads} (h : HeadsOf k r) (u : ℕ) where
   pub last-one : u < r .few → shortestHead (lastHeads k) u ≡ be 1 (r .one + u)
   last-one l = rw (h .last) (held-here (r .one) (r .few) 0 u _ l (h .bytes .0))
 

@@ -11,7 +11,7 @@ use mir.Val.{Fits}
 use borrow.Author.Tests.{lt-ltb, le-ltb}
 use Rattle.flow.specs.Flow.{stored}
 use Rattle.flow.specs.OverlayLaws.{stored-sets, stored-seam, length-stored}
-use Rattle.scalar.specs.declared.Kind.{Kind}
+use Rattle.scalar.specs.declared.Encoding.{Encoding}
 use Rattle.text_writer.specs.declared.Cursor.{Cursor}
 use Rattle.text_writer.specs.declared.Copied.{Copied}
 use Rattle.scalar.specs.Scalars.{partHead, lastHeads, units, span, shortestHead, spelled, stringAt}
@@ -22,7 +22,7 @@ use Rattle.text_writer.specs.Cursor.{moved, leftOf, all-copied, plain-in
 use Rattle.text_writer.specs.Writing.{contentOf, rest, Going, Spans, Copyable, Copies, CopyMet, laid, Item, Lays}
 
 -- ---- the form of a content: of one that is longer than a chunk, and of another
-module _ (k : Kind) (cs : List ℕ) where
+module _ (k : Encoding) (cs : List ℕ) where
   pub spelled-long : 65535 < units k cs → (f : ℕ) → length cs < f → (n : ℕ) → n ≡ span 65535 (weights k cs)
       → (g : ℕ) × (f ≡ suc g)
       × (spelled k f cs
@@ -45,7 +45,7 @@ module _ (k : Kind) (cs : List ℕ) where
 -- ---- from `to` on: `front` is stored, and with the form of the rest after it is the form of the string at p. The rest
 -- has u units and n bytes
 pub record Laying
-    (k : Kind) (m : List ℕ) (p : ℕ) (l : List ℕ) (to : ℕ)
+    (k : Encoding) (m : List ℕ) (p : ℕ) (l : List ℕ) (to : ℕ)
     (c : Cursor) (u n place : ℕ) (l′ : List ℕ)
     : Type 0 where
   pub going : Going k m c
@@ -59,7 +59,7 @@ pub record Laying
   pub same : length l′ ≡ length l
   pub holds : to + length (laid k m p) ≤ length l → l′ ≡ stored l to front
 
-module _ (k : Kind) (m : List ℕ) (p : ℕ) (c : Cursor) (u b : ℕ) (i : Item k m p c u b) where
+module _ (k : Encoding) (m : List ℕ) (p : ℕ) (c : Cursor) (u b : ℕ) (i : Item k m p c u b) where
   pub laying-start : (to : ℕ) (l : List ℕ) → Laying k m p l to c u b to l
   unfolding laid
   laying-start to l = record {
@@ -101,7 +101,7 @@ stored-both l to front h s tail l₁ l₂ r e d =
     d ∙ rw e (z ∙ stored-seam l to front (h ++ s) (omega (arith, length-append front (h ++ s))))
 
 module _
-    {k : Kind} {m : List ℕ} {p : ℕ} {l : List ℕ} {to : ℕ} {c : Cursor} {u n place : ℕ} {l′ : List ℕ}
+    {k : Encoding} {m : List ℕ} {p : ℕ} {l : List ℕ} {to : ℕ} {c : Cursor} {u n place : ℕ} {l′ : List ℕ}
     (R : Laying k m p l to c u n place l′) where
   span-few : (cap : ℕ) → span cap (weights k (rest k m c)) ≤ n
   span-few cap = omega (arith, R .bytes-are, span-fits cap (weights k (rest k m c)) .0, weights-length k (rest k m c))
@@ -251,7 +251,7 @@ module _
 
 -- ---- a form of one chunk: a head of i bytes, and the content
 module _
-    {k : Kind} {m : List ℕ} {p : ℕ} {c : Cursor} {u b : ℕ} (x : Item k m p c u b) (h : u ≤ 65535)
+    {k : Encoding} {m : List ℕ} {p : ℕ} {c : Cursor} {u b : ℕ} (x : Item k m p c u b) (h : u ≤ 65535)
     (i : ℕ) (j : i ≡ length (shortestHead (lastHeads k) u)) (to : ℕ) where
   module _ (few : to + length (laid k m p) < 2 ^ 64) where
     pub one-start : Fits w64 (to + i)

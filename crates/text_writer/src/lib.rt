@@ -1,5 +1,5 @@
 // The shortest form of a text or byte string at a place of a source: its length, and the form stored in a lent slice.
-use scalar::Kind;
+use scalar::Encoding;
 use scalar::Written;
 use texts::ChunkRead;
 use texts::StringRead;
@@ -8,7 +8,7 @@ ghost use mathlib.Core.List.{[], _∷_};
 ghost use Prim.Native.Nat.{_+_, _^_, _≤_, _<_, min};
 ghost use lib.ListN.{length, getD, take, drop};
 ghost use Rattle.flow.specs.Flow.{stored};
-ghost use Rattle.scalar.specs.declared.Kind.the-variants as Kind;
+ghost use Rattle.scalar.specs.declared.Encoding.the-variants as Encoding;
 ghost use Rattle.scalar.specs.Scalars.{weight as weightOf, partHead, lastHeads, shortestHead};
 ghost use Rattle.scalar.specs.Decoded.{pairIn};
 ghost use Rattle.scalar.specs.Answers.{report, reportOf, outputOf, lengthOf, itemForm, sizedForm};
@@ -61,12 +61,12 @@ pub(crate) enum Found {
 }
 
 // The units that a byte of a content adds to its length.
-fn weight(kind: Kind, b: u8) -> usize
+fn weight(kind: Encoding, b: u8) -> usize
     ensures { λ r. ⌜ r ≡ weightOf kind b ⌝ }
 {
     match kind {
-        Kind::Binary => 1,
-        Kind::Utf8 => match b {
+        Encoding::Binary => 1,
+        Encoding::Utf8 => match b {
             0x80..=0xbf => 0,
             0xf0..=0xff => 2,
             _ => 1,
@@ -82,7 +82,7 @@ fn least(a: usize, b: usize) -> usize
 }
 
 // The content of the chunk at `at`.
-fn open(kind: Kind, source: &[u8], at: usize) -> Cursor
+fn open(kind: Encoding, source: &[u8], at: usize) -> Cursor
     requires { ⌜ at ≤ length (now source) ⌝ }
     ensures { λ r. ⌜ Opens kind (now (source .entry)) at r ⌝ }
 {
@@ -115,19 +115,19 @@ fn open(kind: Kind, source: &[u8], at: usize) -> Cursor
 
 // How many bytes of the source from `at` on, up to `most`, weigh one unit each: those of ASCII, or any of a byte
 // string.
-fn singles(kind: Kind, source: &[u8], at: usize, most: usize) -> usize
+fn singles(kind: Encoding, source: &[u8], at: usize, most: usize) -> usize
     ensures { λ r. ⌜ r ≡ singlesAt kind (now (source .entry)) at most ⌝ }
 {
     match kind {
-        Kind::Utf8 => texts::ascii(source, at, most),
-        Kind::Binary => most,
+        Encoding::Utf8 => texts::ascii(source, at, most),
+        Encoding::Binary => most,
     }
 }
 
 // Whether a pair of halves begins the bytes of a text that are left, as far as its first two bytes say.
 fn pair_here(source: &[u8], here: usize, left: usize) -> bool
     requires { ⌜ here + left ≤ length (now source) ⌝ }
-    ensures { λ r. ⌜ r ≡ pairIn Kind.Utf8 (window (now (source .entry)) here left) ⌝ }
+    ensures { λ r. ⌜ r ≡ pairIn Encoding.Utf8 (window (now (source .entry)) here left) ⌝ }
 {
     if left < 6 {
         return false;
@@ -143,13 +143,13 @@ fn pair_here(source: &[u8], here: usize, left: usize) -> bool
 }
 
 // The same in a chunk of this kind.
-fn pair_at(kind: Kind, source: &[u8], here: usize, left: usize) -> bool
+fn pair_at(kind: Encoding, source: &[u8], here: usize, left: usize) -> bool
     requires { ⌜ here + left ≤ length (now source) ⌝ }
     ensures { λ r. ⌜ r ≡ pairIn kind (window (now (source .entry)) here left) ⌝ }
 {
     match kind {
-        Kind::Utf8 => pair_here(source, here, left),
-        Kind::Binary => false,
+        Encoding::Utf8 => pair_here(source, here, left),
+        Encoding::Binary => false,
     }
 }
 
@@ -256,7 +256,14 @@ fn put_pair(source: &[u8], here: usize, out: &mut [u8], to: usize)
 
 // The pair of halves at the cursor, or else the byte there, in `out` from `to` on, where it fits; neither, where it has
 // more than `cap` units.
-fn put_piece(kind: Kind, source: &[u8], c: Cursor, cap: usize, out: &mut [u8], to: usize) -> Piece
+fn put_piece(
+    kind: Encoding,
+    source: &[u8],
+    c: Cursor,
+    cap: usize,
+    out: &mut [u8],
+    to: usize,
+) -> Piece
     requires { ⌜ Going kind (now source) c × (0 < c .left) ⌝ }
     ensures { λ r. ⌜
         NextMet kind (bytesLeft (now (source .entry)) c) cap (now (out .entry)) to r (now (out .exit))
@@ -297,7 +304,14 @@ fn put_piece(kind: Kind, source: &[u8], c: Cursor, cap: usize, out: &mut [u8], t
 
 // What comes next from the cursor on, in `out` from `to` on, where it fits: all that is left of the chunk, where that
 // stands as it is and has at most `cap` units; else bytes that weigh one unit each; else a piece.
-fn put_next(kind: Kind, source: &[u8], c: Cursor, cap: usize, out: &mut [u8], to: usize) -> Piece
+fn put_next(
+    kind: Encoding,
+    source: &[u8],
+    c: Cursor,
+    cap: usize,
+    out: &mut [u8],
+    to: usize,
+) -> Piece
     requires { ⌜ Going kind (now source) c × (0 < c .left) ⌝ }
     ensures { λ r. ⌜
         NextMet kind (bytesLeft (now (source .entry)) c) cap (now (out .entry)) to r (now (out .exit))
@@ -330,7 +344,14 @@ fn put_next(kind: Kind, source: &[u8], c: Cursor, cap: usize, out: &mut [u8], to
 }
 
 // As many characters of the content from the cursor on as fit `cap` units, in `out` from `to` on, where they fit.
-fn copy(kind: Kind, source: &[u8], from: Cursor, cap: usize, out: &mut [u8], to: usize) -> Copied
+fn copy(
+    kind: Encoding,
+    source: &[u8],
+    from: Cursor,
+    cap: usize,
+    out: &mut [u8],
+    to: usize,
+) -> Copied
     requires { ⌜ Copyable kind (now source) from cap to ⌝ }
     ensures { λ r. ⌜
         CopyMet kind (now (source .entry)) from cap (now (out .entry)) to r (now (out .exit))
@@ -369,18 +390,18 @@ fn copy(kind: Kind, source: &[u8], from: Cursor, cap: usize, out: &mut [u8], to:
 }
 
 // The heads of this kind of chunks.
-fn heads_of(kind: Kind) -> Heads
+fn heads_of(kind: Encoding) -> Heads
     ensures { λ r. ⌜ HeadsOf kind r ⌝ }
 {
     match kind {
-        Kind::Utf8 => Heads {
+        Encoding::Utf8 => Heads {
             one: 0x00,
             few: 32,
             two: 0x30,
             three: 0x53,
             part: 0x52,
         },
-        Kind::Binary => Heads {
+        Encoding::Binary => Heads {
             one: 0x20,
             few: 16,
             two: 0x34,
@@ -391,7 +412,7 @@ fn heads_of(kind: Kind) -> Heads
 }
 
 // The head of a last chunk of so many units, in `out` at `to`, where it fits. How many bytes it takes.
-fn put_last_head(kind: Kind, units: usize, out: &mut [u8], to: usize) -> usize
+fn put_last_head(kind: Encoding, units: usize, out: &mut [u8], to: usize) -> usize
     requires { ⌜ units < 65536 ⌝ }
     ensures { λ r. ⌜
         (r ≡ length (shortestHead (lastHeads kind) units))
@@ -413,7 +434,7 @@ fn put_last_head(kind: Kind, units: usize, out: &mut [u8], to: usize) -> usize
 }
 
 // The head of a chunk that is not the last: three bytes.
-fn put_part_head(kind: Kind, units: usize, out: &mut [u8], to: usize)
+fn put_part_head(kind: Encoding, units: usize, out: &mut [u8], to: usize)
     requires { ⌜ units < 65536 ⌝ }
     ensures { λ r. ⌜
         (3 ≡ length (shortestHead (partHead kind ∷ []) units))
@@ -425,7 +446,7 @@ fn put_part_head(kind: Kind, units: usize, out: &mut [u8], to: usize)
 }
 
 // How many bytes the head of a last chunk of so many units takes.
-fn last_head_size(kind: Kind, units: usize) -> usize
+fn last_head_size(kind: Encoding, units: usize) -> usize
     requires { ⌜ units < 65536 ⌝ }
     ensures { λ r. ⌜ r ≡ length (shortestHead (lastHeads kind) units) ⌝ }
 {
@@ -442,7 +463,7 @@ fn last_head_size(kind: Kind, units: usize) -> usize
 // The shortest form of the string at `at`, of so many units and bytes, in `out` from `to` on, where it fits. How many
 // bytes it takes. How much a part takes is found by copying it to nowhere, since its head comes first.
 fn lay(
-    kind: Kind,
+    kind: Encoding,
     source: &[u8],
     at: usize,
     first: Cursor,
@@ -480,7 +501,7 @@ fn lay(
 // The string at `at`, whose content begins at the cursor: the chunks up to `from` are read, of u units and b bytes, and
 // more follow.
 fn find_more(
-    kind: Kind,
+    kind: Encoding,
     source: &[u8],
     at: usize,
     first: Cursor,
@@ -509,7 +530,7 @@ fn find_more(
 }
 
 // The string at `at`: where its content begins, and its sizes.
-fn find(kind: Kind, source: &[u8], at: usize) -> Found
+fn find(kind: Encoding, source: &[u8], at: usize) -> Found
     ensures { λ r. ⌜ FoundMet kind (now (source .entry)) at r ⌝ }
 {
     if source.len() <= at {
@@ -548,7 +569,7 @@ fn find(kind: Kind, source: &[u8], at: usize) -> Found
 
 // The same as lay, straight where the form has one chunk.
 fn store(
-    kind: Kind,
+    kind: Encoding,
     source: &[u8],
     at: usize,
     first: Cursor,
@@ -580,7 +601,7 @@ fn store(
 
 // How many bytes the shortest form of the string at `at` takes. It is laid only where it has more than one chunk.
 fn form_size(
-    kind: Kind,
+    kind: Encoding,
     source: &[u8],
     at: usize,
     first: Cursor,
@@ -599,7 +620,7 @@ fn form_size(
 
 // The shortest form of the string found at `at`, in `out` from `to` on: stored whole or not at all.
 fn write_found(
-    kind: Kind,
+    kind: Encoding,
     source: &[u8],
     at: usize,
     first: Cursor,
@@ -627,7 +648,7 @@ fn write_found(
 }
 
 // How many bytes the shortest form of the string at `at` takes; 0 where none stands there.
-pub fn string_length(kind: Kind, source: &[u8], at: usize) -> usize
+pub fn string_length(kind: Encoding, source: &[u8], at: usize) -> usize
     ensures { λ r. ⌜ r ≡ lengthOf (itemForm kind (now (source .entry)) at) ⌝ }
 {
     match find(kind, source, at) {
@@ -641,14 +662,14 @@ pub fn string_length(kind: Kind, source: &[u8], at: usize) -> usize
 }
 
 // The shortest form of the string at the place `at` of the source, in `out` from `to` on: stored whole or not at all.
-pub fn write_string(kind: Kind, source: &[u8], at: usize, out: &mut [u8], to: usize) -> Written
+pub fn write_string(kind: Encoding, source: &[u8], at: usize, out: &mut [u8], to: usize) -> Written
     ensures { λ r. ⌜
         (report r ≡ reportOf (itemForm kind (now (source .entry)) at) (length (now (out .entry))) to)
         × (now (out .exit) ≡ outputOf (itemForm kind (now (source .entry)) at) (now (out .entry)) to)
         ⌝ }
 {
     match find(kind, source, at) {
-        Found::Nothing => Written::NotSuch,
+        Found::Nothing => Written::NoSuchForm,
         Found::There {
             first,
             units,
@@ -659,7 +680,7 @@ pub fn write_string(kind: Kind, source: &[u8], at: usize, out: &mut [u8], to: us
 
 // The same, if the string has so many units and bytes.
 pub fn write_sized(
-    kind: Kind,
+    kind: Encoding,
     source: &[u8],
     at: usize,
     units: usize,
@@ -673,17 +694,17 @@ pub fn write_sized(
         ⌝ }
 {
     match find(kind, source, at) {
-        Found::Nothing => Written::NotSuch,
+        Found::Nothing => Written::NoSuchForm,
         Found::There {
             first,
             units: u,
             bytes: b,
         } => {
             if u != units {
-                return Written::NotSuch;
+                return Written::NoSuchForm;
             }
             if b != bytes {
-                return Written::NotSuch;
+                return Written::NoSuchForm;
             }
             write_found(kind, source, at, first, u, b, out, to)
         }

@@ -11,34 +11,45 @@ use mir.Val.{Fits}
 use Rattle.flow.specs.Tests.{bytes-all}
 use Rattle.flow.specs.Steps.{Answer}
 use Rattle.flow.specs.Flow.{Done}
-use Rattle.scalar.specs.declared.Kind.{Kind}
-use Rattle.scalar.specs.declared.Kind.the-variants.{Utf8}
+use Rattle.scalar.specs.declared.Encoding.{Encoding}
+use Rattle.scalar.specs.declared.Encoding.the-variants.{Utf8}
 use Rattle.texts.specs.declared.HeadForm.the-variants.{Starts}
 use Rattle.texts.specs.declared.ChunkRead.the-variants.{Chunk}
-use Rattle.scalar.specs.Scalars.{partHead, lastHeads, characters}
+use Rattle.scalar.specs.Scalars.{characters}
 use Rattle.scalar.specs.Answers.{sized, measuredAt}
 use Rattle.texts.specs.Answers.{extentAt, headForm, chunked, withContent, chunkBy, chunkAt, ChunkMet}
-use Rattle.texts.specs.Ascii.{Ascii, ShortText, asciiAt, run-few, run-inside, run-ascii, few-are, inside-are, ascii-are}
+use Rattle.texts.specs.Ascii.{Ascii, ShortText, asciiAt, run-few, run-inside, run-ascii, few-are}
+use Rattle.texts.specs.Ascii.{inside-are, ascii-are}
 use Rattle.texts.specs.At.{basic, continued-none, characters-none, characters-next, body-there, string-there}
-use Rattle.texts.proofs.Strings.{Along, along-start, along-end, along-more, leads-at, head-at, starts, head-there, joining-start, joining-last}
+use Rattle.texts.proofs.Strings.{Along, along-start, along-end, along-more, leads-at, head-at, starts}
+use Rattle.texts.proofs.Strings.{head-there, joining-start, joining-last}
 
 -- ---- a loop over characters: what is left after them reads as the whole does, but for the bytes so far
-pub along-ascii : {whole : Answer ℕ} {m : List ℕ} {at p b : ℕ} (n r : ℕ) → Along whole (extentAt (characters n) m p) m at p b → r ≤ n → p + r ≤ length m → Ascii m p r
+pub along-ascii : {whole : Answer ℕ} {m : List ℕ} {at p b : ℕ} (n r : ℕ)
+    → Along whole (extentAt (characters n) m p) m at p b → r ≤ n → p + r ≤ length m → Ascii m p r
     → Along whole (extentAt (characters (n - r)) m (p + r)) m at (p + r) (b + r)
 along-ascii {p = p} {b = b} n zero R l h x = let e : n - 0 ≡ n = omega arith in rw (e, add-zero p, add-zero b) R
 along-ascii {whole} {m} {at} {p} {b = c} n (suc r) R l h x =
     let b : getD m p 0 < 0x80 = rw (add-zero p) at (x .below 0 (omega arith)) in
-    let s = characters-next n m p (omega arith) (omega arith) 0 0 0 1 (basic (sym (leads-at 0 tt (omega arith) b refl))) (omega arith) 0 (sym (continued-none p 0 0 0 m (p + 1) (omega arith))) in
+    let s =
+    characters-next n m p (omega arith) (omega arith) 0 0 0 1 (basic (sym (leads-at 0 tt (omega arith) b refl)))
+    (omega arith) 0 (sym (continued-none p 0 0 0 m (p + 1) (omega arith))) in
     let d : n - 1 - r ≡ n - suc r = omega arith in
     let e : p + 1 + r ≡ p + suc r = omega arith in
     let f : c + 1 + r ≡ c + suc r = omega arith in
-    rw (d, e, f) at (along-ascii (n - 1) r (along-more R 1 1 (extentAt (characters (n - 1)) m (p + 1)) s (omega arith) (omega arith)) (omega arith) (omega arith) rest)
+    rw (d, e, f) at
+    (along-ascii (n - 1) r
+    (along-more R 1 1 (extentAt (characters (n - 1)) m (p + 1)) s (omega arith) (omega arith)) (omega arith)
+    (omega arith) rest)
   where
     rest : Ascii m (p + 1) r
-    rest = record { below = λ i k. let e : p + suc i ≡ p + 1 + i = omega arith in rw e at (x .below (suc i) (omega arith)) }
+    rest =
+        record
+        { below = λ i k. let e : p + suc i ≡ p + 1 + i = omega arith in rw e at (x .below (suc i) (omega arith)) }
 
 -- a run of them, up to the units that are left; and whole steps of a run
-pub along-run : {whole : Answer ℕ} {m : List ℕ} {at p b r : ℕ} (n : ℕ) → Along whole (extentAt (characters n) m p) m at p b → r ≡ asciiAt m p n
+pub along-run : {whole : Answer ℕ} {m : List ℕ} {at p b r : ℕ} (n : ℕ)
+    → Along whole (extentAt (characters n) m p) m at p b → r ≡ asciiAt m p n
     → Along whole (extentAt (characters (n - r)) m (p + r)) m at (p + r) (b + r)
 along-run {r = r} n R e = along-ascii n r R (few-are _ _ _ e) (inside-are _ _ _ e (R .inside)) (ascii-are _ _ _ e)
 
@@ -47,7 +58,11 @@ module _ (m : List ℕ) (p n : ℕ) (l : p ≤ length m) {r : ℕ} (e : r ≡ as
   steps-few = (omega (arith, run-few m p n), omega (arith, run-inside m p n l))
 
   pub along-steps : Along (extentAt (characters n) m p) (extentAt (characters (n - r)) m (p + r)) m p (p + r) r
-  along-steps = let z : 0 + r ≡ r = omega arith in rw z at (along-ascii n r (along-start (extentAt (characters n) m p) m p l) (steps-few .0) (steps-few .1) (run-ascii m p n r (omega arith)))
+  along-steps =
+      let z : 0 + r ≡ r = omega arith in
+      rw z at
+      (along-ascii n r (along-start (extentAt (characters n) m p) m p l) (steps-few .0) (steps-few .1)
+      (run-ascii m p n r (omega arith)))
 
 -- ---- a short text: the byte at p counts the n ASCII bytes after it
 module _ (m : List ℕ) (p n : ℕ) (l : p + 1 + n ≤ length m) (x : Ascii m (p + 1) n) where
@@ -55,17 +70,21 @@ module _ (m : List ℕ) (p n : ℕ) (l : p + 1 + n ≤ length m) (x : Ascii m (p
   ascii-extent =
       let e : p + 1 + n - (p + 1) ≡ n = omega arith in
       let d : 0 + n ≡ n = omega arith in
-      rw (e, d) at (along-end (along-ascii n n (along-start (extentAt (characters n) m (p + 1)) m (p + 1) (omega arith)) (omega arith) l x) (characters-none (n - n) m (p + 1 + n) (omega arith)))
+      rw (e, d) at
+      (along-end
+      (along-ascii n n (along-start (extentAt (characters n) m (p + 1)) m (p + 1) (omega arith)) (omega arith) l x)
+      (characters-none (n - n) m (p + 1 + n) (omega arith)))
 
   short-head : n ≡ getD m p 0 → n < 0x20 → headForm Utf8 (getD m p 0) ≡ Starts 0 n true
-  unfolding partHead lastHeads
   short-head e h = sym (head-at Utf8 1 tt (omega arith) (omega arith) (starts (omega arith)))
 
   short-is : n ≡ getD m p 0 → n < 0x20 → Chunk 1 n n n true ≡ chunkAt Utf8 m p
   unfolding chunkAt
   short-is e h =
       ap (withContent 1 n true) ascii-extent
-      ∙ ap (chunkBy Utf8 m p) (head-there Utf8 m p (omega arith) (headForm Utf8 (getD m p 0)) refl 0 n true (short-head e h) (omega arith) n refl .is)
+      ∙ ap (chunkBy Utf8 m p)
+      (head-there Utf8 m p (omega arith) (headForm Utf8 (getD m p 0)) refl 0 n true (short-head e h)
+      (omega arith) n refl .is)
 
   short-there : ((i : ℕ) → Fits w8 (getD m i 0)) → n ≡ getD m p 0 → n < 0x20 → ChunkMet Utf8 m p (Chunk 1 n n n true)
   short-there bytes e h =
@@ -73,7 +92,8 @@ module _ (m : List ℕ) (p n : ℕ) (l : p + 1 + n ≤ length m) (x : Ascii m (p
       record {
         is = short-is e h;
         says = (
-          string-there Utf8 m p (omega arith) 0 n true (short-head e h) (omega arith) n refl ∙ ap (chunked Utf8 m p 1 true) (z .0),
+          string-there Utf8 m p (omega arith) 0 n true (short-head e h) (omega arith) n refl
+              ∙ ap (chunked Utf8 m p 1 true) (z .0),
           omega arith,
           omega arith,
           z .2,
@@ -87,9 +107,10 @@ module _ (m : List ℕ) (p s : ℕ) (bytes : (i : ℕ) → Fits w8 (getD m i 0))
   short-chunk : ChunkMet Utf8 m p (Chunk 1 (s - 1) (s - 1) (s - 1) true)
   short-chunk =
       let h = f z in
-      short-there m p (s - 1) (omega (arith, h .inside)) (h .ascii) bytes (omega (arith, h .counted)) (omega (arith, h .short))
+      short-there m p (s - 1) (omega (arith, h .inside)) (h .ascii) bytes (omega (arith, h .counted))
+      (omega (arith, h .short))
 
-  pub chunk-short : (k : Kind) → k ≡ Utf8 → ChunkMet k m p (Chunk 1 (s - 1) (s - 1) (s - 1) true)
+  pub chunk-short : (k : Encoding) → k ≡ Utf8 → ChunkMet k m p (Chunk 1 (s - 1) (s - 1) (s - 1) true)
   chunk-short k e = rw e short-chunk
 
   -- s: its bytes in all

@@ -11,7 +11,7 @@ use Rattle.flow.specs.Steps.{Answer, renamed}
 use Rattle.wire.specs.BigEndian.{joined}
 use Rattle.scalar.specs.declared.Begun.{Begun}
 use Rattle.scalar.specs.declared.Begun.the-variants as begun
-use Rattle.scalar.specs.declared.Kind.{Kind}
+use Rattle.scalar.specs.declared.Encoding.{Encoding}
 use Rattle.texts.specs.declared.Extent.{Extent}
 use Rattle.texts.specs.declared.Extent.the-variants as extent
 use Rattle.texts.specs.declared.CharRead.{CharRead}
@@ -62,7 +62,7 @@ abbrev pub lastForm : Begun → HeadForm
 lastForm (begun.Starts k u r) = Starts k u true
 lastForm begun.NoForm = NoHead
 
-unfoldable pub headForm : Kind → ℕ → HeadForm
+unfoldable pub headForm : Encoding → ℕ → HeadForm
 headForm k b = pick (inside (partHead k) b) (Starts 2 0 false) (lastForm (formAt (lastHeads k) b))
 
 -- so many bytes before it, of which cs are content
@@ -71,7 +71,7 @@ prefixed n cs (Done m ds es c) = Done (n + m) (cs ++ ds) es c
 prefixed n cs (Fault x o) = Fault x o
 
 -- a chunk at p, by the bytes of its head and what is read of its content: the last, or one before others
-abbrev pub chunked : Kind → List ℕ → ℕ → ℕ → Bool → Answer (List ℕ) → Answer (List ℕ)
+abbrev pub chunked : Encoding → List ℕ → ℕ → ℕ → Bool → Answer (List ℕ) → Answer (List ℕ)
 chunked k m p h true (Done n cs es c) = Done (h + n) cs [] tt
 chunked k m p h false (Done n cs es c) = prefixed (h + n) cs (stringAt k m (p + (h + n)))
 chunked k m p h l (Fault x o) = Fault x o
@@ -82,17 +82,17 @@ headBy m p (Starts j u l) =
     pick (leb (length m - p) j) (head.Refused cut (length m)) (head.Head (j + 1) (joined u (take j (drop (p + 1) m))) l)
 headBy m p NoHead = head.Refused wrong-byte p
 
-unfoldable pub headAt : Kind → List ℕ → ℕ → HeadRead
+unfoldable pub headAt : Encoding → List ℕ → ℕ → HeadRead
 headAt k m p = pick (leb (length m) p) (head.Refused cut (length m)) (headBy m p (headForm k (getD m p 0)))
 
 -- the same by the string that stands there
-abbrev pub HeadSays : Kind → List ℕ → ℕ → HeadRead → Type 0
+abbrev pub HeadSays : Encoding → List ℕ → ℕ → HeadRead → Type 0
 HeadSays k m p (head.Head h u l) =
     (stringAt k m p ≡ chunked k m p h l (body k u tt (p + h) (drop (p + h) m)))
     × (0 < h) × (p + h ≤ length m)
 HeadSays k m p (head.Refused x o) = stringAt k m p ≡ Fault x o
 
-pub record HeadMet (k : Kind) (m : List ℕ) (p : ℕ) (r : HeadRead) : Type 0 where
+pub record HeadMet (k : Encoding) (m : List ℕ) (p : ℕ) (r : HeadRead) : Type 0 where
   pub is : r ≡ headAt k m p
   pub says : HeadSays k m p r
 
@@ -101,15 +101,15 @@ abbrev pub withContent : ℕ → ℕ → Bool → Answer ℕ → ChunkRead
 withContent h u l (Done n b es c) = chunk.Chunk h n b u l
 withContent h u l (Fault x o) = chunk.Refused x o
 
-abbrev pub chunkBy : Kind → List ℕ → ℕ → HeadRead → ChunkRead
+abbrev pub chunkBy : Encoding → List ℕ → ℕ → HeadRead → ChunkRead
 chunkBy k m p (head.Head h u l) = withContent h u l (extentAt (body k u) m (p + h))
 chunkBy k m p (head.Refused x o) = chunk.Refused x o
 
-unfoldable pub chunkAt : Kind → List ℕ → ℕ → ChunkRead
+unfoldable pub chunkAt : Encoding → List ℕ → ℕ → ChunkRead
 chunkAt k m p = chunkBy k m p (headAt k m p)
 
 -- the same by the string that stands there: the content, of b bytes, is what the n bytes after the head are decoded to
-abbrev pub ChunkSays : Kind → List ℕ → ℕ → ChunkRead → Type 0
+abbrev pub ChunkSays : Encoding → List ℕ → ℕ → ChunkRead → Type 0
 ChunkSays k m p (chunk.Chunk h n b u l) =
     (stringAt k m p ≡ chunked k m p h l (Done n (decoded k (take n (drop (p + h) m))) [] tt))
     × (0 < h) × (p + (h + n) ≤ length m) × (u ≤ b)
@@ -118,12 +118,12 @@ ChunkSays k m p (chunk.Chunk h n b u l) =
     × (b ≤ n)
 ChunkSays k m p (chunk.Refused x o) = stringAt k m p ≡ Fault x o
 
-pub record ChunkMet (k : Kind) (m : List ℕ) (p : ℕ) (r : ChunkRead) : Type 0 where
+pub record ChunkMet (k : Encoding) (m : List ℕ) (p : ℕ) (r : ChunkRead) : Type 0 where
   pub is : r ≡ chunkAt k m p
   pub says : ChunkSays k m p r
 
 -- the chunks before `here` are read: what is left reads as the whole does, but for the content and the bytes so far
-pub record Joining (k : Kind) (m : List ℕ) (at here total bytes : ℕ) : Type 0 where
+pub record Joining (k : Encoding) (m : List ℕ) (at here total bytes : ℕ) : Type 0 where
   pub front : List ℕ
   pub says : prefixed (here - at) front (stringAt k m here) ≡ stringAt k m at
   pub units-are : units k front ≡ total

@@ -4,7 +4,8 @@ use mathlib.Core.Bool.{Bool, true, false, cond}
 use mathlib.Core.Logic.{_↔_}
 use mathlib.Core.List.{List, [], _∷_}
 use Prim.Native.Nat.{ℕ, zero, suc, _+_, _-_, _*_, _/_, _%_, _^_, _≤_, _<_}
-use native.Mathlib.Nat.{add-zero, add-mul, one-mul, zero-mod, mod-eq-of-lt, add-mod-right, div-add-mod', div-eq-of-lt-le}
+use native.Mathlib.Nat.{add-zero, add-mul, one-mul, zero-mod, mod-eq-of-lt, add-mod-right, div-add-mod'}
+use native.Mathlib.Nat.{div-eq-of-lt-le}
 use native.Mathlib.Omega.{arith}
 use lib.Bits.{bitAnd, and-block, and-high}
 use lib.Dec.{ltb, eqb, leb}

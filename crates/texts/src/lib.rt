@@ -1,6 +1,6 @@
 // Texts and byte strings: reading one at a place. The definitions are in scalar's specs/Scalars.antt.
 use scalar::CharLead;
-use scalar::Kind;
+use scalar::Encoding;
 use scalar::refusals::BYTE;
 use scalar::refusals::CUT;
 use scalar::refusals::UTF8;
@@ -10,7 +10,7 @@ ghost use mathlib.Core.Logic.{_↔_};
 ghost use Prim.Native.Nat.{ℕ, _+_, _-_, _*_, _/_, _^_, _≤_, _<_};
 ghost use lib.ListN.{length, getD, take, drop};
 ghost use Rattle.wire.specs.BigEndian.{joined};
-ghost use Rattle.scalar.specs.declared.Kind.the-variants as Kind;
+ghost use Rattle.scalar.specs.declared.Encoding.the-variants as Encoding;
 ghost use Rattle.scalar.specs.Scalars.{charLead, continued as continuedBy, characters as charactersOf, body as bodyOf};
 ghost use Rattle.texts.specs.Answers.{toldString, extentAt, toldExtent, CharMet, headForm, HeadMet, ChunkMet};
 ghost use Rattle.texts.specs.Answers.{Joining};
@@ -56,8 +56,8 @@ pub(crate) enum HeadRead {
     },
 }
 
-// A chunk: the bytes of its head and those after it, the bytes of its content, its units, and whether it is the last; or
-// a refusal.
+// A chunk: the bytes of its head and those after it, the bytes of its content, its units, and whether it is the last;
+// or a refusal.
 pub enum ChunkRead {
     Chunk {
         head: usize,
@@ -465,13 +465,13 @@ fn characters(message: &[u8], at: usize, units: usize) -> Extent
 }
 
 // The content of a chunk of so many units from `at` on. The bytes of a byte string are not looked at.
-fn body(kind: Kind, message: &[u8], at: usize, units: usize) -> Extent
+fn body(kind: Encoding, message: &[u8], at: usize, units: usize) -> Extent
     requires { ⌜ at ≤ length (now message) ⌝ }
     ensures { λ r. ⌜ toldExtent r ≡ extentAt (bodyOf kind units) (now (message .entry)) at ⌝ }
 {
     match kind {
-        Kind::Utf8 => characters(message, at, units),
-        Kind::Binary => {
+        Encoding::Utf8 => characters(message, at, units),
+        Encoding::Binary => {
             let len = message.len();
             if len - at < units {
                 Extent::Refused {
@@ -490,7 +490,7 @@ fn body(kind: Kind, message: &[u8], at: usize, units: usize) -> Extent
 
 // What the byte begins as the head of a text's chunk.
 fn text_head(b: u8) -> HeadForm
-    ensures { λ r. ⌜ r ≡ headForm Kind.Utf8 b ⌝ }
+    ensures { λ r. ⌜ r ≡ headForm Encoding.Utf8 b ⌝ }
 {
     let w = wire::wide(b);
     match b {
@@ -520,7 +520,7 @@ fn text_head(b: u8) -> HeadForm
 
 // What the byte begins as the head of a byte string's chunk.
 fn bytes_head(b: u8) -> HeadForm
-    ensures { λ r. ⌜ r ≡ headForm Kind.Binary b ⌝ }
+    ensures { λ r. ⌜ r ≡ headForm Encoding.Binary b ⌝ }
 {
     let w = wire::wide(b);
     match b {
@@ -549,12 +549,12 @@ fn bytes_head(b: u8) -> HeadForm
 }
 
 // What the byte begins as the head of a chunk of this kind.
-fn head_form(kind: Kind, b: u8) -> HeadForm
+fn head_form(kind: Encoding, b: u8) -> HeadForm
     ensures { λ r. ⌜ r ≡ headForm kind b ⌝ }
 {
     match kind {
-        Kind::Utf8 => text_head(b),
-        Kind::Binary => bytes_head(b),
+        Encoding::Utf8 => text_head(b),
+        Encoding::Binary => bytes_head(b),
     }
 }
 
@@ -574,7 +574,7 @@ fn head_units(message: &[u8], at: usize, more: usize, held: u64) -> u64
 }
 
 // The head of the chunk at `at`.
-fn head(kind: Kind, message: &[u8], at: usize) -> HeadRead
+fn head(kind: Encoding, message: &[u8], at: usize) -> HeadRead
     ensures { λ r. ⌜ HeadMet kind (now (message .entry)) at r ⌝ }
 {
     let len = message.len();
@@ -627,7 +627,8 @@ fn short_ascii(message: &[u8], at: usize, n: usize) -> bool
     n <= ascii_bytes(message, at, n)
 }
 
-// The bytes of the short text at `at` where all its characters are ASCII: of the byte that counts them, and theirs; or 0.
+// The bytes of the short text at `at` where all its characters are ASCII: of the byte that counts them, and theirs; or
+// 0.
 fn short_text(message: &[u8], at: usize) -> usize
     ensures { λ r. ⌜ (0 < r → ShortText (now (message .entry)) at r) ⌝ }
 {
@@ -649,7 +650,7 @@ fn short_text(message: &[u8], at: usize) -> usize
 }
 
 // The chunk at `at`, by its head and then its content.
-pub fn chunk(kind: Kind, message: &[u8], at: usize) -> ChunkRead
+pub fn chunk(kind: Encoding, message: &[u8], at: usize) -> ChunkRead
     ensures { λ r. ⌜ ChunkMet kind (now (message .entry)) at r ⌝ }
 {
     match head(kind, message, at) {
@@ -674,10 +675,10 @@ pub fn chunk(kind: Kind, message: &[u8], at: usize) -> ChunkRead
 }
 
 // The chunk at `at`. A short text of ASCII is tried first.
-pub fn first_chunk(kind: Kind, message: &[u8], at: usize) -> ChunkRead
+pub fn first_chunk(kind: Encoding, message: &[u8], at: usize) -> ChunkRead
     ensures { λ r. ⌜ ChunkMet kind (now (message .entry)) at r ⌝ }
 {
-    if let Kind::Utf8 = kind {
+    if let Encoding::Utf8 = kind {
         let s = short_text(message, at);
         if 0 < s {
             return ChunkRead::Chunk {
@@ -693,7 +694,7 @@ pub fn first_chunk(kind: Kind, message: &[u8], at: usize) -> ChunkRead
 }
 
 // The text or byte string at `at`: the chunks up to `from` are read, of u units and b bytes, and more follow.
-fn read_on(kind: Kind, message: &[u8], at: usize, from: usize, u: usize, b: usize) -> StringRead
+fn read_on(kind: Encoding, message: &[u8], at: usize, from: usize, u: usize, b: usize) -> StringRead
     requires { ⌜ Joining kind (now message) at from u b ⌝ }
     ensures { λ r. ⌜ toldString r ≡ measuredAt kind (now (message .entry)) at ⌝ }
 {
@@ -728,7 +729,7 @@ fn read_on(kind: Kind, message: &[u8], at: usize, from: usize, u: usize, b: usiz
 }
 
 // The text or byte string at the place `at` of the message.
-pub fn read_string(kind: Kind, message: &[u8], at: usize) -> StringRead
+pub fn read_string(kind: Encoding, message: &[u8], at: usize) -> StringRead
     ensures { λ r. ⌜ toldString r ≡ measuredAt kind (now (message .entry)) at ⌝ }
 {
     let len = message.len();
@@ -743,7 +744,7 @@ pub fn read_string(kind: Kind, message: &[u8], at: usize) -> StringRead
 
 // The text at the place `at` of the message. A short one of ASCII is tried first.
 pub fn read_text(message: &[u8], at: usize) -> StringRead
-    ensures { λ r. ⌜ toldString r ≡ measuredAt Kind.Utf8 (now (message .entry)) at ⌝ }
+    ensures { λ r. ⌜ toldString r ≡ measuredAt Encoding.Utf8 (now (message .entry)) at ⌝ }
 {
     let s = short_text(message, at);
     if 0 < s {
@@ -753,5 +754,5 @@ pub fn read_text(message: &[u8], at: usize) -> StringRead
             size: s,
         };
     }
-    read_string(Kind::Utf8, message, at)
+    read_string(Encoding::Utf8, message, at)
 }

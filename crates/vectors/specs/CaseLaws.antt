@@ -19,9 +19,12 @@ both-true true a b e = (refl, eqb-true a b e)
 both-true false a b e = absurd (true-false (sym e))
 
 -- where a byte stands, the line has not ended
-pub stands-says : (line : List ℕ) (at b : ℕ) {t : Bool} → t ≡ ltb at (length line) && eqb (getD line at 0) b → t ≡ true → at < length line
-stands-says line at b h e = ltb-true at (length line) (both-true (ltb at (length line)) (getD line at 0) b (sym h ∙ e) .0)
+pub stands-says : (line : List ℕ) (at b : ℕ) {t : Bool} → t ≡ ltb at (length line) && eqb (getD line at 0) b → t ≡ true
+    → at < length line
+stands-says line at b h e =
+    ltb-true at (length line) (both-true (ltb at (length line)) (getD line at 0) b (sym h ∙ e) .0)
 
-pub decimal-says : (line : List ℕ) (at : ℕ) {r : Scanned} {value next : ℕ} → DecimalMet line at r → r ≡ Number value next → (at < next) × (next ≤ length line)
+pub decimal-says : (line : List ℕ) (at : ℕ) {r : Scanned} {value next : ℕ} → DecimalMet line at r
+    → r ≡ Number value next → (at < next) × (next ≤ length line)
 unfolding DecimalMet
 decimal-says line at m e = let w = subst (DecimalMet line at) e m in (omega (arith, w .0, w .2 .some), w .1)

@@ -46,7 +46,8 @@ DecimalMet line at (Number value next) = (at ≤ next) × (next ≤ length line)
 DecimalMet line at NoNumber = IsNone line at
 
 unfoldable pub TimesMet : List ℕ → ℕ → Scanned → Type 0
-TimesMet line at r = (getD line at 0 ≡ 0x2a → DecimalMet line (at + 1) r) × ((getD line at 0 ≡ 0x2a → ⊥) → r ≡ Number 1 at)
+TimesMet line at r =
+    (getD line at 0 ≡ 0x2a → DecimalMet line (at + 1) r) × ((getD line at 0 ≡ 0x2a → ⊥) → r ≡ Number 1 at)
 
 -- ---- lent bytes
 unfoldable pub fillingAt : ℕ → ℕ

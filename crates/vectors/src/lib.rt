@@ -1,12 +1,13 @@
-// What the programs share that run cases from standard input: lines, and the numbers and bytes in them; what lent bytes hold before a
-// call, whether they still do, and their checksum.
+// What the programs share that run cases from standard input: lines, and the numbers and bytes in them; what lent bytes
+// hold before a call, whether they still do, and their checksum.
 ghost use mathlib.Core.Path.{_≡_};
 ghost use mathlib.Core.Bool.{_&&_};
 ghost use Prim.Native.Nat.{_+_, _-_, _≤_, _<_, max};
 ghost use lib.Dec.{ltb, leb, eqb};
 ghost use lib.ListN.{length, getD};
 ghost use lib.Seq.{sets, slice};
-ghost use Rattle.vectors.specs.Cases.{digitOf, digitAt, fillingAt, sumWith, sumFrom, LineEnds, DecimalMet, TimesMet, Filled, UnchangedMet};
+ghost use Rattle.vectors.specs.Cases.{digitOf, digitAt, fillingAt, sumWith, sumFrom, LineEnds, DecimalMet};
+ghost use Rattle.vectors.specs.Cases.{TimesMet, Filled, UnchangedMet};
 ghost use Rattle.vectors.specs.Groups.{groupsOf, groupAt, tookBytes, repeated};
 
 // A number, and where the line goes on.
@@ -187,8 +188,8 @@ fn group(line: &[u8], at: usize, bytes: &mut [u8], from: usize) -> Step
     }
 }
 
-// The groups from `at` on, a space before each, from the first of the bytes on. A group is bytes, two hexadecimal digits each; `*` and a
-// number after them say how often they are there.
+// The groups from `at` on, a space before each, from the first of the bytes on. A group is bytes, two hexadecimal
+// digits each; `*` and a number after them say how often they are there.
 pub fn groups(line: &[u8], at: usize, bytes: &mut [u8]) -> Step
     ensures { λ r. ⌜ groupsOf (now (line .entry)) at (now (bytes .entry)) ≡ (r, now (bytes .exit)) ⌝ }
 {

@@ -61,7 +61,8 @@ pub joined-below : (t : List ℕ) (k a c : ℕ) → length t ≡ k → Bytes t �
 joined-below [] zero a c e b h = h
 joined-below [] (suc k) a c e b h = absurd (omega arith)
 joined-below (x ∷ t) zero a c e b h = absurd (omega arith)
-joined-below (x ∷ t) (suc k) a c e b h = rw (wider-more k c) at (joined-below t k (256 * a + x) (256 * c) (omega arith) (b .1) (omega arith))
+joined-below (x ∷ t) (suc k) a c e b h =
+    rw (wider-more k c) at (joined-below t k (256 * a + x) (256 * c) (omega arith) (b .1) (omega arith))
 
 -- ---- in 64 bits: only the lowest 64 of what stands before the bytes count
 pub joined-wraps : (s : List ℕ) (a b : ℕ) → a % 2 ^ 64 ≡ b % 2 ^ 64 → joined a s % 2 ^ 64 ≡ joined b s % 2 ^ 64
@@ -76,7 +77,8 @@ joined-none s i (suc n) a h = absurd (omega arith)
 pub joined-past : (s : List ℕ) (i n a : ℕ) → length s ≤ i → joined a (take n (drop i s)) ≡ a
 joined-past s i n a h = rw (drop-of-length-le s h, take-nil n)
 
-pub joined-next : (s : List ℕ) (i n a : ℕ) → i < length s → 0 < n → joined (256 * a + getD s i 0) (take (n - 1) (drop (i + 1) s)) ≡ joined a (take n (drop i s))
+pub joined-next : (s : List ℕ) (i n a : ℕ) → i < length s → 0 < n
+    → joined (256 * a + getD s i 0) (take (n - 1) (drop (i + 1) s)) ≡ joined a (take n (drop i s))
 joined-next s i zero a h p = absurd (omega arith)
 joined-next s i (suc n) a h p = let e : suc n - 1 ≡ n = omega arith in rw (drop-cons s i 0 h, add-one, e)
 
@@ -88,7 +90,8 @@ wider-up (suc k) c = omega (arith, wider-up k c)
 joined-few : (k : ℕ) (t : List ℕ) (a c : ℕ) → Bytes t → a < c → joined a (take k t) < wider k c
 joined-few zero t a c b h = h
 joined-few (suc k) [] a c b h = omega (arith, wider-up k c)
-joined-few (suc k) (x ∷ t) a c b h = rw (wider-more k c) at (joined-few k t (256 * a + x) (256 * c) (b .1) (omega arith))
+joined-few (suc k) (x ∷ t) a c b h =
+    rw (wider-more k c) at (joined-few k t (256 * a + x) (256 * c) (b .1) (omega arith))
 
 module _ (s : List ℕ) (i v : ℕ) (bytes : (i : ℕ) → Fits w8 (getD s i 0)) where
   few : (k : ℕ) → joined 0 (take k (drop i s)) < wider k 1
@@ -101,11 +104,14 @@ module _ (s : List ℕ) (i v : ℕ) (bytes : (i : ℕ) → Fits w8 (getD s i 0))
   eight-few e = let b = few 8 in omega (arith, e)
 
 -- ---- one byte more; four, and eight
-pub joined-one : (s : List ℕ) (i n a : ℕ) → i < length s → joined a (take (suc n) (drop i s)) ≡ joined (256 * a + getD s i 0) (take n (drop (suc i) s))
+pub joined-one : (s : List ℕ) (i n a : ℕ) → i < length s
+    → joined a (take (suc n) (drop i s)) ≡ joined (256 * a + getD s i 0) (take n (drop (suc i) s))
 joined-one s i n a h = rw (drop-cons s i 0 h) refl
 
 four-more : (m : List ℕ) (i n a : ℕ) → i + 4 ≤ length m
-    → joined a (take (suc (suc (suc (suc n)))) (drop i m)) ≡ joined (256 * (256 * (256 * (256 * a + getD m i 0) + getD m (i + 1) 0) + getD m (i + 2) 0) + getD m (i + 3) 0) (take n (drop (i + 4) m))
+    → joined a (take (suc (suc (suc (suc n)))) (drop i m))
+    ≡ joined (256 * (256 * (256 * (256 * a + getD m i 0) + getD m (i + 1) 0) + getD m (i + 2) 0) + getD m (i + 3) 0)
+    (take n (drop (i + 4) m))
 four-more m i n a h =
     let e : i + 1 ≡ suc i = omega arith in
     let f : i + 2 ≡ suc (suc i) = omega arith in
@@ -115,12 +121,18 @@ four-more m i n a h =
     (joined-one m i (suc (suc (suc n))) a (omega arith)
     ∙ joined-one m (suc i) (suc (suc n)) (256 * a + getD m i 0) (omega arith)
     ∙ joined-one m (suc (suc i)) (suc n) (256 * (256 * a + getD m i 0) + getD m (suc i) 0) (omega arith)
-    ∙ joined-one m (suc (suc (suc i))) n (256 * (256 * (256 * a + getD m i 0) + getD m (suc i) 0) + getD m (suc (suc i)) 0) (omega arith))
+    ∙ joined-one m (suc (suc (suc i))) n
+    (256 * (256 * (256 * a + getD m i 0) + getD m (suc i) 0) + getD m (suc (suc i)) 0) (omega arith))
 
-pub four-is : (m : List ℕ) (i v : ℕ) → v ≡ 256 * (256 * (256 * getD m i 0 + getD m (i + 1) 0) + getD m (i + 2) 0) + getD m (i + 3) 0 → i + 4 ≤ length m → v ≡ joined 0 (take 4 (drop i m))
+pub four-is : (m : List ℕ) (i v : ℕ)
+    → v ≡ 256 * (256 * (256 * getD m i 0 + getD m (i + 1) 0) + getD m (i + 2) 0) + getD m (i + 3) 0
+    → i + 4 ≤ length m
+    → v ≡ joined 0 (take 4 (drop i m))
 four-is m i v e h = omega (arith, e, four-more m i 0 0 h)
 
-pub eight-is : (m : List ℕ) (i a b : ℕ) → i + 8 ≤ length m → a ≡ joined 0 (take 4 (drop i m)) → b ≡ joined 0 (take 4 (drop (i + 4) m)) → a * 0x1_0000_0000 + b ≡ joined 0 (take 8 (drop i m))
+pub eight-is : (m : List ℕ) (i a b : ℕ) → i + 8 ≤ length m
+    → a ≡ joined 0 (take 4 (drop i m)) → b ≡ joined 0 (take 4 (drop (i + 4) m))
+    → a * 0x1_0000_0000 + b ≡ joined 0 (take 8 (drop i m))
 eight-is m i a b h ea eb =
     let x = four-more m i 0 0 (omega arith) in
     let y = four-more m (i + 4) 0 0 (omega arith) in
@@ -135,7 +147,8 @@ sets-snoc (x ∷ s) l i b =
     rw (e, set-comm l (suc i + length s) i b x (λ q. omega arith)) (sets-snoc s (set l i x) (suc i) b)
 
 -- of a number's bytes: the lowest first, or none
-pub sets-be : (l : List ℕ) (at k u : ℕ) → 0 < k → sets (set l (at + (k - 1)) (u % 256)) at (be (k - 1) (u / 256)) ≡ sets l at (be k u)
+pub sets-be : (l : List ℕ) (at k u : ℕ) → 0 < k
+    → sets (set l (at + (k - 1)) (u % 256)) at (be (k - 1) (u / 256)) ≡ sets l at (be k u)
 sets-be l at zero u h = absurd (omega arith)
 sets-be l at (suc k) u h =
     let e : suc k - 1 ≡ k = omega arith in

@@ -1,3 +1,2 @@
 pub mod BigEndian
 pub mod Laws
-pub mod Quads

@@ -5,26 +5,6 @@ ghost use lib.Dec.{leb};
 ghost use lib.ListN.{length, take, drop};
 ghost use Rattle.flow.specs.Flow.{stored};
 ghost use Rattle.wire.specs.BigEndian.{joined, be};
-ghost use Rattle.wire.specs.Quads.{quadOf, quadAt};
-
-// Four numbers that stand one after another.
-pub struct Quad {
-    pub first: u64,
-    pub second: u64,
-    pub third: u64,
-    pub fourth: u64,
-}
-
-fn four_numbers(first: u64, second: u64, third: u64, fourth: u64) -> Quad
-    ensures { λ r. ⌜ r ≡ quadOf first second third fourth ⌝ }
-{
-    Quad {
-        first,
-        second,
-        third,
-        fourth,
-    }
-}
 
 // A byte as a number of 64 bits.
 pub fn wide(b: u8) -> u64
@@ -100,30 +80,14 @@ pub fn eight_at(bytes: &[u8], at: usize) -> u64
     eight_in(bytes, at)
 }
 
-// Four numbers of eight bytes each from `at` on, where all these bytes are there, and else four zeros.
-pub fn quad_at(bytes: &[u8], at: usize) -> Quad
-    ensures { λ r. ⌜ r ≡ quadAt (now (bytes .entry)) at ⌝ }
-{
-    let len = bytes.len();
-    if len < 32 {
-        return four_numbers(0, 0, 0, 0);
-    }
-    if len - 32 < at {
-        return four_numbers(0, 0, 0, 0);
-    }
-    four_numbers(
-        eight_in(bytes, at),
-        eight_in(bytes, at + 8),
-        eight_in(bytes, at + 16),
-        eight_in(bytes, at + 24),
-    )
-}
-
 // ---- storing
 
 // The `count` lowest bytes of `value` in `bytes` from `at` on, where all of them fit. Whether they do.
 pub fn store_number(bytes: &mut [u8], at: usize, count: usize, value: u64) -> bool
-    ensures { λ r. ⌜ (r ≡ leb (at + count) (length (now (bytes .entry)))) × (now (bytes .exit) ≡ stored (now (bytes .entry)) at (be count value)) ⌝ }
+    ensures { λ r. ⌜
+        (r ≡ leb (at + count) (length (now (bytes .entry))))
+        × (now (bytes .exit) ≡ stored (now (bytes .entry)) at (be count value))
+        ⌝ }
 {
     let len = bytes.len();
     if len < at {

@@ -1,11 +1,11 @@
 // Writes tables of rows from standard input, and prints a line for each.
 //
-// A case is a line: how many bytes of output are lent and how many rows are claimed, in decimal; the source in groups, as
-// vectors::groups takes them; ` ;`; and the rows of the table, a space before each. A row is five decimals with commas between, the
-// fifth counted from the row's own number; `*` and a number after them say how often it is there.
+// A case is a line: how many bytes of output are lent and how many rows are claimed, in decimal; the source in groups,
+// as vectors::groups takes them; ` ;`; and the rows of the table, a space before each. A row is five decimals with
+// commas between, the fifth counted from the row's own number; `*` and a number after them say how often it is there.
 //
-// The line printed has the answer: number, count and place; the checksum of the lent output as it then is; and `ok` where all past what
-// is written, or the whole output after a refusal, is as it was. What is no case is `bad`.
+// The line printed has the answer: number, count and place; the checksum of the lent output as it then is; and `ok`
+// where all past what is written, or the whole output after a refusal, is as it was. What is no case is `bad`.
 // vectors.py writes the cases, stdin, and what is to be printed, stdout.
 use libc::STDIN_FILENO;
 use libc::STDOUT_FILENO;
@@ -74,7 +74,8 @@ fn number_in(n: u64, i: usize, k: usize) -> u64 {
     n
 }
 
-// A row that often in the table from the number `from` on, its fifth number counted from its own row. `next` is where the line goes on.
+// A row that often in the table from the number `from` on, its fifth number counted from its own row. `next` is where
+// the line goes on.
 fn store_rows(
     table: &mut [u64],
     from: usize,

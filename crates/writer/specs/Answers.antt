@@ -1,7 +1,6 @@
 -- What the writer's answers say, in 01's terms: number, count and place.
 use Rattle.flow.specs.RefusalNumbers.{wrong-length, no-room, no-record}
-use Rattle.flow.specs.Flow.{Report}
-use Rattle.scalar.specs.Answers.{reported}
+use Rattle.flow.specs.Flow.{Report, reported}
 use Rattle.writer.specs.declared.WriteAnswer.{WriteAnswer}
 use Rattle.writer.specs.declared.WriteAnswer.the-variants.{Written, TooLong, NoRecord, TooFew}
 

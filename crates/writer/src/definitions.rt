@@ -1,8 +1,10 @@
-// Class definitions. The laws of what is written of them are in record's specs/WrittenNames.antt and WrittenValues.antt.
+// Class definitions. The laws of what is written of them are in record's specs/ForWriter/WrittenNames.antt
+// and WrittenValues.antt.
+use crate::progress::Progress;
+use crate::progress::Step;
+use crate::progress::Turn;
 use crate::puts::Put;
-use crate::puts::Step;
 use crate::rows::Fetched;
-use record::Row;
 use record::kinds::CLASS;
 use record::kinds::CLASS_NAME;
 use record::known::CLASSES_GIVEN;
@@ -10,61 +12,71 @@ use record::known::KNOWN;
 use record::limits::CLASSES;
 use record::limits::FIELDS;
 ghost use mathlib.Core.Path.{_≡_};
-ghost use Prim.Native.Nat.{_+_, _≤_, _<_};
+ghost use Prim.Native.Nat.{_≤_, _<_};
 ghost use lib.ListN.{length};
-ghost use Rattle.record.specs.Kinds.{class-kind};
-ghost use Rattle.record.specs.Answers.{base, putDefinition};
-ghost use Rattle.record.specs.Walked.{walk};
-ghost use Rattle.record.specs.KnownArray.{knownIn};
-ghost use Rattle.writer.specs.Inside.{lentIn, rowsIn, itemsIn, Stands, Ready, ClassMet, StepMet, FoundMet, overLongest};
+ghost use Rattle.record.specs.Model.Kinds.{class-kind};
+ghost use Rattle.writer.specs.Contracts.{lentIn, itemsIn, WritableIn, TurnIn, ClassWritten, DefinitionWritten};
+ghost use Rattle.writer.specs.Contracts.{DefinitionsWritten, overLongest};
 
-// The row of the value past class definitions, where it stands, and how many bytes there are then; or there is no record.
+// The row of the value past class definitions, and where writing is then; or there is no record.
 pub(crate) enum Found {
-    Value { at: usize, size: usize, row: Row },
+    Value(Turn),
     NoRecord,
 }
 
-// The code, the name and the count of a class of so many fields, whose row is k.
+// The code, the name and the count of a class of so many fields, whose row comes next.
 fn put_class(
     source: &[u8],
     numbers: &[u64],
     bytes: &[u8],
-    n: usize,
-    k: usize,
-    fields: u64,
     out: &mut [u8],
-    size: usize,
+    fields: u64,
+    at: Progress,
+    rows: usize,
 ) -> Put
     requires { ⌜
-        (size ≤ overLongest) × (n ≤ lentIn (now numbers) (now bytes))
-        × (k < length (itemsIn (now source) (now numbers) (now bytes) n)) × (k < n)
+        (at .size ≤ overLongest) × (rows ≤ lentIn (now numbers) (now bytes))
+        × (at .next < length (itemsIn (now source) (now numbers) (now bytes) rows)) × (at .next < rows)
         ⌝ }
-    ensures { λ r. ⌜ ClassMet (itemsIn (now (source .entry)) (now (numbers .entry)) (now (bytes .entry)) n) k fields (now (out .entry)) size r (now (out .exit)) ⌝ }
+    ensures { λ r. ⌜
+        ClassWritten
+        (now (source .entry)) (now (numbers .entry)) (now (bytes .entry)) (now (out .entry))
+        fields at rows
+        r (now (out .exit))
+        ⌝ }
 {
-    let at = crate::puts::put_byte(out, size, 0x43);
-    match crate::names::put_name(CLASS_NAME, source, numbers, bytes, n, k + 1, out, at) {
+    let next = at.next + 1;
+    let size = crate::puts::put_byte(out, 0x43, at.size);
+    let coded = Progress { next, size };
+    match crate::names::put_name(source, numbers, bytes, out, CLASS_NAME, coded, rows) {
         Put::NoRecord => Put::NoRecord,
-        Put::Done { size: s } => crate::puts::put_int(fields, out, s),
+        Put::Done { size } => crate::puts::put_int(out, fields, size),
     }
 }
 
-// The class definition whose row r is the row k of the first n.
+// The class definition of a row.
 fn put_definition(
     source: &[u8],
     numbers: &[u64],
     bytes: &[u8],
-    n: usize,
     known: &mut [u64; KNOWN],
-    k: usize,
-    r: Row,
     out: &mut [u8],
-    size: usize,
+    class: Turn,
+    rows: usize,
 ) -> Step
-    requires { ⌜ (n ≤ lentIn (now numbers) (now bytes)) × Ready (itemsIn (now source) (now numbers) (now bytes) n) (now known) k size × (k < n) × (r .kind ≡ class-kind) × Stands (now source) r (itemsIn (now source) (now numbers) (now bytes) n) k ⌝ }
-    ensures { λ p. ⌜ StepMet (walk (putDefinition base) (knownIn (now (known .entry))) (itemsIn (now (source .entry)) (now (numbers .entry)) (now (bytes .entry)) n) k) (itemsIn (now (source .entry)) (now (numbers .entry)) (now (bytes .entry)) n) (k + 1) size (now (out .entry)) p (now (known .exit)) (now (out .exit)) ⌝ }
+    requires { ⌜
+        TurnIn (now source) (now numbers) (now bytes) (now known) class rows × (class .row .kind ≡ class-kind)
+        ⌝ }
+    ensures { λ r. ⌜
+        DefinitionWritten
+        (now (source .entry)) (now (numbers .entry)) (now (bytes .entry)) (now (known .entry)) (now (out .entry))
+        class rows
+        r (now (known .exit)) (now (out .exit))
+        ⌝ }
 {
-    let fields = r.first;
-    if r.second != 0 {
+    let at = class.at;
+    let fields = class.row.first;
+    if class.row.second != 0 {
         return Step::NoRecord;
     }
     if CLASSES <= known[CLASSES_GIVEN] {
@@ -73,66 +85,61 @@ fn put_definition(
     if FIELDS < fields {
         return Step::NoRecord;
     }
-    match put_class(source, numbers, bytes, n, k, fields, out, size) {
+    match put_class(source, numbers, bytes, out, fields, at, rows) {
         Put::NoRecord => Step::NoRecord,
-        Put::Done { size: at } => match crate::names::put_field_names(
-            source,
-            numbers,
-            bytes,
-            n,
-            k + 2,
-            fields,
-            out,
-            at,
-        ) {
-            Put::NoRecord => Step::NoRecord,
-            Put::Done { size: s } => {
-                record::known::define(known, fields);
-                Step::Done {
-                    next: k + 2 + fields as usize,
-                    size: s,
+        Put::Done { size: named } => {
+            let first = at.next + 2;
+            let names = Progress {
+                next: first,
+                size: named,
+            };
+            match crate::names::put_field_names(source, numbers, bytes, out, fields, names, rows) {
+                Put::NoRecord => Step::NoRecord,
+                Put::Done { size } => {
+                    record::known::define(known, fields);
+                    let next = first + fields as usize;
+                    Step::Done(Progress { next, size })
                 }
             }
-        },
+        }
     }
 }
 
-// The class definitions from the row k of the first n on, and the row of the value after them.
+// The class definitions that come next, up to the row of the value after them.
 pub(crate) fn put_definitions(
     source: &[u8],
     numbers: &[u64],
     bytes: &[u8],
-    n: usize,
     known: &mut [u64; KNOWN],
-    k: usize,
     out: &mut [u8],
-    size: usize,
+    from: Progress,
+    rows: usize,
 ) -> Found
-    requires { ⌜ (n ≤ lentIn (now numbers) (now bytes)) × Ready (itemsIn (now source) (now numbers) (now bytes) n) (now known) k size ⌝ }
-    ensures { λ r. ⌜ FoundMet (now (source .entry)) (rowsIn (now (numbers .entry)) (now (bytes .entry)) n) (itemsIn (now (source .entry)) (now (numbers .entry)) (now (bytes .entry)) n) n k size (now (known .entry)) (now (out .entry)) r (now (known .exit)) (now (out .exit)) ⌝ }
+    requires { ⌜ WritableIn (now source) (now numbers) (now bytes) (now known) from rows ⌝ }
+    ensures { λ r. ⌜
+        DefinitionsWritten
+        (now (source .entry)) (now (numbers .entry)) (now (bytes .entry)) (now (known .entry)) (now (out .entry))
+        from rows
+        r (now (known .exit)) (now (out .exit))
+        ⌝ }
 {
-    let mut at = k;
-    let mut s = size;
+    let mut at = from;
     loop {
-        match crate::rows::fetch(numbers, bytes, n, at) {
+        match crate::rows::fetch(numbers, bytes, rows, at.next) {
             Fetched::End => {
                 return Found::NoRecord;
             }
-            Fetched::Row(r) => {
-                if r.kind != CLASS {
-                    return Found::Value {
-                        at,
-                        size: s,
-                        row: r,
-                    };
+            Fetched::Row(row) => {
+                let turn = Turn { row, at };
+                if row.kind != CLASS {
+                    return Found::Value(turn);
                 }
-                match put_definition(source, numbers, bytes, n, known, at, r, out, s) {
+                match put_definition(source, numbers, bytes, known, out, turn, rows) {
                     Step::NoRecord => {
                         return Found::NoRecord;
                     }
-                    Step::Done { next, size: z } => {
-                        at = next;
-                        s = z;
+                    Step::Done(end) => {
+                        at = end;
                     }
                 }
             }

@@ -1,6 +1,10 @@
-// Lists, maps and objects, up to the values inside. The laws of what is written of them are in record's specs/Writes.antt.
+// Lists, maps and objects, up to the values inside. The laws of what is written of them are in record's
+// specs/ForWriter/WrittenItems.antt.
+use crate::progress::Progress;
+use crate::progress::Scope;
+use crate::progress::Step;
+use crate::progress::Turn;
 use crate::puts::Put;
-use crate::puts::Step;
 use record::Contents;
 use record::Row;
 use record::kinds::MAP;
@@ -9,24 +13,23 @@ use record::known::CLASSES_GIVEN;
 use record::known::KNOWN;
 use record::known::REFERENCES_GIVEN;
 ghost use mathlib.Core.Path.{_≡_};
-ghost use Prim.Native.Nat.{_+_, _≤_, _<_};
-ghost use Rattle.record.specs.Answers.{objectCode};
-ghost use Rattle.record.specs.KnownArray.{knownIn, Kept};
-ghost use Rattle.writer.specs.Inside.{lentIn, itemsIn, Stands, Ready, Holder, listCode, mapCode, listBy, mapBy, PutMet, ObjectMet, OpensMet, HolderMet, overLongest};
+ghost use Prim.Native.Nat.{_≤_};
+ghost use Rattle.record.specs.Model.Shortest.{objectCode};
+ghost use Rattle.record.specs.Laws.KnownArray.{Kept};
+ghost use Rattle.writer.specs.Contracts.{WritableIn, TurnIn, HolderKind, listCode, mapCode, holderCode, PutMet};
+ghost use Rattle.writer.specs.Contracts.{CountWritten, ListOrMapBegun, ObjectBegun, HolderBegun, overLongest};
 
-// How a value begins: it is written; its values are to follow, from the row `next` on, with 5a after them where `closes`; or there is no
-// record.
-pub(crate) enum Begun {
-    Past {
-        next: usize,
-        size: usize,
-    },
-    Within {
-        contents: Contents,
-        closes: bool,
-        next: usize,
-        size: usize,
-    },
+// What a list, map or object holds, and where that begins.
+pub(crate) struct Interior {
+    pub contents: Contents,
+    pub at: Progress,
+}
+
+// How a value begins: it is written, and ends there; what it holds is to follow, with 5a after it where `closes`; or
+// there is no record.
+pub(crate) enum ValueStart {
+    Past(Progress),
+    Within { inside: Interior, closes: bool },
     NoRecord,
 }
 
@@ -47,58 +50,6 @@ fn list_code(typed: bool, open_from: u64, count: u64) -> u8
     if typed { 0x55 } else { 0x57 }
 }
 
-// A list of so many elements, whose type, if it has one, has this number and the row k.
-fn put_list(
-    typed: bool,
-    source: &[u8],
-    numbers: &[u64],
-    bytes: &[u8],
-    n: usize,
-    known: &mut [u64; KNOWN],
-    k: usize,
-    count: u64,
-    number: u64,
-    out: &mut [u8],
-    size: usize,
-    open_from: u64,
-) -> Begun
-    requires { ⌜ (n ≤ lentIn (now numbers) (now bytes)) × Ready (itemsIn (now source) (now numbers) (now bytes) n) (now known) k size ⌝ }
-    ensures { λ r. ⌜ OpensMet (listBy typed number open_from count (knownIn (now (known .entry))) (itemsIn (now (source .entry)) (now (numbers .entry)) (now (bytes .entry)) n) k) (itemsIn (now (source .entry)) (now (numbers .entry)) (now (bytes .entry)) n) k size (now (out .entry)) r (now (known .exit)) (now (out .exit)) ⌝ }
-{
-    let code = list_code(typed, open_from, count);
-    let at = crate::puts::put_byte(out, size, code);
-    match crate::types::put_type(typed, source, numbers, bytes, n, known, k, number, out, at) {
-        Step::NoRecord => Begun::NoRecord,
-        Step::Done { next, size: s } => {
-            if count < 8 {
-                return Begun::Within {
-                    contents: Contents::Elements(count),
-                    closes: false,
-                    next,
-                    size: s,
-                };
-            }
-            if open_from <= count {
-                return Begun::Within {
-                    contents: Contents::Elements(count),
-                    closes: true,
-                    next,
-                    size: s,
-                };
-            }
-            match crate::puts::put_int(count, out, s) {
-                Put::NoRecord => Begun::NoRecord,
-                Put::Done { size: z } => Begun::Within {
-                    contents: Contents::Elements(count),
-                    closes: false,
-                    next,
-                    size: z,
-                },
-            }
-        }
-    }
-}
-
 // The code of a map.
 fn map_code(typed: bool) -> u8
     ensures { λ r. ⌜ r ≡ mapCode typed ⌝ }
@@ -106,132 +57,169 @@ fn map_code(typed: bool) -> u8
     if typed { 0x4d } else { 0x48 }
 }
 
-// A map of so many pairs, whose type, if it has one, has this number and the row k.
-fn put_map(
-    typed: bool,
+// The code of the list or map of the row r.
+fn code_of(r: Row, open_from: u64) -> u8
+    ensures { λ x. ⌜ x ≡ holderCode r open_from ⌝ }
+{
+    let typed = crate::types::has_type(r);
+    if r.kind < MAP {
+        return list_code(typed, open_from, r.first);
+    }
+    map_code(typed)
+}
+
+// The count of a list, where its form has one; its elements are to follow.
+fn put_count(out: &mut [u8], count: u64, at: Progress, open_from: u64) -> ValueStart
+    requires { ⌜ at .size ≤ overLongest ⌝ }
+    ensures { λ r. ⌜ CountWritten (now (out .entry)) count at open_from r (now (out .exit)) ⌝ }
+{
+    let contents = Contents::Elements(count);
+    if count < 8 {
+        return ValueStart::Within {
+            inside: Interior { contents, at },
+            closes: false,
+        };
+    }
+    if open_from <= count {
+        return ValueStart::Within {
+            inside: Interior { contents, at },
+            closes: true,
+        };
+    }
+    match crate::puts::put_int(out, count, at.size) {
+        Put::NoRecord => ValueStart::NoRecord,
+        Put::Done { size } => ValueStart::Within {
+            inside: Interior {
+                contents,
+                at: Progress {
+                    next: at.next,
+                    size,
+                },
+            },
+            closes: false,
+        },
+    }
+}
+
+// The list or map of a row, which has its reference number; its type, if it has one, has the next row.
+fn put_list_or_map(
     source: &[u8],
     numbers: &[u64],
     bytes: &[u8],
-    n: usize,
     known: &mut [u64; KNOWN],
-    k: usize,
-    count: u64,
-    number: u64,
     out: &mut [u8],
-    size: usize,
-) -> Begun
-    requires { ⌜ (n ≤ lentIn (now numbers) (now bytes)) × Ready (itemsIn (now source) (now numbers) (now bytes) n) (now known) k size ⌝ }
-    ensures { λ r. ⌜ OpensMet (mapBy typed number count (knownIn (now (known .entry))) (itemsIn (now (source .entry)) (now (numbers .entry)) (now (bytes .entry)) n) k) (itemsIn (now (source .entry)) (now (numbers .entry)) (now (bytes .entry)) n) k size (now (out .entry)) r (now (known .exit)) (now (out .exit)) ⌝ }
+    holder: Turn,
+    scope: Scope,
+) -> ValueStart
+    requires { ⌜ WritableIn (now source) (now numbers) (now bytes) (now known) (holder .at) (scope .rows) ⌝ }
+    ensures { λ r. ⌜
+        ListOrMapBegun
+        (now (source .entry)) (now (numbers .entry)) (now (bytes .entry)) (now (known .entry)) (now (out .entry))
+        holder scope
+        r (now (known .exit)) (now (out .exit))
+        ⌝ }
 {
-    let code = map_code(typed);
-    let at = crate::puts::put_byte(out, size, code);
-    match crate::types::put_type(typed, source, numbers, bytes, n, known, k, number, out, at) {
-        Step::NoRecord => Begun::NoRecord,
-        Step::Done { next, size: s } => Begun::Within {
-            contents: Contents::Couples(count),
-            closes: true,
-            next,
-            size: s,
-        },
+    let row = holder.row;
+    let code = code_of(row, scope.open_from);
+    let at = Progress {
+        next: holder.at.next,
+        size: crate::puts::put_byte(out, code, holder.at.size),
+    };
+    let coded = Turn { row, at };
+    match crate::types::put_type(source, numbers, bytes, known, out, coded, scope.rows) {
+        Step::NoRecord => ValueStart::NoRecord,
+        Step::Done(end) => {
+            if row.kind < MAP {
+                return put_count(out, row.first, end, scope.open_from);
+            }
+            ValueStart::Within {
+                inside: Interior {
+                    contents: Contents::Couples(row.first),
+                    at: end,
+                },
+                closes: true,
+            }
+        }
     }
 }
 
 // The code of an object of this class.
-fn put_object_code(class: u64, out: &mut [u8], size: usize) -> Put
+fn put_object_code(out: &mut [u8], class: u64, size: usize) -> Put
     requires { ⌜ size ≤ overLongest ⌝ }
     ensures { λ r. ⌜ PutMet (objectCode class) (now (out .entry)) size r (now (out .exit)) ⌝ }
 {
     if class < 16 {
-        let s = crate::puts::put_byte(out, size, 0x60 + class as u8);
+        let s = crate::puts::put_byte(out, 0x60 + class as u8, size);
         return Put::Done { size: s };
     }
-    let at = crate::puts::put_byte(out, size, 0x4f);
-    crate::puts::put_int(class, out, at)
+    let at = crate::puts::put_byte(out, 0x4f, size);
+    crate::puts::put_int(out, class, at)
 }
 
-// An object of this class with so many fields, which begin at the row k.
-fn put_object(
-    known: &[u64; KNOWN],
-    k: usize,
-    class: u64,
-    fields: u64,
-    out: &mut [u8],
-    size: usize,
-) -> Begun
-    requires { ⌜ Kept (now known) × (size ≤ overLongest) ⌝ }
-    ensures { λ r. ⌜ ObjectMet class fields (now (known .entry)) k size (now (out .entry)) r (now (out .exit)) ⌝ }
+// The object of a row, which has its reference number; its fields begin at the next row.
+fn put_object(known: &[u64; KNOWN], out: &mut [u8], object: Turn) -> ValueStart
+    requires { ⌜ Kept (now known) × (object .at .size ≤ overLongest) ⌝ }
+    ensures { λ r. ⌜ ObjectBegun (now (known .entry)) (now (out .entry)) object r (now (out .exit)) ⌝ }
 {
+    let class = object.row.first;
+    let fields = object.row.second;
     if known[CLASSES_GIVEN] <= class {
-        return Begun::NoRecord;
+        return ValueStart::NoRecord;
     }
     let j = class as usize;
     if known[j] != fields {
-        return Begun::NoRecord;
+        return ValueStart::NoRecord;
     }
-    match put_object_code(class, out, size) {
-        Put::NoRecord => Begun::NoRecord,
-        Put::Done { size: s } => Begun::Within {
-            contents: Contents::Elements(fields),
+    match put_object_code(out, class, object.at.size) {
+        Put::NoRecord => ValueStart::NoRecord,
+        Put::Done { size } => ValueStart::Within {
+            inside: Interior {
+                contents: Contents::Elements(fields),
+                at: Progress {
+                    next: object.at.next,
+                    size,
+                },
+            },
             closes: false,
-            next: k,
-            size: s,
         },
     }
 }
 
-// The list, map or object whose row r is the row k of the first n, up to the values inside: it gets the next reference number. Lists
-// and maps with a type have even kinds.
+// The list, map or object of a row, up to the values inside: it gets the next reference number.
 pub(crate) fn put_holder(
     source: &[u8],
     numbers: &[u64],
     bytes: &[u8],
-    n: usize,
     known: &mut [u64; KNOWN],
-    k: usize,
-    r: Row,
     out: &mut [u8],
-    size: usize,
-    open_from: u64,
-) -> Begun
-    requires { ⌜ (n ≤ lentIn (now numbers) (now bytes)) × Ready (itemsIn (now source) (now numbers) (now bytes) n) (now known) k size × (k < n) × Holder (r .kind) × Stands (now source) r (itemsIn (now source) (now numbers) (now bytes) n) k ⌝ }
-    ensures { λ p. ⌜ HolderMet open_from (now (known .entry)) (itemsIn (now (source .entry)) (now (numbers .entry)) (now (bytes .entry)) n) k size (now (out .entry)) p (now (known .exit)) (now (out .exit)) ⌝ }
+    holder: Turn,
+    scope: Scope,
+) -> ValueStart
+    requires { ⌜
+        TurnIn (now source) (now numbers) (now bytes) (now known) holder (scope .rows) × HolderKind (holder .row .kind)
+        ⌝ }
+    ensures { λ r. ⌜
+        HolderBegun
+        (now (source .entry)) (now (numbers .entry)) (now (bytes .entry)) (now (known .entry)) (now (out .entry))
+        holder scope
+        r (now (known .exit)) (now (out .exit))
+        ⌝ }
 {
     known[REFERENCES_GIVEN] = known[REFERENCES_GIVEN] + 1;
-    if r.kind == OBJECT {
-        return put_object(known, k + 1, r.first, r.second, out, size);
+    let row = holder.row;
+    let next = holder.at.next + 1;
+    let at = Progress {
+        next,
+        size: holder.at.size,
+    };
+    let past = Turn { row, at };
+    if row.kind == OBJECT {
+        return put_object(known, out, past);
     }
-    if r.kind % 2 == 1 {
-        if r.second != 0 {
-            return Begun::NoRecord;
+    if row.kind % 2 == 1 {
+        if row.second != 0 {
+            return ValueStart::NoRecord;
         }
     }
-    if r.kind < MAP {
-        return put_list(
-            r.kind % 2 == 0,
-            source,
-            numbers,
-            bytes,
-            n,
-            known,
-            k + 1,
-            r.first,
-            r.second,
-            out,
-            size,
-            open_from,
-        );
-    }
-    put_map(
-        r.kind % 2 == 0,
-        source,
-        numbers,
-        bytes,
-        n,
-        known,
-        k + 1,
-        r.first,
-        r.second,
-        out,
-        size,
-    )
+    put_list_or_map(source, numbers, bytes, known, out, past, scope)
 }

@@ -1,16 +1,20 @@
-// Writes the shortest message of a table of rows, whose texts and byte strings lie in a source. What a record's shortest message is, and what
-// the writer answers, stands in record's specs/Answers.antt.
+// Writes the shortest message of a table of rows, whose texts and byte strings lie in a source. What a record's
+// shortest message is, and what the writer answers, stands in record's specs/Model/Answers.antt.
 pub(crate) mod definitions;
 pub(crate) mod holders;
 pub(crate) mod leaves;
 pub(crate) mod names;
+pub(crate) mod progress;
 pub(crate) mod puts;
 pub(crate) mod rows;
 pub(crate) mod types;
 pub(crate) mod values;
 
+use crate::holders::Interior;
+use crate::progress::Progress;
+use crate::progress::Scope;
+use crate::progress::Step;
 use crate::puts::Put;
-use crate::puts::Step;
 use record::Contents;
 use record::ROW_BYTES;
 use record::ROW_NUMBERS;
@@ -21,12 +25,14 @@ use record::limits::LONGEST;
 ghost use mathlib.Core.Path.{_≡_};
 ghost use Prim.Native.Nat.{_≤_};
 ghost use lib.ListN.{length};
-ghost use Rattle.record.specs.Answers.{base, baseOpenFrom, shortestOf, asNumbers, asBytes, writeReport, writeOutput};
+ghost use Rattle.record.specs.Model.Answers.{base, baseOpenFrom, shortestOf, asNumbers, asBytes, writeReport};
+ghost use Rattle.record.specs.Model.Answers.{writeOutput};
+ghost use Rattle.record.specs.Model.Claims.{contentAt};
 ghost use Rattle.writer.specs.Answers.{report};
-ghost use Rattle.writer.specs.Inside.{lentIn, rowsIn, PutMet, WritesInto, WritesFrom};
+ghost use Rattle.writer.specs.Contracts.{lentIn, rowsIn, PutMet, WritesInto, WritesFrom};
 
-// What writing a table comes to: the bytes written; the source, or the shortest message, is too long; the rows are no record; the bytes
-// needed, where fewer are lent.
+// What writing a table comes to: the bytes written; the source, or the shortest message, is too long; the rows are no
+// record; the bytes needed, where fewer are lent.
 pub enum WriteAnswer {
     Written { size: usize },
     TooLong,
@@ -34,66 +40,67 @@ pub enum WriteAnswer {
     TooFew { needed: usize },
 }
 
-// One run over the first n rows: whether they are a record, and how many bytes its shortest message takes, up to one more than the
-// longest message. It is stored where it fits.
+// One run over the first n rows: whether they are a record, and how many bytes its shortest message takes, up to one
+// more than the longest message. It is stored where it fits.
 fn put_rows(
     source: &[u8],
     numbers: &[u64],
     bytes: &[u8],
-    n: usize,
     out: &mut [u8],
+    n: usize,
     open_from: u64,
 ) -> Put
     requires { ⌜ n ≤ lentIn (now numbers) (now bytes) ⌝ }
     ensures { λ r. ⌜
         PutMet
-        (shortestOf base open_from (now (source .entry)) (rowsIn (now (numbers .entry)) (now (bytes .entry)) n))
-        (now (out .entry)) 0 r (now (out .exit))
+        (shortestOf base open_from (contentAt (now (source .entry)))
+        (rowsIn (now (numbers .entry)) (now (bytes .entry)) n))
+        (now (out .entry)) 0
+        r (now (out .exit))
         ⌝ }
 {
     let mut known = [0u64; KNOWN];
-    let one = Contents::Elements(1);
-    match values::write_values(
-        source,
-        numbers,
-        bytes,
-        n,
-        &mut known,
-        0,
-        one,
-        out,
-        0,
-        CONTAINERS,
+    let one = Interior {
+        contents: Contents::Elements(1),
+        at: Progress { next: 0, size: 0 },
+    };
+    let scope = Scope {
+        rows: n,
+        allowed: CONTAINERS,
         open_from,
-    ) {
+    };
+    match values::write_values(source, numbers, bytes, &mut known, out, one, scope) {
         Step::NoRecord => Put::NoRecord,
-        Step::Done { next, size } => {
-            if next < n {
+        Step::Done(end) => {
+            if end.next < n {
                 return Put::NoRecord;
             }
-            Put::Done { size }
+            Put::Done { size: end.size }
         }
     }
 }
 
-// Writes the first n rows, which are lent: judges and counts first, with no output, then stores, so that a refusal stores nothing.
+// Writes the first n rows, which are lent: judges and counts first, with no output, then stores, so that a refusal
+// stores nothing.
 fn write_rows(
     source: &[u8],
     numbers: &[u64],
     bytes: &[u8],
-    n: usize,
     out: &mut [u8],
+    n: usize,
     open_from: u64,
 ) -> WriteAnswer
     requires { ⌜ n ≤ lentIn (now numbers) (now bytes) ⌝ }
     ensures { λ r. ⌜
         WritesInto
-        (shortestOf base open_from (now (source .entry)) (rowsIn (now (numbers .entry)) (now (bytes .entry)) n))
-        (now (out .entry)) r (now (out .exit))
+        (shortestOf base open_from (contentAt (now (source .entry)))
+        (rowsIn (now (numbers .entry)) (now (bytes .entry)) n))
+        (now (out .entry))
+        r (now (out .exit))
         ⌝ }
 {
     let mut none: [u8; 0] = [];
-    match put_rows(source, numbers, bytes, n, &mut none, open_from) {
+    match put_rows(source, numbers, bytes, &mut none, n, open_from) {
         Put::NoRecord => WriteAnswer::NoRecord,
         Put::Done { size } => {
             if LONGEST < size {
@@ -102,7 +109,7 @@ fn write_rows(
             if out.len() < size {
                 return WriteAnswer::TooFew { needed: size };
             }
-            put_rows(source, numbers, bytes, n, out, open_from);
+            put_rows(source, numbers, bytes, out, n, open_from);
             WriteAnswer::Written { size }
         }
     }
@@ -113,13 +120,17 @@ fn write_from(
     source: &[u8],
     numbers: &[u64],
     bytes: &[u8],
+    out: &mut [u8],
     lent: usize,
     rows: u64,
-    out: &mut [u8],
     open_from: u64,
 ) -> WriteAnswer
     requires { ⌜ lent ≡ lentIn (now numbers) (now bytes) ⌝ }
-    ensures { λ r. ⌜ WritesFrom open_from (now (source .entry)) (now (numbers .entry)) (now (bytes .entry)) rows (now (out .entry)) r (now (out .exit)) ⌝ }
+    ensures { λ r. ⌜
+        WritesFrom
+        open_from (now (source .entry)) (now (numbers .entry)) (now (bytes .entry)) rows (now (out .entry))
+        r (now (out .exit))
+        ⌝ }
 {
     if LONGEST < source.len() {
         return WriteAnswer::TooLong;
@@ -127,7 +138,7 @@ fn write_from(
     if (lent as u64) < rows {
         return WriteAnswer::NoRecord;
     }
-    write_rows(source, numbers, bytes, rows as usize, out, open_from)
+    write_rows(source, numbers, bytes, out, rows as usize, open_from)
 }
 
 // Writes the first `rows` rows of a table of five numbers a row.
@@ -141,7 +152,7 @@ pub fn write(source: &[u8], table: &[u64], rows: u64, output: &mut [u8]) -> Writ
 {
     let lent = table.len() / ROW_NUMBERS;
     let none: [u8; 0] = [];
-    write_from(source, table, &none, lent, rows, output, LISTS_OPEN_FROM)
+    write_from(source, table, &none, output, lent, rows, LISTS_OPEN_FROM)
 }
 
 // Writes the first `rows` rows of a table of 40 bytes a row, each number as eight bytes, the highest first.
@@ -155,5 +166,5 @@ pub fn write_bytes(source: &[u8], table: &[u8], rows: u64, output: &mut [u8]) ->
 {
     let lent = table.len() / ROW_BYTES;
     let none: [u64; 0] = [];
-    write_from(source, &none, table, lent, rows, output, LISTS_OPEN_FROM)
+    write_from(source, &none, table, output, lent, rows, LISTS_OPEN_FROM)
 }

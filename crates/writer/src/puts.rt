@@ -1,7 +1,7 @@
-// Bytes put behind those so far: stored where they fit, and counted. The count stops above the longest message, so that it cannot
-// overflow, whatever the rows claim.
+// Bytes put behind those so far: stored where they fit, and counted. The count stops above the longest message, so that
+// it cannot overflow, whatever the rows claim.
 use record::limits::LONGEST;
-use scalar::Kind;
+use scalar::Encoding;
 use scalar::Sort;
 use scalar::Written;
 ghost use mathlib.Core.Path.{_≡_};
@@ -10,7 +10,7 @@ ghost use Prim.Native.Nat.{_+_, _≤_, min};
 ghost use Rattle.scalar.specs.declared.Sort.the-variants as kinds;
 ghost use Rattle.scalar.specs.Scalars.{shortest, formsOf};
 ghost use Rattle.scalar.specs.Answers.{sizedForm};
-ghost use Rattle.writer.specs.Inside.{Puts, putOf, PutMet, overLongest};
+ghost use Rattle.writer.specs.Contracts.{Puts, putOf, PutMet, overLongest};
 
 // One more than the bytes of the longest message.
 const OVER: usize = LONGEST + 1;
@@ -18,12 +18,6 @@ const OVER: usize = LONGEST + 1;
 // How many bytes there are then; or there is no record.
 pub(crate) enum Put {
     Done { size: usize },
-    NoRecord,
-}
-
-// The row after those written, and how many bytes there are then; or there is no record.
-pub(crate) enum Step {
-    Done { next: usize, size: usize },
     NoRecord,
 }
 
@@ -39,7 +33,7 @@ fn grown(size: usize, more: usize) -> usize
 }
 
 // One byte.
-pub(crate) fn put_byte(out: &mut [u8], size: usize, b: u8) -> usize
+pub(crate) fn put_byte(out: &mut [u8], b: u8, size: usize) -> usize
     requires { ⌜ size ≤ overLongest ⌝ }
     ensures { λ r. ⌜ Puts (now (out .entry)) size (b ∷ []) (now (out .exit)) r ⌝ }
 {
@@ -55,7 +49,7 @@ fn put_of(written: Written, size: usize) -> Put
     ensures { λ r. ⌜ r ≡ putOf written size ⌝ }
 {
     let more = match written {
-        Written::NotSuch => return Put::NoRecord,
+        Written::NoSuchForm => return Put::NoRecord,
         Written::Stored { size: n } => n,
         Written::NoRoom { needed } => needed,
     };
@@ -67,7 +61,7 @@ fn put_of(written: Written, size: usize) -> Put
 // ---- numbers
 
 // A number of this kind in its shortest form.
-pub(crate) fn put_number(sort: Sort, value: u64, out: &mut [u8], size: usize) -> Put
+pub(crate) fn put_number(out: &mut [u8], sort: Sort, value: u64, size: usize) -> Put
     requires { ⌜ size ≤ overLongest ⌝ }
     ensures { λ r. ⌜ PutMet (shortest (formsOf sort) value) (now (out .entry)) size r (now (out .exit)) ⌝ }
 {
@@ -76,9 +70,11 @@ pub(crate) fn put_number(sort: Sort, value: u64, out: &mut [u8], size: usize) ->
 }
 
 // An int in its shortest form.
-pub(crate) fn put_int(value: u64, out: &mut [u8], size: usize) -> Put
+pub(crate) fn put_int(out: &mut [u8], value: u64, size: usize) -> Put
     requires { ⌜ size ≤ overLongest ⌝ }
-    ensures { λ r. ⌜ PutMet (shortest (formsOf kinds.Int) value) (now (out .entry)) size r (now (out .exit)) ⌝ }
+    ensures { λ r. ⌜
+        PutMet (shortest (formsOf kinds.Int) value) (now (out .entry)) size r (now (out .exit))
+        ⌝ }
 {
     let written = numbers::write_number(Sort::Int, value, out, size);
     put_of(written, size)
@@ -86,19 +82,22 @@ pub(crate) fn put_int(value: u64, out: &mut [u8], size: usize) -> Put
 
 // ---- texts and byte strings
 
-// The text or byte string at the place `at` of the source in its shortest form, if it has so many units and bytes.
+// The text or byte string at a place of the source in its shortest form, if it has so many units and bytes. With the
+// parameters in another order a short text costs up to 3 % more.
 pub(crate) fn put_string(
-    kind: Kind,
     source: &[u8],
-    at: usize,
+    out: &mut [u8],
+    place: usize,
+    kind: Encoding,
     units: usize,
     bytes: usize,
-    out: &mut [u8],
     size: usize,
 ) -> Put
     requires { ⌜ size ≤ overLongest ⌝ }
-    ensures { λ r. ⌜ PutMet (sizedForm kind (now (source .entry)) at units bytes) (now (out .entry)) size r (now (out .exit)) ⌝ }
+    ensures { λ r. ⌜
+        PutMet (sizedForm kind (now (source .entry)) place units bytes) (now (out .entry)) size r (now (out .exit))
+        ⌝ }
 {
-    let written = text_writer::write_sized(kind, source, at, units, bytes, out, size);
+    let written = text_writer::write_sized(kind, source, place, units, bytes, out, size);
     put_of(written, size)
 }

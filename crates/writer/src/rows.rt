@@ -7,9 +7,9 @@ use record::kinds::LIST;
 use record::kinds::REFERENCE;
 ghost use mathlib.Core.Path.{_≡_};
 ghost use Prim.Native.Nat.{_+_, _^_, _≤_, _<_};
-ghost use Rattle.record.specs.RowLaws.{rowOf};
-ghost use Rattle.record.specs.Walked.{plainly};
-ghost use Rattle.writer.specs.Inside.{lentIn, rowIn, FetchMet};
+ghost use Rattle.record.specs.Laws.RowLaws.{rowOf};
+ghost use Rattle.record.specs.ForWriter.WritingAt.{plainly};
+ghost use Rattle.writer.specs.Contracts.{lentIn, rowIn, FetchMet};
 
 // The row at an index, if there is one.
 pub(crate) enum Fetched {
@@ -33,14 +33,14 @@ fn row_at(numbers: &[u64], bytes: &[u8], k: usize) -> Row
         };
     }
     let at = k * ROW_BYTES;
-    let q = wire::quad_at(bytes, at);
-    let e = wire::eight_at(bytes, at + 32);
+    let end = at + ROW_BYTES;
+    let row = &bytes[at..end];
     Row {
-        kind: q.first,
-        place: q.second,
-        first: q.third,
-        second: q.fourth,
-        after: e,
+        kind: wire::eight_at(row, 0),
+        place: wire::eight_at(row, 8),
+        first: wire::eight_at(row, 16),
+        second: wire::eight_at(row, 24),
+        after: wire::eight_at(row, 32),
     }
 }
 

@@ -2,13 +2,12 @@
 use native.Mathlib.Omega.{arith}
 use borrow.Author.Needs.{needs}
 use Rattle.scalar.specs.declared.Sort.the-variants.{Int}
-use Rattle.scalar.specs.Scalars.{formsOf}
-use Rattle.numbers.proofs.Reading.{begins, no-form}
+use Rattle.scalar.specs.FormLaws.{forms-int}
+use Rattle.numbers.proofs.Reading.{begins, begins-none}
 use Rattle.numbers.proofs.int_form.Statement.{statement}
 use Rattle.numbers.proofs.int_form.Tie as tie
 
 pub int-form-spec : {M : Type 1} → statement M
-unfolding formsOf
 int-form-spec =
     tie.close
     (tie.spec
@@ -16,9 +15,9 @@ int-form-spec =
     (λ c. search needs)
     (λ c. search needs)
     (λ c. search needs)
-    (λ c. begins Int 3 (omega arith) (omega arith))
-    (λ c. begins Int 0 (omega arith) (omega arith))
-    (λ c. begins Int 1 (omega arith) (omega arith))
-    (λ c. begins Int 2 (omega arith) (omega arith))
-    (λ c. no-form (formsOf Int) _ (search needs))
-    (λ c. no-form (formsOf Int) _ (search needs)))
+    (λ c. begins Int forms-int 3 (omega arith) (omega arith))
+    (λ c. begins Int forms-int 0 (omega arith) (omega arith))
+    (λ c. begins Int forms-int 1 (omega arith) (omega arith))
+    (λ c. begins Int forms-int 2 (omega arith) (omega arith))
+    (λ c. begins-none Int forms-int _ (search needs))
+    (λ c. begins-none Int forms-int _ (search needs)))

@@ -1,21 +1,18 @@
 -- `numbers::spell` meets its contract: kind by kind.
 use borrow.Author.Needs.{needs}
-use Rattle.scalar.specs.Scalars.{formsOf}
+use Rattle.scalar.specs.FormLaws.{forms-null, forms-false, forms-true}
 use Rattle.numbers.proofs.Writing.{last-found}
 use Rattle.numbers.proofs.spell.Statement.{statement}
 use Rattle.numbers.proofs.spell.Tie as tie
 
 returns : tie.Need-returns
-unfolding formsOf
-returns c = rw (c .before .enum-told .given .1) (last-found _ _ (c .try-exactly .ensures))
+returns c = rw (c .before .enum-told .given .1, forms-null) (last-found _ _ (c .try-exactly .ensures))
 
 returns-2 : tie.Need-returns-2
-unfolding formsOf
-returns-2 c = rw (c .before .enum-told2 .given .1) (last-found _ _ (c .try-exactly2 .ensures))
+returns-2 c = rw (c .before .enum-told2 .given .1, forms-false) (last-found _ _ (c .try-exactly2 .ensures))
 
 returns-3 : tie.Need-returns-3
-unfolding formsOf
-returns-3 c = rw (c .before .enum-told3 .given .1) (last-found _ _ (c .try-exactly3 .ensures))
+returns-3 c = rw (c .before .enum-told3 .given .1, forms-true) (last-found _ _ (c .try-exactly3 .ensures))
 
 returns-4 : tie.Need-returns-4
 returns-4 c = rw (c .before .enum-told4 .given .1) (c .spell-int .ensures)

@@ -2,7 +2,8 @@
 use borrow.Author.Needs.{needs, sfits-of}
 use mir.Syntax.{w64}
 use mir.ValLaws.{toZ-ofZ}
-use Rattle.scalar.specs.Scalars.{value}
+use Rattle.scalar.specs.RuleLaws.{value-exactly, value-plain, value-offset, value-signed}
+use Rattle.scalar.specs.RuleLaws.{value-minutes, value-byte, value-pair, value-float}
 use Rattle.numbers.proofs.value_of.Statement.{statement}
 use Rattle.numbers.proofs.value_of.Tie as tie
 
@@ -25,36 +26,35 @@ cast-widened : tie.Need-cast-widened
 cast-widened c = record { fits = rw (c .enum-told6 .given .1) at (c .before .before .pre) }
 
 returns : tie.Need-returns
-unfolding value
-returns c = rw (c .before .rule .given .1)
+returns c = rw (c .before .rule .given .1, value-exactly)
 
 returns-2 : tie.Need-returns-2
-unfolding value
-returns-2 c = rw (c .enum-told .given .1)
+returns-2 c = rw (c .enum-told .given .1, value-plain)
 
 returns-3 : tie.Need-returns-3
-unfolding value
-returns-3 c = rw (c .before .before .rule2 .given .1) (c .less .ensures)
+returns-3 c = rw (c .before .before .rule2 .given .1, value-offset) (c .less .ensures)
 
 returns-4 : tie.Need-returns-4
-unfolding value
-returns-4 c = rw (c .before .before .enum-told2 .given .1, ← c .before .signed-32 .ensures, ← toZ-ofZ w64 (c .before .signed-32 .result) (sfits-of (c .before .signed-32 .ok))) (c .bits-of .ensures)
+returns-4 c =
+    rw (
+      c .before .before .enum-told2 .given .1,
+      value-signed,
+      ← c .before .signed-32 .ensures,
+      ← toZ-ofZ w64 (c .before .signed-32 .result) (sfits-of (c .before .signed-32 .ok)),
+    )
+    (c .bits-of .ensures)
 
 returns-5 : tie.Need-returns-5
-unfolding value
-returns-5 c = rw (c .before .enum-told3 .given .1) (c .milliseconds .ensures)
+returns-5 c = rw (c .before .enum-told3 .given .1, value-minutes) (c .milliseconds .ensures)
 
 returns-6 : tie.Need-returns-6
-unfolding value
-returns-6 c = rw (c .before .enum-told4 .given .1) (c .whole-byte .ensures)
+returns-6 c = rw (c .before .enum-told4 .given .1, value-byte) (c .whole-byte .ensures)
 
 returns-7 : tie.Need-returns-7
-unfolding value
-returns-7 c = rw (c .before .enum-told5 .given .1) (c .whole-pair .ensures)
+returns-7 c = rw (c .before .enum-told5 .given .1, value-pair) (c .whole-pair .ensures)
 
 returns-8 : tie.Need-returns-8
-unfolding value
-returns-8 c = rw (c .before .enum-told6 .given .1) (c .widened .ensures)
+returns-8 c = rw (c .before .enum-told6 .given .1, value-float) (c .widened .ensures)
 
 pub value-of-spec : {M : Type 1} → statement M
 value-of-spec =

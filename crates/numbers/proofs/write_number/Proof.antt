@@ -1,27 +1,24 @@
 -- `numbers::write_number` meets its contract: kind by kind.
 use borrow.Author.Needs.{needs}
-use Rattle.scalar.specs.Scalars.{formsOf}
-use Rattle.numbers.proofs.Writing.{written-kind}
+use Rattle.scalar.specs.FormLaws.{forms-null, forms-false, forms-true}
+use Rattle.numbers.proofs.Writing.{written-kind, written-forms}
 use Rattle.numbers.proofs.write_number.Statement.{statement}
 use Rattle.numbers.proofs.write_number.Tie as tie
 
 returns : tie.Need-returns
-unfolding formsOf
 returns c =
     let arm = c .before .before in
-    written-kind _ (arm .before .before .enum-told .given .1) (arm .write-single .ensures)
+    written-forms _ (arm .before .before .enum-told .given .1) forms-null (arm .write-single .ensures)
 
 returns-2 : tie.Need-returns-2
-unfolding formsOf
 returns-2 c =
     let arm = c .before .before in
-    written-kind _ (arm .before .before .enum-told2 .given .1) (arm .write-single2 .ensures)
+    written-forms _ (arm .before .before .enum-told2 .given .1) forms-false (arm .write-single2 .ensures)
 
 returns-3 : tie.Need-returns-3
-unfolding formsOf
 returns-3 c =
     let arm = c .before .before in
-    written-kind _ (arm .before .before .enum-told3 .given .1) (arm .write-single3 .ensures)
+    written-forms _ (arm .before .before .enum-told3 .given .1) forms-true (arm .write-single3 .ensures)
 
 returns-4 : tie.Need-returns-4
 returns-4 c =

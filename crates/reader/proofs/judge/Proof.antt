@@ -1,6 +1,6 @@
 -- Each way out has its law in proofs/Message.antt.
 use borrow.Author.Needs.{needs}
-use Rattle.reader.proofs.Message.{judge-empty, judge-long, judge-fault, judge-over, judge-record}
+use Rattle.reader.proofs.Message.{judge-empty, judge-long, judge-refused, judge-over, judge-record}
 use Rattle.reader.proofs.judge.Statement.{statement}
 use Rattle.reader.proofs.judge.Tie as tie
 
@@ -14,7 +14,7 @@ returns-3 : tie.Need-returns-3
 returns-3 c = search (judge-over, needs)
 
 returns-4 : tie.Need-returns-4
-returns-4 c = search (judge-fault, needs)
+returns-4 c = search (judge-refused, needs)
 
 returns-5 : tie.Need-returns-5
 returns-5 c = search (judge-record, needs)

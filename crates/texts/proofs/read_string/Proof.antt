@@ -1,7 +1,8 @@
 -- `texts::read_string` meets its contract.
 use mathlib.Core.Path.{sym}
 use borrow.Author.Needs.{needs}
-use Rattle.texts.specs.At.{string-ends, measured-as}
+use Rattle.scalar.specs.TextAt.{string-ends}
+use Rattle.scalar.specs.AnswerLaws.{measured-as}
 use Rattle.texts.proofs.Strings.{joining-start}
 use Rattle.texts.proofs.read_string.Statement.{statement}
 use Rattle.texts.proofs.read_string.Tie as tie

@@ -8,4 +8,6 @@ returns : tie.Need-returns
 returns c = search (eight-is, needs)
 
 pub eight-in-spec : {M : Type 1} → statement M
-eight-in-spec = tie.close (tie.spec (λ c κs. search needs) (λ c. search needs) (λ c. search needs) (λ c κs. search needs) (λ c. search needs) returns)
+eight-in-spec =
+    tie.close (tie.spec (λ c κs. search needs) (λ c. search needs) (λ c. search needs) (λ c κs. search needs)
+    (λ c. search needs) returns)

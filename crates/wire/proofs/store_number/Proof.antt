@@ -1,4 +1,5 @@
--- `store_number` meets its contract. The loop's invariant: with the k bytes that are left stored, the list is as with all of them stored at the start.
+-- `store_number` meets its contract. The loop's invariant: with the k bytes that are left stored, the list is as with
+-- all of them stored at the start.
 -- The measure is how many bytes are left to store.
 use mathlib.Core.Path.{_≡_, refl, sym, _∙_}
 use mathlib.Core.Bool.{false}
@@ -17,11 +18,18 @@ use Rattle.wire.proofs.store_number.Statement.{statement}
 use Rattle.wire.proofs.store_number.Tie as tie
 
 -- a number that does not fit
-short : (l : List ℕ) (at count value : ℕ) → length l < at + count → (false ≡ leb (at + count) (length l)) × (l ≡ stored l at (be count value))
-short l at count value h = (sym (lt-leb (at + count) (length l) h), sym (stored-out l at (be count value) (omega (arith, be-length count value))))
+short : (l : List ℕ) (at count value : ℕ) → length l < at + count
+    → (false ≡ leb (at + count) (length l)) × (l ≡ stored l at (be count value))
+short l at count value h = (
+  sym (lt-leb (at + count) (length l) h),
+  sym (stored-out l at (be count value)
+      (omega (arith, be-length count value))),
+)
 
 abbrev Inv-loop : tie.InvT-loop
-Inv-loop bytes₀ at count value len rest₀ k₀ bytes rest k = (k ≤ count) × (at + count ≤ length bytes₀) × (length bytes ≡ length bytes₀) × (sets bytes at (be k rest) ≡ sets bytes₀ at (be count value))
+Inv-loop bytes₀ at count value len rest₀ k₀ bytes rest k =
+    (k ≤ count) × (at + count ≤ length bytes₀) × (length bytes ≡ length bytes₀)
+    × (sets bytes at (be k rest) ≡ sets bytes₀ at (be count value))
 
 abbrev μ-loop : tie.MeasureT-loop
 μ-loop bytes₀ at count value len rest₀ k₀ bytes rest k = k
@@ -53,8 +61,13 @@ loop-less c = omega arith
 loop-again : tie.Need-loop-again Inv-loop μ-loop
 loop-again c =
     let l = c .before .loop in
-    let a = c .before .before .before .before .args in
-    (omega arith, l .inv .1, simp length-set (l .inv .2), sets-be (l .bytes) (a .at) (l .k) (l .rest) (omega arith) ∙ l .inv .3)
+    let a = c .before .before .before .before .args in (
+      omega arith,
+      l .inv .1,
+      simp length-set (l .inv .2),
+      sets-be (l .bytes) (a .at) (l .k) (l .rest) (omega arith)
+          ∙ l .inv .3,
+    )
 
 same-length : tie.Need-same-length Inv-loop μ-loop
 same-length c = c .before .loop .inv .2
@@ -64,7 +77,9 @@ returns-3 c =
     let l = c .before .loop in
     let a = c .before .before .before .before .args in (
       sym (le-leb _ _ (l .inv .1)),
-      sym (sets-none (l .bytes) (a .at) (l .k) (l .rest) (omega arith)) ∙ l .inv .3 ∙ sym (stored-sets (a .bytes .now) (a .at) (be (a .count) (a .value)) (omega (arith, be-length (a .count) (a .value)))),
+      sym (sets-none (l .bytes) (a .at) (l .k) (l .rest) (omega arith)) ∙ l .inv .3
+          ∙ sym (stored-sets (a .bytes .now) (a .at) (be (a .count) (a .value))
+          (omega (arith, be-length (a .count) (a .value)))),
     )
 
 pub store-number-spec : {M : Type 1} → statement M

@@ -1,15 +1,11 @@
--- Each of the table's 256 entries is what `entry` computes to.
+-- The table has the entries in the order of the bytes.
 use borrow.Author.Needs.{needs}
-use Rattle.flow.specs.Flow.{pick}
-use Rattle.scalar.specs.Chart.{ranges, rangeOf, leadOf, kindOf}
-use Rattle.scalar.specs.Chart.{followOf, entry}
-use Rattle.numbers.proofs.Table.{at}
+use Rattle.scalar.specs.ChartLaws.{entries}
 use Rattle.numbers.proofs.chart.entry.Statement.{statement}
 use Rattle.numbers.proofs.chart.entry.Tie as tie
 
 returns : tie.Need-returns
-unfolding entry kindOf leadOf followOf rangeOf ranges pick
-returns c = at entry 256 (c .args .b) (c .fits .b .fits)
+returns c = entries (c .args .b) (c .fits .b .fits)
 
 pub entry-spec : {M : Type 1} → statement M
 entry-spec = tie.close (tie.spec (λ c. search needs) returns)

@@ -2,15 +2,16 @@
 use native.Mathlib.Omega.{arith}
 use borrow.Author.Needs.{needs}
 use Rattle.scalar.specs.declared.Sort.the-variants.{Date}
-use Rattle.scalar.specs.Scalars.{formsOf}
+use Rattle.scalar.specs.FormLaws.{forms-date}
 use Rattle.numbers.proofs.Reading.{begins}
 use Rattle.numbers.proofs.Loads.{formed}
 use Rattle.numbers.proofs.direct.read_date.Statement.{statement}
 use Rattle.numbers.proofs.direct.read_date.Tie as tie
 
 returns : tie.Need-returns
-unfolding formsOf
-returns c = formed _ _ _ _ _ Date _ (c .nine-bytes .ensures) (omega arith) (begins Date 1 (omega arith) (omega arith))
+returns c =
+    formed _ _ _ _ _ Date _ (c .nine-bytes .ensures) (omega arith)
+    (begins Date forms-date 1 (omega arith) (omega arith))
 
 pub read-date-spec : {M : Type 1} → statement M
 read-date-spec =

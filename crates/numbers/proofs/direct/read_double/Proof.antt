@@ -2,19 +2,21 @@
 use native.Mathlib.Omega.{arith}
 use borrow.Author.Needs.{needs}
 use Rattle.scalar.specs.declared.Sort.the-variants.{Double}
-use Rattle.scalar.specs.Scalars.{formsOf}
+use Rattle.scalar.specs.FormLaws.{forms-double}
 use Rattle.numbers.proofs.Reading.{begins}
 use Rattle.numbers.proofs.Loads.{formed}
 use Rattle.numbers.proofs.direct.read_double.Statement.{statement}
 use Rattle.numbers.proofs.direct.read_double.Tie as tie
 
 returns : tie.Need-returns
-unfolding formsOf
-returns c = formed _ _ _ _ _ Double _ (c .nine-bytes .ensures) (omega arith) (begins Double 5 (omega arith) (omega arith))
+returns c =
+    formed _ _ _ _ _ Double _ (c .nine-bytes .ensures) (omega arith)
+    (begins Double forms-double 5 (omega arith) (omega arith))
 
 returns-2 : tie.Need-returns-2
-unfolding formsOf
-returns-2 c = formed _ _ _ _ _ Double _ (c .float .ensures) (omega arith) (begins Double 4 (omega arith) (omega arith))
+returns-2 c =
+    formed _ _ _ _ _ Double _ (c .float .ensures) (omega arith)
+    (begins Double forms-double 4 (omega arith) (omega arith))
 
 pub read-double-spec : {M : Type 1} → statement M
 read-double-spec =

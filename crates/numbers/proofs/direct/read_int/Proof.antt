@@ -2,23 +2,23 @@
 use native.Mathlib.Omega.{arith}
 use borrow.Author.Needs.{needs}
 use Rattle.scalar.specs.declared.Sort.the-variants.{Int}
-use Rattle.scalar.specs.Scalars.{formsOf}
+use Rattle.scalar.specs.FormLaws.{forms-int}
 use Rattle.numbers.proofs.Reading.{begins}
 use Rattle.numbers.proofs.Loads.{formed}
 use Rattle.numbers.proofs.direct.read_int.Statement.{statement}
 use Rattle.numbers.proofs.direct.read_int.Tie as tie
 
 returns-2 : tie.Need-returns-2
-unfolding formsOf
-returns-2 c = formed _ _ _ _ _ Int _ (c .one-byte .ensures) (omega arith) (begins Int 0 (omega arith) (omega arith))
+returns-2 c =
+    formed _ _ _ _ _ Int _ (c .one-byte .ensures) (omega arith) (begins Int forms-int 0 (omega arith) (omega arith))
 
 returns-3 : tie.Need-returns-3
-unfolding formsOf
-returns-3 c = formed _ _ _ _ _ Int _ (c .two-bytes .ensures) (omega arith) (begins Int 1 (omega arith) (omega arith))
+returns-3 c =
+    formed _ _ _ _ _ Int _ (c .two-bytes .ensures) (omega arith) (begins Int forms-int 1 (omega arith) (omega arith))
 
 returns-4 : tie.Need-returns-4
-unfolding formsOf
-returns-4 c = formed _ _ _ _ _ Int _ (c .three-bytes .ensures) (omega arith) (begins Int 2 (omega arith) (omega arith))
+returns-4 c =
+    formed _ _ _ _ _ Int _ (c .three-bytes .ensures) (omega arith) (begins Int forms-int 2 (omega arith) (omega arith))
 
 pub read-int-spec : {M : Type 1} → statement M
 read-int-spec =

@@ -2,19 +2,19 @@
 use native.Mathlib.Omega.{arith}
 use borrow.Author.Needs.{needs}
 use Rattle.scalar.specs.declared.Sort.the-variants.{Long}
-use Rattle.scalar.specs.Scalars.{formsOf}
+use Rattle.scalar.specs.FormLaws.{forms-long}
 use Rattle.numbers.proofs.Reading.{begins}
 use Rattle.numbers.proofs.Loads.{formed}
 use Rattle.numbers.proofs.direct.read_long.Statement.{statement}
 use Rattle.numbers.proofs.direct.read_long.Tie as tie
 
 returns-3 : tie.Need-returns-3
-unfolding formsOf
-returns-3 c = formed _ _ _ _ _ Long _ (c .one-byte .ensures) (omega arith) (begins Long 0 (omega arith) (omega arith))
+returns-3 c =
+    formed _ _ _ _ _ Long _ (c .one-byte .ensures) (omega arith) (begins Long forms-long 0 (omega arith) (omega arith))
 
 returns-4 : tie.Need-returns-4
-unfolding formsOf
-returns-4 c = formed _ _ _ _ _ Long _ (c .two-bytes .ensures) (omega arith) (begins Long 1 (omega arith) (omega arith))
+returns-4 c =
+    formed _ _ _ _ _ Long _ (c .two-bytes .ensures) (omega arith) (begins Long forms-long 1 (omega arith) (omega arith))
 
 pub read-long-spec : {M : Type 1} → statement M
 read-long-spec =

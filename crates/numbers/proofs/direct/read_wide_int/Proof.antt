@@ -2,15 +2,15 @@
 use native.Mathlib.Omega.{arith}
 use borrow.Author.Needs.{needs}
 use Rattle.scalar.specs.declared.Sort.the-variants.{Int}
-use Rattle.scalar.specs.Scalars.{formsOf}
+use Rattle.scalar.specs.FormLaws.{forms-int}
 use Rattle.numbers.proofs.Reading.{begins}
 use Rattle.numbers.proofs.Loads.{formed}
 use Rattle.numbers.proofs.direct.read_wide_int.Statement.{statement}
 use Rattle.numbers.proofs.direct.read_wide_int.Tie as tie
 
 returns-2 : tie.Need-returns-2
-unfolding formsOf
-returns-2 c = formed _ _ _ _ _ Int _ (c .five-bytes .ensures) (omega arith) (begins Int 3 (omega arith) (omega arith))
+returns-2 c =
+    formed _ _ _ _ _ Int _ (c .five-bytes .ensures) (omega arith) (begins Int forms-int 3 (omega arith) (omega arith))
 
 pub read-wide-int-spec : {M : Type 1} → statement M
 read-wide-int-spec =

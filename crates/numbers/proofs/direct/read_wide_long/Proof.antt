@@ -2,23 +2,26 @@
 use native.Mathlib.Omega.{arith}
 use borrow.Author.Needs.{needs}
 use Rattle.scalar.specs.declared.Sort.the-variants.{Long}
-use Rattle.scalar.specs.Scalars.{formsOf}
+use Rattle.scalar.specs.FormLaws.{forms-long}
 use Rattle.numbers.proofs.Reading.{begins}
 use Rattle.numbers.proofs.Loads.{formed}
 use Rattle.numbers.proofs.direct.read_wide_long.Statement.{statement}
 use Rattle.numbers.proofs.direct.read_wide_long.Tie as tie
 
 returns-2 : tie.Need-returns-2
-unfolding formsOf
-returns-2 c = formed _ _ _ _ _ Long _ (c .five-bytes .ensures) (omega arith) (begins Long 3 (omega arith) (omega arith))
+returns-2 c =
+    formed _ _ _ _ _ Long _ (c .five-bytes .ensures) (omega arith)
+    (begins Long forms-long 3 (omega arith) (omega arith))
 
 returns-3 : tie.Need-returns-3
-unfolding formsOf
-returns-3 c = formed _ _ _ _ _ Long _ (c .nine-bytes .ensures) (omega arith) (begins Long 4 (omega arith) (omega arith))
+returns-3 c =
+    formed _ _ _ _ _ Long _ (c .nine-bytes .ensures) (omega arith)
+    (begins Long forms-long 4 (omega arith) (omega arith))
 
 returns-4 : tie.Need-returns-4
-unfolding formsOf
-returns-4 c = formed _ _ _ _ _ Long _ (c .three-bytes .ensures) (omega arith) (begins Long 2 (omega arith) (omega arith))
+returns-4 c =
+    formed _ _ _ _ _ Long _ (c .three-bytes .ensures) (omega arith)
+    (begins Long forms-long 2 (omega arith) (omega arith))
 
 pub read-wide-long-spec : {M : Type 1} → statement M
 read-wide-long-spec =

@@ -1,8 +1,8 @@
--- Each way out has its law in proofs/Classes.antt.
+-- Each way out has its law in proofs/ClassDefinitions.antt.
 use native.Mathlib.Omega.{arith}
 use borrow.Author.Needs.{needs}
 use Rattle.reader.proofs.Sizes.{string-within}
-use Rattle.reader.proofs.Classes.{class-full, class-nameless, class-named, class-counted}
+use Rattle.reader.proofs.ClassDefinitions.{class-full, class-nameless, class-named, class-counted}
 use Rattle.reader.proofs.definitions.class_head.Statement.{statement}
 use Rattle.reader.proofs.definitions.class_head.Tie as tie
 
@@ -10,7 +10,12 @@ returns : tie.Need-returns
 returns c = search (class-full, needs)
 
 add-field-count-2 : tie.Need-add-field-count-2
-add-field-count-2 c = omega (arith, string-within _ _ (c .before .before .before .before .before .before .before .pre .0 .bytes) _ (c .before .before .before .read-string .ensures) _ _ _ (c .before .units .given .1))
+add-field-count-2 c =
+    omega (
+      arith,
+      string-within _ _ (c .before .before .before .before .before .before .before .pre .0 .bytes) _
+          (c .before .before .before .read-string .ensures) _ _ _ (c .before .units .given .1),
+    )
 
 field-count-requires : tie.Need-field-count-requires
 field-count-requires c κs = search (class-named, needs)

@@ -1,6 +1,6 @@
--- Its law is in proofs/Classes.antt.
+-- Its law is in proofs/ClassDefinitions.antt.
 use borrow.Author.Needs.{needs}
-use Rattle.reader.proofs.Classes.{class-defined}
+use Rattle.reader.proofs.ClassDefinitions.{class-defined}
 use Rattle.reader.proofs.definitions.define.Statement.{statement}
 use Rattle.reader.proofs.definitions.define.Tie as tie
 

@@ -1,32 +1,33 @@
--- The loop's invariant: what is left reads as the whole does, with the rows so far in front. The measure is how many names are left.
+-- The loop's invariant: what is left reads as the whole does, with the rows so far in front. The measure is how many
+-- names are left.
 use Prim.Native.Nat.{_-_}
-use native.Mathlib.Omega.{arith}
 use borrow.Author.Needs.{needs}
-use Rattle.reader.proofs.Classes.{Naming, naming-start, naming-more, names-past, names-wrong}
-use Rattle.reader.proofs.Sizes.{string-within}
+use Rattle.reader.proofs.ClassDefinitions.{ReadingNames, names-start, names-more, name-fits, names-done}
+use Rattle.reader.proofs.ClassDefinitions.{names-refused}
 use Rattle.reader.proofs.definitions.field_names.Statement.{statement}
 use Rattle.reader.proofs.definitions.field_names.Tie as tie
 
 abbrev Inv-loop : tie.InvT-loop
-Inv-loop message numbers₀ bytes₀ at count row here₀ i₀ numbers bytes here i = Naming message at count row numbers₀ bytes₀ numbers bytes here i
+Inv-loop message numbers₀ bytes₀ from count here₀ i₀ numbers bytes here i =
+    ReadingNames message numbers₀ bytes₀ from count numbers bytes here i
 
 abbrev μ-loop : tie.MeasureT-loop
-μ-loop message numbers₀ bytes₀ at count row here₀ i₀ numbers bytes here i = count - i
+μ-loop message numbers₀ bytes₀ from count here₀ i₀ numbers bytes here i = count - i
 
 loop-holds : tie.Need-loop-holds Inv-loop μ-loop
-loop-holds c = search (naming-start, needs)
+loop-holds c = search (names-start, needs)
 
 returns : tie.Need-returns Inv-loop μ-loop
-returns c = search (names-wrong, needs)
+returns c = search (names-refused, needs)
 
 add-here : tie.Need-add-here Inv-loop μ-loop
-add-here c = omega (arith, string-within _ _ (c .before .before .before .before .before .before .before .before .before .before .before .before .before .before .before .before .pre .0 .bytes) _ (c .before .before .before .before .before .before .before .before .before .before .read-string .ensures) _ _ _ (c .before .before .before .before .before .before .before .before .units .given .1))
+add-here c = search (name-fits, needs)
 
 loop-again : tie.Need-loop-again Inv-loop μ-loop
-loop-again c = search (naming-more, needs)
+loop-again c = search (names-more, needs)
 
 returns-2 : tie.Need-returns-2 Inv-loop μ-loop
-returns-2 c = search (names-past, needs)
+returns-2 c = search (names-done, needs)
 
 pub field-names-spec : {M : Type 1} → statement M
 field-names-spec =
@@ -43,12 +44,12 @@ field-names-spec =
     (λ c. search needs)
     (λ c. search needs)
     (λ c. search needs)
-    (λ c. search needs)
     (λ c κs. search needs)
     add-here
     (λ c. search needs)
     (λ c. search needs)
     loop-again
+    (λ c. search needs)
     (λ c. search needs)
     (λ c. search needs)
     returns-2)

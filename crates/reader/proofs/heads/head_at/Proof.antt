@@ -1,5 +1,7 @@
--- Each way out has its law in proofs/FirstBytes.antt.
-use Rattle.reader.proofs.FirstBytes.{led-by, held-left, head-off, head-high, head-number, head-text, head-bytes, head-reference, head-definition, head-none, head-full, head-object, head-opening}
+-- Each way out has its law in proofs/ValueHeads.antt.
+use Rattle.reader.proofs.ValueHeads.{lead-at-by, held-left, head-off, head-high, head-number, head-text}
+use Rattle.reader.proofs.ValueHeads.{head-bytes, head-reference, head-definition, head-none, head-full}
+use Rattle.reader.proofs.ValueHeads.{head-object, head-opening}
 use mathlib.Core.Path.{refl}
 use borrow.Author.Needs.{needs}
 use Rattle.reader.proofs.heads.head_at.Statement.{statement}
@@ -12,25 +14,25 @@ returns-2 : tie.Need-returns-2
 returns-2 c = search (head-high, needs)
 
 number-head-requires : tie.Need-number-head-requires
-number-head-requires c κs = search (led-by, needs)
+number-head-requires c κs = search (lead-at-by, needs)
 
 text-head-requires : tie.Need-text-head-requires
-text-head-requires c κs = search (led-by, needs)
+text-head-requires c κs = search (lead-at-by, needs)
 
 bytes-head-requires : tie.Need-bytes-head-requires
-bytes-head-requires c κs = search (led-by, needs)
+bytes-head-requires c κs = search (lead-at-by, needs)
 
 reference-head-requires : tie.Need-reference-head-requires
-reference-head-requires c κs = search (led-by, needs)
+reference-head-requires c κs = search (lead-at-by, needs)
 
 returns-3 : tie.Need-returns-3
 returns-3 c = search (head-full, needs)
 
 object-head-requires : tie.Need-object-head-requires
-object-head-requires c κs = search (led-by, needs)
+object-head-requires c κs = search (lead-at-by, needs)
 
 opening-requires : tie.Need-opening-requires
-opening-requires c κs = search (led-by, held-left, refl, needs)
+opening-requires c κs = search (lead-at-by, held-left, refl, needs)
 
 returns-4 : tie.Need-returns-4
 returns-4 c = search (head-number, needs)

@@ -1,6 +1,6 @@
--- The first byte says which: proofs/FirstBytes.antt.
+-- The first byte says which: proofs/ValueHeads.antt.
 use borrow.Author.Needs.{needs}
-use Rattle.reader.proofs.FirstBytes.{high-int, high-long}
+use Rattle.reader.proofs.ValueHeads.{high-int, high-long}
 use Rattle.reader.proofs.heads.high_head.Statement.{statement}
 use Rattle.reader.proofs.heads.high_head.Tie as tie
 

@@ -1,5 +1,5 @@
--- Short texts have their law in proofs/FirstBytes.antt.
-use Rattle.reader.proofs.FirstBytes.{lead-short}
+-- Short texts have their law in proofs/ValueHeads.antt.
+use Rattle.reader.proofs.ValueHeads.{lead-short}
 use borrow.Author.Needs.{needs}
 use Rattle.reader.proofs.heads.lead_of.Statement.{statement}
 use Rattle.reader.proofs.heads.lead_of.Tie as tie

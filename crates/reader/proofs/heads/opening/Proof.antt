@@ -1,5 +1,5 @@
--- Each way out has its law in proofs/FirstBytes.antt.
-use Rattle.reader.proofs.FirstBytes.{led-as, map-left, opens-none, opens-one, opens-map}
+-- Each way out has its law in proofs/ValueHeads.antt.
+use Rattle.reader.proofs.ValueHeads.{lead-at-as, map-left, opens-none, opens-one, opens-map}
 use borrow.Author.Needs.{needs}
 use Rattle.reader.proofs.heads.opening.Statement.{statement}
 use Rattle.reader.proofs.heads.opening.Tie as tie
@@ -8,10 +8,10 @@ returns : tie.Need-returns
 returns c = search (opens-none, needs)
 
 list-head-requires : tie.Need-list-head-requires
-list-head-requires c κs = search (led-as, needs)
+list-head-requires c κs = search (lead-at-as, needs)
 
 typed-list-head-requires : tie.Need-typed-list-head-requires
-typed-list-head-requires c κs = search (led-as, needs)
+typed-list-head-requires c κs = search (lead-at-as, needs)
 
 typed-map-head-requires : tie.Need-typed-map-head-requires
 typed-map-head-requires c κs = search (map-left, needs)

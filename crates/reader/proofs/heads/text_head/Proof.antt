@@ -13,4 +13,5 @@ returns-2 c = search (text-head-is, needs)
 pub text-head-spec : {M : Type 1} → statement M
 text-head-spec =
     tie.close
-    (tie.spec (λ c κs. search needs) (λ c. search needs) (λ c. search needs) (λ c. search (string-fits, needs)) returns returns-2)
+    (tie.spec (λ c κs. search needs) (λ c. search needs) (λ c. search needs)
+    (λ c. search (string-fits, needs)) returns returns-2)

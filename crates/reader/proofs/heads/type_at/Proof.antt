@@ -1,6 +1,6 @@
 -- Each way out has its law in proofs/Types.antt.
 use borrow.Author.Needs.{needs}
-use Rattle.reader.proofs.Types.{type-off, text-led, no-name}
+use Rattle.reader.proofs.Types.{type-off, lead-at-text, no-name}
 use Rattle.reader.proofs.heads.type_at.Statement.{statement}
 use Rattle.reader.proofs.heads.type_at.Tie as tie
 
@@ -8,7 +8,7 @@ returns : tie.Need-returns
 returns c = search (type-off, needs)
 
 named-type-requires : tie.Need-named-type-requires
-named-type-requires c κs = search (text-led, needs)
+named-type-requires c κs = search (lead-at-text, needs)
 
 numbered-type-requires : tie.Need-numbered-type-requires
 numbered-type-requires c κs = search (no-name, needs)

@@ -1,9 +1,9 @@
--- Each way out has its law in proofs/Stores.antt.
+-- Each way out has its law in proofs/StoredRows.antt.
 use mathlib.Core.Path.{refl}
 use native.Mathlib.Omega.{arith}
 use borrow.Author.Needs.{needs}
 use lib.ListN.{length-set}
-use Rattle.reader.proofs.Stores.{number-out, number-in}
+use Rattle.reader.proofs.StoredRows.{number-out, number-in}
 use Rattle.reader.proofs.rows.put_number.Statement.{statement}
 use Rattle.reader.proofs.rows.put_number.Tie as tie
 

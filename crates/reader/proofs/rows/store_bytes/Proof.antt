@@ -1,7 +1,7 @@
 -- As for store_bytes.
 use native.Mathlib.Omega.{arith}
 use borrow.Author.Needs.{needs}
-use Rattle.reader.proofs.Stores.{bytes-out, bytes-in}
+use Rattle.reader.proofs.StoredRows.{bytes-out, bytes-in}
 use Rattle.reader.proofs.rows.store_bytes.Statement.{statement}
 use Rattle.reader.proofs.rows.store_bytes.Tie as tie
 
@@ -10,7 +10,9 @@ returns c =
     let d = c .before .before .before .before .before .before in
     let e = d .before .before .before .before in
     let f = e .before .before .before .before in
-    bytes-in _ _ _ _ _ _ _ (omega arith) (f .before .before .before .before .put-number .ensures) (f .put-number2 .ensures) (e .put-number3 .ensures) (d .put-number4 .ensures) (c .before .before .put-number5 .ensures)
+    bytes-in _ _ _ _ _ _ _ (omega arith) (f .before .before .before .before .put-number .ensures)
+    (f .put-number2 .ensures) (e .put-number3 .ensures) (d .put-number4 .ensures)
+    (c .before .before .put-number5 .ensures)
 
 returns-2 : tie.Need-returns-2
 returns-2 c = search (bytes-out, needs)

@@ -1,8 +1,8 @@
--- Each way out has its law in proofs/Stores.antt.
+-- Each way out has its law in proofs/StoredRows.antt.
 use native.Mathlib.Omega.{arith}
 use borrow.Author.Needs.{needs}
 use lib.ListN.{length-set}
-use Rattle.reader.proofs.Stores.{numbers-out, numbers-in}
+use Rattle.reader.proofs.StoredRows.{numbers-out, numbers-in}
 use Rattle.reader.proofs.rows.store_numbers.Statement.{statement}
 use Rattle.reader.proofs.rows.store_numbers.Tie as tie
 

@@ -1,6 +1,8 @@
--- The loop's invariant: what is left is the whole, with the rows of the definitions so far in front. The measure is how many bytes are left.
-use Rattle.reader.proofs.Walk.{begin-led, begin-undefined, begin-less, begin-more, begin-fits, begin-begun}
-use Rattle.reader.proofs.Classes.{Defining, defining-start}
+-- The loop's invariant: what is left is the whole, with the rows of the definitions so far in front. The measure is how
+-- many bytes are left.
+use Rattle.reader.proofs.ReadValues.{begin-defined, begin-undefined, begin-less, begin-more, begin-fits}
+use Rattle.reader.proofs.ReadValues.{begin-begun}
+use Rattle.reader.proofs.ClassDefinitions.{ReadingDefinitions, definitions-start}
 use borrow.Author.Needs.{needs}
 use lib.ListN.{length}
 use mathlib.Core.Path.{_∙_}
@@ -9,16 +11,20 @@ use Rattle.reader.proofs.values.begin.Statement.{statement}
 use Rattle.reader.proofs.values.begin.Tie as tie
 
 abbrev Inv-loop : tie.InvT-loop
-Inv-loop message numbers₀ bytes₀ known₀ from row allowed at₀ rows₀ numbers bytes known at rows = Defining message from row known₀ numbers₀ bytes₀ known numbers bytes at rows
+Inv-loop message numbers₀ bytes₀ known₀ allowed here₀ numbers bytes known here =
+    ReadingDefinitions message numbers₀ bytes₀ known₀ here₀ numbers bytes known here
 
 abbrev μ-loop : tie.MeasureT-loop
-μ-loop message numbers₀ bytes₀ known₀ from row allowed at₀ rows₀ numbers bytes known at rows = length message - at
+μ-loop message numbers₀ bytes₀ known₀ allowed here₀ numbers bytes known here = length message - here .at
 
 loop-holds : tie.Need-loop-holds Inv-loop μ-loop
-loop-holds c = search (defining-start, needs)
+loop-holds c = search (definitions-start, needs)
 
 definition-requires : tie.Need-definition-requires Inv-loop μ-loop
-definition-requires c κs = begin-led _ _ _ _ _ _ _ _ _ _ _ _ (c .before .before .before .before .before .before .before .loop .inv) _ (c .before .before .before .before .before .head-at .ensures) (c .before .before .before .enum-told .given .1)
+definition-requires c κs =
+    let told = c .before .before .before in
+    let head = told .before .before in
+    begin-defined (head .before .before .loop .inv) (head .head-at .ensures) (told .enum-told .given .1)
 
 same-length : tie.Need-same-length Inv-loop μ-loop
 same-length c = search (_∙_, needs)

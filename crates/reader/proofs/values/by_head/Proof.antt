@@ -1,5 +1,5 @@
--- Each way out has its law in proofs/Groups.antt.
-use Rattle.reader.proofs.Groups.{head-wrong, head-leaf, head-holder, head-defined, leaf-fits, holder-fits}
+-- Each way out has its law in proofs/Containers.antt.
+use Rattle.reader.proofs.Containers.{head-refused, head-leaf, head-holder, head-defined, leaf-fits, holder-fits}
 use borrow.Author.Needs.{needs}
 use Rattle.reader.proofs.values.by_head.Statement.{statement}
 use Rattle.reader.proofs.values.by_head.Tie as tie
@@ -7,11 +7,11 @@ use Rattle.reader.proofs.values.by_head.Tie as tie
 add-after : tie.Need-add-after
 add-after c = search (leaf-fits, needs)
 
-within-requires : tie.Need-within-requires
-within-requires c κs = search (holder-fits, needs)
+open-holder-requires : tie.Need-open-holder-requires
+open-holder-requires c κs = search (holder-fits, needs)
 
 returns : tie.Need-returns
-returns c = search (head-wrong, needs)
+returns c = search (head-refused, needs)
 
 returns-2 : tie.Need-returns-2
 returns-2 c = search (head-leaf, needs)
@@ -31,7 +31,7 @@ by-head-spec =
     add-after
     (λ c κs. search needs)
     (λ c. search needs)
-    within-requires
+    open-holder-requires
     (λ c. search needs)
     returns
     (λ c. search needs)

@@ -1,6 +1,6 @@
--- Each way out has its law in proofs/Groups.antt.
+-- Each way out has its law in proofs/Containers.antt.
 use borrow.Author.Needs.{needs}
-use Rattle.reader.proofs.Groups.{closes-out, closes-in}
+use Rattle.reader.proofs.Containers.{closes-out, closes-in}
 use Rattle.reader.proofs.values.closed_at.Statement.{statement}
 use Rattle.reader.proofs.values.closed_at.Tie as tie
 

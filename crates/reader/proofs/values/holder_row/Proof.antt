@@ -1,5 +1,5 @@
--- Each way out has its law in proofs/Groups.antt.
-use Rattle.reader.proofs.Groups.{tag-small, row-fields, row-list, row-pairs}
+-- Each way out has its law in proofs/Containers.antt.
+use Rattle.reader.proofs.Containers.{tag-small, row-fields, row-list, row-pairs}
 use native.Mathlib.Omega.{arith}
 use borrow.Author.Needs.{needs}
 use Rattle.reader.proofs.values.holder_row.Statement.{statement}

@@ -1,5 +1,5 @@
--- Each way out has its law in proofs/Groups.antt.
-use Rattle.reader.proofs.Groups.{past-few, past-end}
+-- Each way out has its law in proofs/Containers.antt.
+use Rattle.reader.proofs.Containers.{past-few, past-end}
 use borrow.Author.Needs.{needs}
 use Rattle.reader.proofs.values.passed.Statement.{statement}
 use Rattle.reader.proofs.values.passed.Tie as tie

@@ -1,5 +1,5 @@
--- Each way out has its law in proofs/Groups.antt.
-use Rattle.reader.proofs.Groups.{stops-few, stops-open, stops-even, stops-odd}
+-- Each way out has its law in proofs/Containers.antt.
+use Rattle.reader.proofs.Containers.{stops-few, stops-open, stops-even, stops-odd}
 use borrow.Author.Needs.{needs}
 use Rattle.reader.proofs.values.stop.Statement.{statement}
 use Rattle.reader.proofs.values.stop.Tie as tie

@@ -1,23 +1,23 @@
--- Each way out has its law in proofs/Groups.antt.
+-- Each way out has its law in proofs/Containers.antt.
 use borrow.Author.Needs.{needs}
-use Rattle.reader.proofs.Groups.{named-fits, numbered-fits, laid-untyped, laid-named, laid-numbered}
+use Rattle.reader.proofs.Containers.{named-fits, numbered-fits, stores-untyped, stores-named, stores-numbered}
 use Rattle.reader.proofs.values.store_type.Statement.{statement}
 use Rattle.reader.proofs.values.store_type.Tie as tie
 
-add-t12 : tie.Need-add-t12
-add-t12 c = search (named-fits, needs)
+add-t11 : tie.Need-add-t11
+add-t11 c = search (named-fits, needs)
 
-add-t20 : tie.Need-add-t20
-add-t20 c = search (numbered-fits, needs)
+add-t19 : tie.Need-add-t19
+add-t19 c = search (numbered-fits, needs)
 
 returns : tie.Need-returns
-returns c = search (laid-untyped, needs)
+returns c = search (stores-untyped, needs)
 
 returns-2 : tie.Need-returns-2
-returns-2 c = search (laid-named, needs)
+returns-2 c = search (stores-named, needs)
 
 returns-3 : tie.Need-returns-3
-returns-3 c = search (laid-numbered, needs)
+returns-3 c = search (stores-numbered, needs)
 
 pub store-type-spec : {M : Type 1} → statement M
 store-type-spec =
@@ -25,10 +25,10 @@ store-type-spec =
     (tie.spec
     (λ c. search needs)
     (λ c. search needs)
-    add-t12
+    add-t11
     (λ c κs. search needs)
     (λ c. search needs)
-    add-t20
+    add-t19
     (λ c κs. search needs)
     returns
     (λ c. search needs)

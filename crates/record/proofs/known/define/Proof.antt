@@ -1,6 +1,6 @@
--- Both ways through the test have their laws in specs/KnownArray.antt.
+-- Both ways through the test have their laws in specs/Laws/KnownArray.antt.
 use borrow.Author.Needs.{needs}
-use Rattle.record.specs.KnownArray.{defined-room, defined-full}
+use Rattle.record.specs.Laws.KnownArray.{defined-room, defined-full}
 use Rattle.record.proofs.known.define.Statement.{statement}
 use Rattle.record.proofs.known.define.Tie as tie
 

@@ -1,8 +1,8 @@
--- Each way out has its law in proofs/Heading.antt.
+-- Each way out has its law in proofs/HolderLaws.antt.
 use mathlib.Core.Logic.{⊎-elim}
 use borrow.Author.Needs.{needs}
-use Rattle.record.specs.KnownArray.{kept-opened}
-use Rattle.writer.proofs.Heading.{has-type, no-second, held-lost, ready-opened, object-held, list-held, map-held}
+use Rattle.record.specs.Laws.KnownArray.{kept-opened}
+use Rattle.writer.proofs.HolderLaws.{has-type, no-second, held-lost, ready-opened, object-held, list-or-map-held}
 use Rattle.writer.proofs.holders.put_holder.Statement.{statement}
 use Rattle.writer.proofs.holders.put_holder.Tie as tie
 
@@ -15,17 +15,22 @@ returns c = search (object-held, needs)
 returns-2 : tie.Need-returns-2
 returns-2 c = search (held-lost, needs)
 
-put-list-requires : tie.Need-put-list-requires
-put-list-requires c κs = ⊎-elim (λ w. search (ready-opened, has-type, no-second, needs)) (λ w. search (ready-opened, has-type, no-second, needs)) (c .before .before .before .before .before .if2 .came)
+put-list-or-map-requires : tie.Need-put-list-or-map-requires
+put-list-or-map-requires c κs = ⊎-elim
+    (λ w. search (ready-opened, no-second, needs))
+    (λ w. search (ready-opened, has-type, needs))
+    (c .before .before .if2 .came)
 
 returns-3 : tie.Need-returns-3
-returns-3 c = ⊎-elim (λ w. search (list-held, has-type, no-second, needs)) (λ w. search (list-held, has-type, no-second, needs)) (c .before .before .before .before .before .before .before .before .if2 .came)
-
-put-map-requires : tie.Need-put-map-requires
-put-map-requires c κs = ⊎-elim (λ w. search (ready-opened, has-type, no-second, needs)) (λ w. search (ready-opened, has-type, no-second, needs)) (c .before .before .before .before .before .if2 .came)
-
-returns-4 : tie.Need-returns-4
-returns-4 c = ⊎-elim (λ w. search (map-held, has-type, no-second, needs)) (λ w. search (map-held, has-type, no-second, needs)) (c .before .before .before .before .before .before .before .before .if2 .came)
+returns-3 c =
+    let held = c .before .before in
+    let tests = held .before .before .before in
+    let start = tests .before .before .before .before .before .before .before .before .before .before .before in
+    let met = held .put-list-or-map .ensures in
+    ⊎-elim
+    (λ w. search (list-or-map-held, no-second, met, start .pre .0 .0 .1, start .pre .0 .2, start .pre .1, needs))
+    (λ w. search (list-or-map-held, has-type, met, start .pre .0 .0 .1, start .pre .0 .2, start .pre .1, needs))
+    (tests .if2 .came)
 
 pub put-holder-spec : {M : Type 1} → statement M
 put-holder-spec =
@@ -39,11 +44,6 @@ put-holder-spec =
     (λ c. search needs)
     returns
     returns-2
+    put-list-or-map-requires
     (λ c. search needs)
-    put-list-requires
-    (λ c. search needs)
-    returns-3
-    (λ c. search needs)
-    put-map-requires
-    (λ c. search needs)
-    returns-4)
+    returns-3)

@@ -1,6 +1,6 @@
--- Each way out has its law in proofs/Heading.antt.
+-- Each way out has its law in proofs/HolderLaws.antt.
 use borrow.Author.Needs.{needs}
-use Rattle.writer.proofs.Heading.{object-ungiven, object-misfit, object-uncoded, object-opens}
+use Rattle.writer.proofs.HolderLaws.{object-ungiven, object-misfit, object-uncoded, object-opens}
 use Rattle.writer.proofs.holders.put_object.Statement.{statement}
 use Rattle.writer.proofs.holders.put_object.Tie as tie
 

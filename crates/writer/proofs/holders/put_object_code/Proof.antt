@@ -1,6 +1,6 @@
--- Each way out has its law in proofs/Heading.antt.
+-- Each way out has its law in proofs/HolderLaws.antt.
 use borrow.Author.Needs.{needs}
-use Rattle.writer.proofs.Heading.{code-short, code-long}
+use Rattle.writer.proofs.HolderLaws.{code-short, code-long}
 use Rattle.writer.proofs.holders.put_object_code.Statement.{statement}
 use Rattle.writer.proofs.holders.put_object_code.Tie as tie
 

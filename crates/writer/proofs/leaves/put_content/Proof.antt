@@ -1,6 +1,6 @@
--- Each way out has its law in proofs/Leafed.antt.
+-- Each way out has its law in proofs/LeafLaws.antt.
 use borrow.Author.Needs.{needs}
-use Rattle.writer.proofs.Leafed.{content-lost, content-put}
+use Rattle.writer.proofs.LeafLaws.{content-lost, content-put}
 use Rattle.writer.proofs.leaves.put_content.Statement.{statement}
 use Rattle.writer.proofs.leaves.put_content.Tie as tie
 

@@ -1,6 +1,6 @@
--- Each way out has its law in proofs/Leafed.antt.
+-- Each way out has its law in proofs/LeafLaws.antt.
 use borrow.Author.Needs.{needs}
-use Rattle.writer.proofs.Leafed.{leaf-number, leaf-text, leaf-content, leaf-reference, leaf-none}
+use Rattle.writer.proofs.LeafLaws.{leaf-number, leaf-text, leaf-content, leaf-reference, leaf-none}
 use Rattle.writer.proofs.leaves.put_leaf.Statement.{statement}
 use Rattle.writer.proofs.leaves.put_leaf.Tie as tie
 

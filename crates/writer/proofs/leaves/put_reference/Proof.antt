@@ -1,6 +1,6 @@
--- Each way out has its law in proofs/Leafed.antt.
+-- Each way out has its law in proofs/LeafLaws.antt.
 use borrow.Author.Needs.{needs}
-use Rattle.writer.proofs.Leafed.{reference-lost, reference-ungiven, reference-put}
+use Rattle.writer.proofs.LeafLaws.{reference-lost, reference-ungiven, reference-put}
 use Rattle.writer.proofs.leaves.put_reference.Statement.{statement}
 use Rattle.writer.proofs.leaves.put_reference.Tie as tie
 

@@ -1,6 +1,6 @@
--- Each way out has its law in proofs/Leafed.antt.
+-- Each way out has its law in proofs/LeafLaws.antt.
 use borrow.Author.Needs.{needs}
-use Rattle.writer.proofs.Leafed.{number-lost, number-put}
+use Rattle.writer.proofs.LeafLaws.{number-lost, number-put}
 use Rattle.writer.proofs.leaves.put_value.Statement.{statement}
 use Rattle.writer.proofs.leaves.put_value.Tie as tie
 

@@ -1,6 +1,6 @@
--- The way out has its law in proofs/Named.antt.
+-- The way out has its law in proofs/NameLaws.antt.
 use borrow.Author.Needs.{needs}
-use Rattle.writer.proofs.Named.{string-put}
+use Rattle.writer.proofs.NameLaws.{string-put}
 use Rattle.writer.proofs.names.put_text.Statement.{statement}
 use Rattle.writer.proofs.names.put_text.Tie as tie
 

@@ -1,7 +1,7 @@
--- Both ways through the test have their laws in proofs/Putting.antt.
+-- Both ways through the test have their laws in proofs/PutLaws.antt.
 use mathlib.Core.Logic.{⊎-elim}
 use borrow.Author.Needs.{needs}
-use Rattle.writer.proofs.Putting.{puts-in, puts-out}
+use Rattle.writer.proofs.PutLaws.{puts-in, puts-out}
 use Rattle.writer.proofs.puts.put_byte.Statement.{statement}
 use Rattle.writer.proofs.puts.put_byte.Tie as tie
 

@@ -1,6 +1,6 @@
--- A form by what was reported of it: proofs/Putting.antt.
+-- A form by what was reported of it: proofs/PutLaws.antt.
 use borrow.Author.Needs.{needs}
-use Rattle.writer.proofs.Putting.{form-put}
+use Rattle.writer.proofs.PutLaws.{form-put}
 use Rattle.writer.proofs.puts.put_number.Statement.{statement}
 use Rattle.writer.proofs.puts.put_number.Tie as tie
 

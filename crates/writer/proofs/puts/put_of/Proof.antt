@@ -1,7 +1,7 @@
--- Each way out has its law in proofs/Putting.antt.
+-- Each way out has its law in proofs/PutLaws.antt.
 use mathlib.Core.Logic.{⊎-elim}
 use borrow.Author.Needs.{needs}
-use Rattle.writer.proofs.Putting.{stored-counts, over-counts}
+use Rattle.writer.proofs.PutLaws.{stored-counts, over-counts}
 use Rattle.writer.proofs.puts.put_of.Statement.{statement}
 use Rattle.writer.proofs.puts.put_of.Tie as tie
 

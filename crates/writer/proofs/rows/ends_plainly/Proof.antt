@@ -1,6 +1,6 @@
--- Each way out has its law in proofs/Rowed.antt.
+-- Each way out has its law in proofs/FetchLaws.antt.
 use borrow.Author.Needs.{needs}
-use Rattle.writer.proofs.Rowed.{plainly-held, plainly-low, plainly-single, plainly-short, plainly-defined}
+use Rattle.writer.proofs.FetchLaws.{plainly-held, plainly-low, plainly-single, plainly-short, plainly-defined}
 use Rattle.writer.proofs.rows.ends_plainly.Statement.{statement}
 use Rattle.writer.proofs.rows.ends_plainly.Tie as tie
 
@@ -20,4 +20,7 @@ returns-5 : tie.Need-returns-5
 returns-5 c = search (plainly-single, needs)
 
 pub ends-plainly-spec : {M : Type 1} → statement M
-ends-plainly-spec = tie.close (tie.spec (λ c. search needs) returns returns-2 returns-3 (λ c. search needs) (λ c. search needs) returns-4 returns-5)
+ends-plainly-spec =
+    tie.close
+    (tie.spec (λ c. search needs) returns returns-2 returns-3 (λ c. search needs) (λ c. search needs) returns-4
+    returns-5)

@@ -1,6 +1,6 @@
--- Each way out has its law in proofs/Rowed.antt.
+-- Each way out has its law in proofs/FetchLaws.antt.
 use borrow.Author.Needs.{needs}
-use Rattle.writer.proofs.Rowed.{fetch-end, fetch-row, fetch-wrong}
+use Rattle.writer.proofs.FetchLaws.{fetch-end, fetch-row, fetch-wrong}
 use Rattle.writer.proofs.rows.fetch.Statement.{statement}
 use Rattle.writer.proofs.rows.fetch.Tie as tie
 

@@ -1,6 +1,6 @@
--- Each way out has its law in proofs/Typed.antt.
+-- Each way out has its law in proofs/TypeLaws.antt.
 use borrow.Author.Needs.{needs}
-use Rattle.writer.proofs.Typed.{type-misnumbered, type-full, type-named}
+use Rattle.writer.proofs.TypeLaws.{type-misnumbered, type-full, type-named}
 use Rattle.writer.proofs.types.put_type_name.Statement.{statement}
 use Rattle.writer.proofs.types.put_type_name.Tie as tie
 

@@ -1,6 +1,6 @@
--- Each way out has its law in proofs/Typed.antt.
+-- Each way out has its law in proofs/TypeLaws.antt.
 use borrow.Author.Needs.{needs}
-use Rattle.writer.proofs.Typed.{type-second, type-another, type-ungiven, type-by-number}
+use Rattle.writer.proofs.TypeLaws.{type-second, type-another, type-ungiven, type-by-number}
 use Rattle.writer.proofs.types.put_type_number.Statement.{statement}
 use Rattle.writer.proofs.types.put_type_number.Tie as tie
 

@@ -1,6 +1,6 @@
--- Each way out has its law in proofs/Typed.antt.
+-- Each way out has its law in proofs/TypeLaws.antt.
 use borrow.Author.Needs.{needs}
-use Rattle.writer.proofs.Typed.{type-of-number, type-unlike}
+use Rattle.writer.proofs.TypeLaws.{type-of-number, type-unlike}
 use Rattle.writer.proofs.types.put_type_row.Statement.{statement}
 use Rattle.writer.proofs.types.put_type_row.Tie as tie
 

@@ -1,151 +1,235 @@
--- One function that calls itself: the measure is the allowance of open containers. The loop's invariant and the law of each way out are in
--- proofs/Walking.antt.
+-- One function that calls itself: the measure is the allowance of open containers. The loop's invariant and the law of
+-- each way out are in proofs/ValueLaws.antt.
 use mathlib.Core.Path.{_∙_}
 use native.Mathlib.Omega.{arith}
 use borrow.Author.Needs.{needs}
-use Rattle.writer.specs.Inside.{rowsIn, itemsIn}
-use Rattle.writer.proofs.Rowed.{items-few}
-use Rattle.writer.proofs.Walking.{Running, running-start, values-stop, values-none, past-less, past-fits, running-past, inner-open, inner-less, inner-ready, values-inner-none, values-wrong, inside-size, within-less, within-fits, running-within}
+use Rattle.writer.specs.Contracts.{rowsIn, itemsIn}
+use Rattle.writer.proofs.FetchLaws.{items-few}
+use Rattle.writer.proofs.ValueLaws.{ValuesSoFar, running-start, values-stop, values-none, past-less, past-fits}
+use Rattle.writer.proofs.ValueLaws.{running-past, inner-open, inner-less, inner-ready, values-inner-none}
+use Rattle.writer.proofs.ValueLaws.{values-wrong, inside-size, within-less, within-fits, running-within}
 use Prim.Native.Nat.{ℕ, _-_, _<_}
 use borrow.Fn.Kinds.{In}
 use borrow.Fn.PlainCycle.{Measures, is, falls, and}
-use Rattle.writer.proofs.values.write_values.Reads as write-values
-use Rattle.writer.proofs.values.write_values.Kinds as write-values-kinds
-use Rattle.writer.proofs.values.+write_values.Lts-write_values as write-values-lts
+use Rattle.writer.proofs.values.write_values.Reads as own
+use Rattle.writer.proofs.values.write_values.Kinds as kinds
+use Rattle.writer.proofs.values.+write_values.Lts-write_values as lts
 use Rattle.writer.proofs.values.begin.Reads as begin-reads
 use Rattle.writer.proofs.values.close.Reads as close-reads
 use Rattle.writer.proofs.values.finished.Reads as finished-reads
 use Rattle.writer.proofs.values.+write_values.{statement}
 use Rattle.writer.proofs.values.+write_values.Tie.{close}
 
-abbrev μ-write-values : Measures 5 write-values-kinds.ps ℕ
-μ-write-values κs a = a .1 .1 .1 .1 .1 .1 .1 .1 .1 .0
+abbrev allowance : Measures 5 kinds.ps ℕ
+allowance κs a = a .1 .1 .1 .1 .1 .1 .0 .allowed
 
-abbrev write-values-at : ℕ → In 5 write-values-kinds.ps
-write-values-at t =
-    and 5 write-values-kinds.ps (is 5 write-values-kinds.ps μ-write-values t) write-values.Pre
+abbrev pre-at : ℕ → In 5 kinds.ps
+pre-at t = and 5 kinds.ps (is 5 kinds.ps allowance t) own.Pre
 
-abbrev write-values-below : ℕ → In 5 write-values-kinds.ps
-write-values-below t =
-    and
-    5
-    write-values-kinds.ps
-    (falls 5 write-values-kinds.ps _<_ μ-write-values t)
-    write-values.Pre
+abbrev pre-below : ℕ → In 5 kinds.ps
+pre-below t = and 5 kinds.ps (falls 5 kinds.ps _<_ allowance t) own.Pre
 
 -- what each callee asks and ensures
-abbrev calls : ℕ → write-values-lts.Claims
-calls t = (finished-reads.Asked, finished-reads.Learnt, begin-reads.Asked, begin-reads.Learnt, write-values-below t, write-values.Post, close-reads.Asked, close-reads.Learnt)
+abbrev calls : ℕ → lts.Claims
+calls t = (
+  finished-reads.Asked,
+  finished-reads.Learnt,
+  begin-reads.Asked,
+  begin-reads.Learnt,
+  pre-below t,
+  own.Post,
+  close-reads.Asked,
+  close-reads.Learnt,
+)
 
-abbrev write-values-Inv-loop : write-values-lts.InvT-loop
-write-values-Inv-loop source numbers bytes n known₀ from contents out₀ size allowed open-from k₀ s₀ i₀ known out k s i = Running source (rowsIn numbers bytes n) n open-from allowed (itemsIn source numbers bytes n) contents from size known₀ out₀ known out k s i
+abbrev Inv-loop : lts.InvT-loop
+Inv-loop source numbers bytes known₀ out₀ scope contents at₀ i₀ known out at i =
+    ValuesSoFar source (rowsIn numbers bytes (scope .rows)) (scope .rows) (scope .open_from) (scope .allowed)
+    (itemsIn source numbers bytes (scope .rows)) contents (at₀ .next) (at₀ .size) known₀ out₀ known out (at .next)
+    (at .size) i
 
-abbrev write-values-μ-loop : write-values-lts.MeasureT-loop
-write-values-μ-loop source numbers bytes n known₀ from contents out₀ size allowed open-from k₀ s₀ i₀ known out k s i = n - k
+abbrev μ-loop : lts.MeasureT-loop
+μ-loop source numbers bytes known₀ out₀ scope contents at₀ i₀ known out at i = scope .rows - at .next
 
-write-values-loop-holds : (t : ℕ) → write-values-lts.Need-loop-holds (calls t) (write-values-at t) write-values.Post write-values-Inv-loop write-values-μ-loop
-write-values-loop-holds t c = search (running-start, items-few, needs)
+loop-holds : (t : ℕ) → lts.Need-loop-holds (calls t) (pre-at t) own.Post Inv-loop μ-loop
+loop-holds t c = search (running-start, items-few, needs)
 
-write-values-finished-requires : (t : ℕ) → write-values-lts.Need-finished-requires (calls t) (write-values-at t) write-values.Post write-values-Inv-loop write-values-μ-loop
-write-values-finished-requires t c κs = search needs
+finished-requires : (t : ℕ) → lts.Need-finished-requires (calls t) (pre-at t) own.Post Inv-loop μ-loop
+finished-requires t c κs = search needs
 
-write-values-same-length : (t : ℕ) → write-values-lts.Need-same-length (calls t) (write-values-at t) write-values.Post write-values-Inv-loop write-values-μ-loop
-write-values-same-length t c = search needs
+same-length : (t : ℕ) → lts.Need-same-length (calls t) (pre-at t) own.Post Inv-loop μ-loop
+same-length t c = search needs
 
-write-values-returns : (t : ℕ) → write-values-lts.Need-returns (calls t) (write-values-at t) write-values.Post write-values-Inv-loop write-values-μ-loop
-write-values-returns t c = search (values-stop, needs)
+returns : (t : ℕ) → lts.Need-returns (calls t) (pre-at t) own.Post Inv-loop μ-loop
+returns t c = search (values-stop, needs)
 
-write-values-begin-requires : (t : ℕ) → write-values-lts.Need-begin-requires (calls t) (write-values-at t) write-values.Post write-values-Inv-loop write-values-μ-loop
-write-values-begin-requires t c κs = search needs
+begin-requires : (t : ℕ) → lts.Need-begin-requires (calls t) (pre-at t) own.Post Inv-loop μ-loop
+begin-requires t c κs = search needs
 
-write-values-enum-told : (t : ℕ) → write-values-lts.Need-enum-told (calls t) (write-values-at t) write-values.Post write-values-Inv-loop write-values-μ-loop
-write-values-enum-told t c = search needs
+enum-told : (t : ℕ) → lts.Need-enum-told (calls t) (pre-at t) own.Post Inv-loop μ-loop
+enum-told t c = search needs
 
-write-values-same-length-2 : (t : ℕ) → write-values-lts.Need-same-length-2 (calls t) (write-values-at t) write-values.Post write-values-Inv-loop write-values-μ-loop
-write-values-same-length-2 t c = search needs
+same-length-2 : (t : ℕ) → lts.Need-same-length-2 (calls t) (pre-at t) own.Post Inv-loop μ-loop
+same-length-2 t c = search needs
 
-write-values-returns-2 : (t : ℕ) → write-values-lts.Need-returns-2 (calls t) (write-values-at t) write-values.Post write-values-Inv-loop write-values-μ-loop
-write-values-returns-2 t c = search (values-none, needs)
+returns-2 : (t : ℕ) → lts.Need-returns-2 (calls t) (pre-at t) own.Post Inv-loop μ-loop
+returns-2 t c = search (values-none, needs)
 
-write-values-enum-known-next : (t : ℕ) → write-values-lts.Need-enum-known-next (calls t) (write-values-at t) write-values.Post write-values-Inv-loop write-values-μ-loop
-write-values-enum-known-next t c = search needs
+enum-known-end : (t : ℕ) → lts.Need-enum-known-end (calls t) (pre-at t) own.Post Inv-loop μ-loop
+enum-known-end t c = search needs
 
-write-values-add-i : (t : ℕ) → write-values-lts.Need-add-i (calls t) (write-values-at t) write-values.Post write-values-Inv-loop write-values-μ-loop
-write-values-add-i t c = search (past-fits, needs)
+add-i : (t : ℕ) → lts.Need-add-i (calls t) (pre-at t) own.Post Inv-loop μ-loop
+add-i t c =
+    let begun = c .before .before .before .before .before in
+    let more = begun .before .before .before in
+    past-fits _ _ _ _ _ _ _ _ _ _ _ _ _ _ _ (more .before .before .loop .inv) _ (more .before .finished .ensures)
+    (more .if1 .left)
+    _ _ _ (begun .begin .ensures) _ (c .before .end .given .1)
 
-write-values-loop-less : (t : ℕ) → write-values-lts.Need-loop-less (calls t) (write-values-at t) write-values.Post write-values-Inv-loop write-values-μ-loop
-write-values-loop-less t c = search (past-less, needs)
+loop-less : (t : ℕ) → lts.Need-loop-less (calls t) (pre-at t) own.Post Inv-loop μ-loop
+loop-less t c =
+    let begun = c .before .before .before .before .before in
+    let more = begun .before .before .before in
+    past-less _ _ _ _ _ _ _ _ _ _ _ _ _ _ _ (more .before .before .loop .inv) _ (more .before .finished .ensures)
+    (more .if1 .left)
+    _ _ _ (begun .begin .ensures) _ (c .before .end .given .1)
 
-write-values-loop-again : (t : ℕ) → write-values-lts.Need-loop-again (calls t) (write-values-at t) write-values.Post write-values-Inv-loop write-values-μ-loop
-write-values-loop-again t c = search (running-past, needs)
+loop-again : (t : ℕ) → lts.Need-loop-again (calls t) (pre-at t) own.Post Inv-loop μ-loop
+loop-again t c =
+    let begun = c .before .before .before .before .before in
+    let more = begun .before .before .before in
+    running-past _ _ _ _ _ _ _ _ _ _ _ _ _ _ _ (more .before .before .loop .inv) _ (more .before .finished .ensures)
+    (more .if1 .left)
+    _ _ _ (begun .begin .ensures) _ (c .before .end .given .1)
 
-write-values-enum-known-inside : (t : ℕ) → write-values-lts.Need-enum-known-inside (calls t) (write-values-at t) write-values.Post write-values-Inv-loop write-values-μ-loop
-write-values-enum-known-inside t c = search needs
+enum-known-inside : (t : ℕ) → lts.Need-enum-known-inside (calls t) (pre-at t) own.Post Inv-loop μ-loop
+enum-known-inside t c = search needs
 
-write-values-sub-write-values : (t : ℕ) → write-values-lts.Need-sub-write-values (calls t) (write-values-at t) write-values.Post write-values-Inv-loop write-values-μ-loop
-write-values-sub-write-values t c = inner-open _ _ _ _ _ _ _ _ _ _ _ _ _ _ _ _ (c .before .before .before .before .before .before .before .before .before .before .before .before .loop .inv) _ (c .before .before .before .before .before .before .before .before .before .before .before .finished .ensures) (c .before .before .before .before .before .before .before .before .before .before .if1 .left) _ _ _ (c .before .before .before .before .before .before .before .begin .ensures) _ _ _ _ _ (c .before .before .before .inside .given .1)
+sub-allowed : (t : ℕ) → lts.Need-sub-allowed (calls t) (pre-at t) own.Post Inv-loop μ-loop
+sub-allowed t c =
+    let inner = c .before .before in
+    let begun = inner .before .before .before .before in
+    let more = begun .before .before .before in
+    inner-open _ _ _ _ _ _ _ _ _ _ _ _ _ _ _
+    (more .before .before .loop .inv) _ (more .before .finished .ensures) (more .if1 .left)
+    _ _ _ (begun .begin .ensures) _ _ _ (inner .inside .given .1)
 
-write-values-write-values-requires : (t : ℕ) → write-values-lts.Need-write-values-requires (calls t) (write-values-at t) write-values.Post write-values-Inv-loop write-values-μ-loop
-write-values-write-values-requires t c κs = (omega (arith, inner-less _ _ _ _ _ _ _ _ _ _ _ _ _ _ _ _ (c .before .before .before .before .before .before .before .before .before .before .before .before .loop .inv) _ (c .before .before .before .before .before .before .before .before .before .before .before .finished .ensures) (c .before .before .before .before .before .before .before .before .before .before .if1 .left) _ _ _ (c .before .before .before .before .before .before .before .begin .ensures) _ _ _ _ _ (c .before .before .before .inside .given .1)), (search needs, inner-ready _ _ _ _ _ _ _ _ _ _ _ _ _ _ _ _ (c .before .before .before .before .before .before .before .before .before .before .before .before .loop .inv) _ (c .before .before .before .before .before .before .before .before .before .before .before .finished .ensures) (c .before .before .before .before .before .before .before .before .before .before .if1 .left) _ _ _ (c .before .before .before .before .before .before .before .begin .ensures) _ _ _ _ _ (c .before .before .before .inside .given .1)))
+again-requires : (t : ℕ) → lts.Need-write-values-requires (calls t) (pre-at t) own.Post Inv-loop μ-loop
+again-requires t c κs = (
+  omega (
+    arith,
+    (
+        let inner = c .before .before .before .before in
+        let begun = inner .before .before .before .before in
+        let more = begun .before .before .before in
+        inner-less _ _ _ _ _ _ _ _ _ _ _ _ _ _ _
+        (more .before .before .loop .inv) _ (more .before .finished .ensures) (more .if1 .left)
+        _ _ _ (begun .begin .ensures) _ _ _ (inner .inside .given .1)
+        ),
+  ),
+  (
+    search needs,
+    let inner = c .before .before .before .before in
+        let begun = inner .before .before .before .before in
+        let more = begun .before .before .before in
+        inner-ready _ _ _ _ _ _ _ _ _ _ _ _ _ _ _
+        (more .before .before .loop .inv) _ (more .before .finished .ensures) (more .if1 .left)
+        _ _ _ (begun .begin .ensures) _ _ _ (inner .inside .given .1),
+  ),
+)
 
-write-values-enum-told-2 : (t : ℕ) → write-values-lts.Need-enum-told-2 (calls t) (write-values-at t) write-values.Post write-values-Inv-loop write-values-μ-loop
-write-values-enum-told-2 t c = search needs
+enum-told-2 : (t : ℕ) → lts.Need-enum-told-2 (calls t) (pre-at t) own.Post Inv-loop μ-loop
+enum-told-2 t c = search needs
 
-write-values-same-length-3 : (t : ℕ) → write-values-lts.Need-same-length-3 (calls t) (write-values-at t) write-values.Post write-values-Inv-loop write-values-μ-loop
-write-values-same-length-3 t c = search needs
+same-length-3 : (t : ℕ) → lts.Need-same-length-3 (calls t) (pre-at t) own.Post Inv-loop μ-loop
+same-length-3 t c = search needs
 
-write-values-returns-3 : (t : ℕ) → write-values-lts.Need-returns-3 (calls t) (write-values-at t) write-values.Post write-values-Inv-loop write-values-μ-loop
-write-values-returns-3 t c = search (values-inner-none, needs)
+returns-3 : (t : ℕ) → lts.Need-returns-3 (calls t) (pre-at t) own.Post Inv-loop μ-loop
+returns-3 t c = search (values-inner-none, needs)
 
-write-values-enum-known-end : (t : ℕ) → write-values-lts.Need-enum-known-end (calls t) (write-values-at t) write-values.Post write-values-Inv-loop write-values-μ-loop
-write-values-enum-known-end t c = search needs
+enum-known-end-2 : (t : ℕ) → lts.Need-enum-known-end-2 (calls t) (pre-at t) own.Post Inv-loop μ-loop
+enum-known-end-2 t c = search needs
 
-write-values-same-length-4 : (t : ℕ) → write-values-lts.Need-same-length-4 (calls t) (write-values-at t) write-values.Post write-values-Inv-loop write-values-μ-loop
-write-values-same-length-4 t c = search needs
+same-length-4 : (t : ℕ) → lts.Need-same-length-4 (calls t) (pre-at t) own.Post Inv-loop μ-loop
+same-length-4 t c =
+    let values = c .before .before .before .before .before .before in
+    let begun = values .before .before .before .before .before .before .before .before .before in
+    let more = begun .before .before .before in
+    search (
+      c .before .before .before .before .slice-known3,
+      values .before .before .before .before .before .before .before .slice-known2,
+      more .before .before .loop,
+      needs,
+    )
 
-write-values-returns-4 : (t : ℕ) → write-values-lts.Need-returns-4 (calls t) (write-values-at t) write-values.Post write-values-Inv-loop write-values-μ-loop
-write-values-returns-4 t c = search (values-wrong, needs)
+returns-4 : (t : ℕ) → lts.Need-returns-4 (calls t) (pre-at t) own.Post Inv-loop μ-loop
+returns-4 t c = search (values-wrong, needs)
 
-write-values-close-requires : (t : ℕ) → write-values-lts.Need-close-requires (calls t) (write-values-at t) write-values.Post write-values-Inv-loop write-values-μ-loop
-write-values-close-requires t c κs = search (inside-size, needs)
+close-requires : (t : ℕ) → lts.Need-close-requires (calls t) (pre-at t) own.Post Inv-loop μ-loop
+close-requires t c κs = search (inside-size, needs)
 
-write-values-add-i-2 : (t : ℕ) → write-values-lts.Need-add-i-2 (calls t) (write-values-at t) write-values.Post write-values-Inv-loop write-values-μ-loop
-write-values-add-i-2 t c = search (within-fits, needs)
+add-i-2 : (t : ℕ) → lts.Need-add-i-2 (calls t) (pre-at t) own.Post Inv-loop μ-loop
+add-i-2 t c =
+    let values = c .before .before .before .before .before .before .before .before .before .before in
+    let inner = values .before .before .before .before .before in
+    let begun = inner .before .before .before .before in
+    let more = begun .before .before .before in
+    within-fits _ _ _ _ _ _ _ _ _ _ _ _ _ _ _
+    (more .before .before .loop .inv) _ (more .before .finished .ensures) (more .if1 .left)
+    _ _ _ (begun .begin .ensures) _ _ _ (inner .inside .given .1)
+    _ _ _ (values .write-values .ensures) _ (c .before .before .before .before .before .before .end2 .given .1)
 
-write-values-loop-less-2 : (t : ℕ) → write-values-lts.Need-loop-less-2 (calls t) (write-values-at t) write-values.Post write-values-Inv-loop write-values-μ-loop
-write-values-loop-less-2 t c = search (within-less, needs)
+loop-less-2 : (t : ℕ) → lts.Need-loop-less-2 (calls t) (pre-at t) own.Post Inv-loop μ-loop
+loop-less-2 t c =
+    let values = c .before .before .before .before .before .before .before .before .before .before in
+    let inner = values .before .before .before .before .before in
+    let begun = inner .before .before .before .before in
+    let more = begun .before .before .before in
+    within-less _ _ _ _ _ _ _ _ _ _ _ _ _ _ _
+    (more .before .before .loop .inv) _ (more .before .finished .ensures) (more .if1 .left)
+    _ _ _ (begun .begin .ensures) _ _ _ (inner .inside .given .1)
+    _ _ _ (values .write-values .ensures) _ (c .before .before .before .before .before .before .end2 .given .1)
 
-write-values-loop-again-2 : (t : ℕ) → write-values-lts.Need-loop-again-2 (calls t) (write-values-at t) write-values.Post write-values-Inv-loop write-values-μ-loop
-write-values-loop-again-2 t c = search (running-within, needs)
+loop-again-2 : (t : ℕ) → lts.Need-loop-again-2 (calls t) (pre-at t) own.Post Inv-loop μ-loop
+loop-again-2 t c =
+    let values = c .before .before .before .before .before .before .before .before .before .before in
+    let inner = values .before .before .before .before .before in
+    let begun = inner .before .before .before .before in
+    let more = begun .before .before .before in
+    running-within _ _ _ _ _ _ _ _ _ _ _ _ _ _ _
+    (more .before .before .loop .inv) _ (more .before .finished .ensures) (more .if1 .left)
+    _ _ _ (begun .begin .ensures) _ _ _ (inner .inside .given .1)
+    _ _ _ (values .write-values .ensures) _ (c .before .before .before .before .before .before .end2 .given .1)
+    (c .before .before .before .before .if2 .left) _ _ (c .before .before .close .ensures)
 
 pub +write-values-spec : {M : Type 1} → statement M
-+write-values-spec = close μ-write-values λ t. write-values-lts.spec (calls t)
-    (write-values-at t)
-    write-values.Post
-    write-values-Inv-loop
-    write-values-μ-loop
-    (write-values-loop-holds t)
-    (write-values-finished-requires t)
-    (write-values-same-length t)
-    (write-values-returns t)
-    (write-values-begin-requires t)
-    (write-values-enum-told t)
-    (write-values-same-length-2 t)
-    (write-values-returns-2 t)
-    (write-values-enum-known-next t)
-    (write-values-add-i t)
-    (write-values-loop-less t)
-    (write-values-loop-again t)
-    (write-values-enum-known-inside t)
-    (write-values-sub-write-values t)
-    (write-values-write-values-requires t)
-    (write-values-enum-told-2 t)
-    (write-values-same-length-3 t)
-    (write-values-returns-3 t)
-    (write-values-enum-known-end t)
-    (write-values-same-length-4 t)
-    (write-values-returns-4 t)
-    (write-values-close-requires t)
-    (write-values-add-i-2 t)
-    (write-values-loop-less-2 t)
-    (write-values-loop-again-2 t)
++write-values-spec = close allowance λ t. lts.spec (calls t)
+    (pre-at t)
+    own.Post
+    Inv-loop
+    μ-loop
+    (loop-holds t)
+    (finished-requires t)
+    (same-length t)
+    (returns t)
+    (begin-requires t)
+    (enum-told t)
+    (same-length-2 t)
+    (returns-2 t)
+    (enum-known-end t)
+    (add-i t)
+    (loop-less t)
+    (loop-again t)
+    (enum-known-inside t)
+    (sub-allowed t)
+    (again-requires t)
+    (enum-told-2 t)
+    (same-length-3 t)
+    (returns-3 t)
+    (enum-known-end-2 t)
+    (same-length-4 t)
+    (returns-4 t)
+    (close-requires t)
+    (add-i-2 t)
+    (loop-less-2 t)
+    (loop-again-2 t)

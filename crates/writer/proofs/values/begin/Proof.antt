@@ -1,11 +1,16 @@
--- Each way out has its law in proofs/Walking.antt.
+-- Each way out has its law in proofs/ValueLaws.antt.
 use borrow.Author.Needs.{needs}
-use Rattle.writer.proofs.Walking.{found-ready, found-inside, found-stands, begin-none, enter-none, enter-past, enter-within}
+use Rattle.writer.proofs.ValueLaws.{found-ready, found-inside, found-stands, begin-none, enter-none, enter-past}
+use Rattle.writer.proofs.ValueLaws.{enter-within}
 use Rattle.writer.proofs.values.begin.Statement.{statement}
 use Rattle.writer.proofs.values.begin.Tie as tie
 
 begin-row-requires : tie.Need-begin-row-requires
-begin-row-requires c κs = (search needs, search (found-ready, needs), search (found-inside, needs), search (found-stands, needs))
+begin-row-requires c κs = (
+  (search needs, search (found-ready, needs)),
+  search (found-inside, needs),
+  search (found-stands, needs),
+)
 
 returns : tie.Need-returns
 returns c = search (begin-none, needs)

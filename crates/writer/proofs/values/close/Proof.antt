@@ -1,6 +1,6 @@
--- Both ways through the test have their laws in proofs/Walking.antt.
+-- Both ways through the test have their laws in proofs/ValueLaws.antt.
 use borrow.Author.Needs.{needs}
-use Rattle.writer.proofs.Walking.{closing-put, closing-none}
+use Rattle.writer.proofs.ValueLaws.{closing-put, closing-none}
 use Rattle.writer.proofs.values.close.Statement.{statement}
 use Rattle.writer.proofs.values.close.Tie as tie
 

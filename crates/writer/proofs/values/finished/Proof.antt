@@ -1,6 +1,6 @@
--- Each way out has its law in proofs/Walking.antt.
+-- Each way out has its law in proofs/ValueLaws.antt.
 use borrow.Author.Needs.{needs}
-use Rattle.writer.proofs.Walking.{done-elements, done-even, done-odd}
+use Rattle.writer.proofs.ValueLaws.{done-elements, done-even, done-odd}
 use Rattle.writer.proofs.values.finished.Statement.{statement}
 use Rattle.writer.proofs.values.finished.Tie as tie
 

@@ -1,0 +1,12 @@
+pub mod Answers
+pub mod Claims
+pub mod Containers
+pub mod Grammar
+pub mod Hops
+pub mod Items
+pub mod Kinds
+pub mod Reading
+pub mod Rows
+pub mod Same
+pub mod Shortest
+pub mod Terms
