@@ -1,5 +1,6 @@
 /*
- * Hessian 2.0 records: read a message into a table of rows, and write a table as its shortest message.
+ * Hessian 2.0 records: read a message into a table of rows, and write a table as its shortest message. docs/FORMAT.md
+ * has the format and every rule.
  *
  * Every function may be handed any bytes. It ends, touches nothing beyond what it was lent, and answers one number,
  * which HESSIAN_NUMBER, HESSIAN_COUNT and HESSIAN_PLACE take apart. A refusal changes nothing that was lent. The

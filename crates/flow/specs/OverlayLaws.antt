@@ -1,5 +1,5 @@
 -- Laws of lists stored in lists, and of tables.
-use mathlib.Core.Path.{_≡_, refl, sym, _∙_}
+use mathlib.Core.Path.{_≡_, refl, sym, ap, _∙_}
 use mathlib.Core.List.{List, [], _∷_, _++_, append-assoc}
 use Prim.Native.Nat.{ℕ, zero, suc, _+_, _*_, _≤_, _<_}
 use native.Mathlib.Nat.{zero-mul, suc-mul, mul-le-mul-right}
@@ -160,3 +160,9 @@ module _ {A : Type 0} (width : ℕ) (encode : A → List ℕ) (sized : (x : A) �
       let z = zero-mul width in
       let e : 0 * width + length (flat width encode xs) ≡ length xs * width = omega arith in
       overlay-stored t 0 xs (omega arith) ∙ stored-in t (0 * width) (flat width encode xs) (omega arith) ∙ rw (e, z)
+
+  -- what lies past them stays
+  pub overlay-past : (t : List ℕ) (xs : List A) → length xs * width ≤ length t
+      → drop (length xs * width) (overlay width encode t 0 xs) ≡ drop (length xs * width) t
+  overlay-past t xs h = ap (drop (length xs * width)) (overlay-flat t xs h)
+      ∙ drop-at (flat width encode xs) (drop (length xs * width) t) (length xs * width) (length-flat xs)

@@ -1,15 +1,14 @@
--- What the contracts of `hessian_read` and `hessian_write` ask at each of their ways out: the parts of an answer are small.
+-- What the contracts of `hessian_read` and `hessian_write` ask at each of their ways out: the parts of an answer are
+-- small, and are packed.
 use mathlib.Core.Path.{_≡_, sym, ap, _∙_}
 use mathlib.Core.List.{List}
 use Prim.Native.Nat.{ℕ, _≤_}
 use native.Mathlib.Omega.{arith}
-use lib.ListN.{length, getD}
-use mir.Syntax.{w8}
-use mir.Val.{Fits}
-use Rattle.flow.specs.Tests.{bytes-all}
+use lib.ListN.{length}
 use Rattle.flow.specs.Flow.{Report}
 use Rattle.record.specs.Model.Claims.{contentAt}
-use Rattle.record.specs.Model.Answers.{base, baseOpenFrom, asBytes, lentRows, readReport, writeReport}
+use Rattle.record.specs.Model.Answers.{base, baseOpenFrom, asBytes, lentRows}
+use Rattle.record.specs.Model.Calls.{ReadCall, WriteCall}
 use Rattle.record.specs.Laws.Bounds.{answer-small, written-small}
 use Rattle.reader.specs.declared.ReadAnswer.{ReadAnswer}
 use Rattle.reader.specs.declared.ReadAnswer.the-variants.{Accepted, Refused, TooFew}
@@ -17,13 +16,14 @@ use Rattle.reader.specs.Answers.{report}
 use Rattle.writer.specs.declared.WriteAnswer.{WriteAnswer}
 use Rattle.writer.specs.declared.WriteAnswer.the-variants as wrote
 use Rattle.writer.specs.Answers as writes
-use Rattle.hessian.specs.Packed.{packed, answer}
+use Rattle.hessian.specs.Packed.{packed, answer, ReadGives, WriteGives}
 
-module _ (m t : List ℕ) (bytes : (i : ℕ) → Fits w8 (getD m i 0)) (r : ReadAnswer) (e : report r ≡ readReport base asBytes m t) where
+-- ---- reading
+module _ (m t : List ℕ) (r : ReadAnswer) (t′ : List ℕ) (g : ReadCall base asBytes m t (report r) t′) where
   small : (r′ : ReadAnswer) → r ≡ r′ → (report r′ .count ≤ base .longest) × (report r′ .place ≤ base .longest)
   small r′ h =
-      let s = answer-small base (lentRows asBytes t) m (bytes-all m (λ i. bytes i .fits)) in
-      let f : report r′ ≡ readReport base asBytes m t = ap report (sym h) ∙ e in
+      let s = answer-small base (lentRows asBytes t) m (g .bytes) in
+      let f = ap report (sym h) ∙ g .report in
       let c = ap (λ (x : Report). x .count) f in
       let p = ap (λ (x : Report). x .place) f in
       (omega (arith, s .0), omega (arith, s .1))
@@ -40,21 +40,24 @@ module _ (m t : List ℕ) (bytes : (i : ℕ) → Fits w8 (getD m i 0)) (r : Read
   pub needed-small : (n : ℕ) → r ≡ TooFew n → n ≤ base .longest
   needed-small n h = small (TooFew n) h .0
 
-  pub packed-accepted : (n k v : ℕ) → r ≡ Accepted n k → v ≡ packed (answer 0 n k) → v ≡ packed (readReport base asBytes m t)
-  packed-accepted n k v h q = q ∙ ap packed (ap report (sym h) ∙ e)
+  packed-as : (r′ : ReadAnswer) → r ≡ r′ → (v : ℕ) → v ≡ packed (report r′) → ReadGives m t v t′
+  packed-as r′ h v q = record { report = report r; call = g; as-one = q ∙ ap packed (ap report (sym h)) }
 
-  pub packed-refused : (x o v : ℕ) → r ≡ Refused x o → v ≡ packed (answer x 0 o) → v ≡ packed (readReport base asBytes m t)
-  packed-refused x o v h q = q ∙ ap packed (ap report (sym h) ∙ e)
+  pub packed-accepted : (n k v : ℕ) → r ≡ Accepted n k → v ≡ packed (answer 0 n k) → ReadGives m t v t′
+  packed-accepted n k v h q = packed-as (Accepted n k) h v q
 
-  pub packed-few : (n v : ℕ) → r ≡ TooFew n → v ≡ packed (answer 9 n 0) → v ≡ packed (readReport base asBytes m t)
-  packed-few n v h q = q ∙ ap packed (ap report (sym h) ∙ e)
+  pub packed-refused : (x o v : ℕ) → r ≡ Refused x o → v ≡ packed (answer x 0 o) → ReadGives m t v t′
+  packed-refused x o v h q = packed-as (Refused x o) h v q
+
+  pub packed-few : (n v : ℕ) → r ≡ TooFew n → v ≡ packed (answer 9 n 0) → ReadGives m t v t′
+  packed-few n v h q = packed-as (TooFew n) h v q
 
 -- ---- writing
-module _ (s t : List ℕ) (n : ℕ) (o : List ℕ) (r : WriteAnswer) (e : writes.report r ≡ writeReport base baseOpenFrom asBytes s t n o) where
+module _ (s t : List ℕ) (n : ℕ) (o : List ℕ) (r : WriteAnswer) (o′ : List ℕ)
+    (g : WriteCall base baseOpenFrom asBytes s t n o (writes.report r) o′) where
   count-small : (r′ : WriteAnswer) → r ≡ r′ → writes.report r′ .count ≤ base .longest
   count-small r′ h =
-      let f : writes.report r′ ≡ writeReport base baseOpenFrom asBytes s t n o = ap writes.report (sym h) ∙ e in
-      let c = ap (λ (x : Report). x .count) f in
+      let c = ap (λ (x : Report). x .count) (ap writes.report (sym h) ∙ g .report) in
       omega (arith, written-small base baseOpenFrom asBytes contentAt s t n (length o))
 
   pub size-small : (k : ℕ) → r ≡ wrote.Written k → k ≤ base .longest
@@ -63,17 +66,18 @@ module _ (s t : List ℕ) (n : ℕ) (o : List ℕ) (r : WriteAnswer) (e : writes
   pub bytes-small : (k : ℕ) → r ≡ wrote.TooFew k → k ≤ base .longest
   bytes-small k h = count-small (wrote.TooFew k) h
 
-  packed-as : (r′ : WriteAnswer) → r ≡ r′ → (v : ℕ) → v ≡ packed (writes.report r′) → v ≡ packed (writeReport base baseOpenFrom asBytes s t n o)
-  packed-as r′ h v q = q ∙ ap packed (ap writes.report (sym h) ∙ e)
+  wrote-as : (r′ : WriteAnswer) → r ≡ r′ → (v : ℕ) → v ≡ packed (writes.report r′) → WriteGives s t n o v o′
+  wrote-as r′ h v q =
+      record { report = writes.report r; call = g; as-one = q ∙ ap packed (ap writes.report (sym h)) }
 
-  pub packed-written : (k v : ℕ) → r ≡ wrote.Written k → v ≡ packed (answer 0 k 0) → v ≡ packed (writeReport base baseOpenFrom asBytes s t n o)
-  packed-written k v h q = packed-as (wrote.Written k) h v q
+  pub packed-written : (k v : ℕ) → r ≡ wrote.Written k → v ≡ packed (answer 0 k 0) → WriteGives s t n o v o′
+  packed-written k v h q = wrote-as (wrote.Written k) h v q
 
-  pub packed-long : (v : ℕ) → r ≡ wrote.TooLong → v ≡ packed (answer 1 0 0) → v ≡ packed (writeReport base baseOpenFrom asBytes s t n o)
-  packed-long v h q = packed-as wrote.TooLong h v q
+  pub packed-long : (v : ℕ) → r ≡ wrote.TooLong → v ≡ packed (answer 1 0 0) → WriteGives s t n o v o′
+  packed-long v h q = wrote-as wrote.TooLong h v q
 
-  pub packed-none : (v : ℕ) → r ≡ wrote.NoRecord → v ≡ packed (answer 10 0 0) → v ≡ packed (writeReport base baseOpenFrom asBytes s t n o)
-  packed-none v h q = packed-as wrote.NoRecord h v q
+  pub packed-none : (v : ℕ) → r ≡ wrote.NoRecord → v ≡ packed (answer 10 0 0) → WriteGives s t n o v o′
+  packed-none v h q = wrote-as wrote.NoRecord h v q
 
-  pub packed-needed : (k v : ℕ) → r ≡ wrote.TooFew k → v ≡ packed (answer 9 k 0) → v ≡ packed (writeReport base baseOpenFrom asBytes s t n o)
-  packed-needed k v h q = packed-as (wrote.TooFew k) h v q
+  pub packed-needed : (k v : ℕ) → r ≡ wrote.TooFew k → v ≡ packed (answer 9 k 0) → WriteGives s t n o v o′
+  packed-needed k v h q = wrote-as (wrote.TooFew k) h v q

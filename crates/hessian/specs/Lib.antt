@@ -1,5 +1,3 @@
 pub mod Packed
-pub mod Terms
-pub mod Calls
-pub mod Called
 pub mod Demands
+pub mod Called

@@ -1,9 +1,10 @@
 -- An answer as it crosses to C, and what a call of each C function gives.
 use mathlib.Core.Path.{_≡_}
 use mathlib.Core.List.{List}
-use Prim.Native.Nat.{ℕ, _+_, _*_, _^_}
+use Prim.Native.Nat.{ℕ, _+_, _*_, _/_, _%_, _^_}
 use Rattle.flow.specs.Flow.{Report}
-use Rattle.record.specs.Model.Answers.{base, baseOpenFrom, asBytes, readReport, readTable, writeReport, writeOutput}
+use Rattle.record.specs.Model.Answers.{base, baseOpenFrom, asBytes}
+use Rattle.record.specs.Model.Calls.{ReadCall, WriteCall}
 
 abbrev pub answer : ℕ → ℕ → ℕ → Report
 answer number count place = record { number = number; count = count; place = place }
@@ -12,11 +13,18 @@ answer number count place = record { number = number; count = count; place = pla
 abbrev pub packed : Report → ℕ
 packed r = r .number * 2 ^ 48 + r .count * 2 ^ 24 + r .place
 
+-- its parts, as the header's macros take them
+abbrev pub unpacked : ℕ → Report
+unpacked a = answer (a / 2 ^ 48) (a / 2 ^ 24 % 2 ^ 24) (a % 2 ^ 24)
+
 -- hessian_read of the message m and the table t answers a and leaves the table t′
-abbrev pub ReadGives : List ℕ → List ℕ → ℕ → List ℕ → Type 0
-ReadGives m t a t′ = (a ≡ packed (readReport base asBytes m t)) × (t′ ≡ readTable base asBytes m t)
+pub record ReadGives (m t : List ℕ) (a : ℕ) (t′ : List ℕ) : Type 0 where
+  pub report : Report
+  pub call : ReadCall base asBytes m t report t′
+  pub as-one : a ≡ packed report
 
 -- hessian_write of the source s, the first n rows of the table t and the output o answers a and leaves the output o′
-abbrev pub WriteGives : List ℕ → List ℕ → ℕ → List ℕ → ℕ → List ℕ → Type 0
-WriteGives s t n o a o′ =
-    (a ≡ packed (writeReport base baseOpenFrom asBytes s t n o)) × (o′ ≡ writeOutput base baseOpenFrom asBytes s t n o)
+pub record WriteGives (s t : List ℕ) (n : ℕ) (o : List ℕ) (a : ℕ) (o′ : List ℕ) : Type 0 where
+  pub report : Report
+  pub call : WriteCall base baseOpenFrom asBytes s t n o report o′
+  pub as-one : a ≡ packed report

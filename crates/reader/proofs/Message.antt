@@ -13,7 +13,8 @@ use Rattle.record.specs.Model.Items.{Known, start}
 use Rattle.record.specs.Model.Reading.{Opening, valueFrom}
 use Rattle.record.specs.Model.Rows.{Row}
 use Rattle.record.specs.Model.Answers.{ReadResult, Accept, Refuse, read, base, asNumbers, asBytes, readNumbers}
-use Rattle.record.specs.Model.Answers.{filled}
+use Rattle.record.specs.Model.Answers.{filled, lentRows}
+use Rattle.record.specs.Model.Calls.{ReadCall}
 use Rattle.record.specs.ForReader.ReadingAt.{ReadingAt, ReadTo, RefusedAt, run, on, on-same, numbered, numbered-length}
 use Rattle.record.specs.ForReader.ReadLoops.{rest, rest-step, rest-stop}
 use Rattle.record.specs.ForReader.ReadMessages.{read-empty, read-long, read-lost, read-over, read-small, read-got}
@@ -22,7 +23,9 @@ use Rattle.reader.specs.declared.values.ValuesRead.{ValuesRead}
 use Rattle.reader.specs.declared.values.ValuesRead.the-variants as values-read
 use Rattle.reader.specs.declared.Judged.{Judged}
 use Rattle.reader.specs.declared.Judged.the-variants as judged
+use Rattle.reader.specs.declared.ReadAnswer.{ReadAnswer}
 use Rattle.reader.specs.declared.ReadAnswer.the-variants as answer
+use Rattle.reader.specs.Answers.{report}
 use Rattle.record.specs.Laws.KnownArray.{knownIn, knownSize}
 use Rattle.reader.specs.Contracts.{ReadyAt, ValuesReadSays, ValuesReadMet}
 use Rattle.reader.specs.Contracts.{messageStart, OneValueMet, IsRecord, JudgedSays, JudgedMet, ReadIntoMet}
@@ -198,3 +201,12 @@ module _ (m t b : List ℕ) (lent : ℕ) (r : Judged) (a : JudgedMet m r) where
                   ∙ ap (λ (z : List Row). overlay (asBytes .width) (asBytes .encode) b 0 (numbered 0 z)) same
                   ∙ sym (ap (λ (z : ReadResult). filled asBytes b z) h);
             }
+
+-- ---- read, read_bytes
+-- one table, with as many rows lent as it has
+module _ (m : List ℕ) (bytes : (i : ℕ) → Fits w8 (getD m i 0)) (t b : List ℕ) (r : ReadAnswer) (t′ b′ : List ℕ) where
+  pub read-numbers : ReadIntoMet m t b (lentRows asNumbers t) r t′ b′ → ReadCall base asNumbers m t (report r) t′
+  read-numbers x = record { bytes = bytes-all m (λ i. bytes i .fits); report = x .says; table = x .numbers }
+
+  pub read-table : ReadIntoMet m t b (lentRows asBytes b) r t′ b′ → ReadCall base asBytes m b (report r) b′
+  read-table x = record { bytes = bytes-all m (λ i. bytes i .fits); report = x .says; table = x .bytes }

@@ -16,7 +16,8 @@ use record::limits::LONGEST;
 use scalar::refusals::AFTER;
 use scalar::refusals::LENGTH;
 ghost use mathlib.Core.Path.{_≡_};
-ghost use Rattle.record.specs.Model.Answers.{base, asNumbers, asBytes, readReport, readTable};
+ghost use Rattle.record.specs.Model.Answers.{base, asNumbers, asBytes};
+ghost use Rattle.record.specs.Model.Calls.{ReadCall};
 ghost use Rattle.reader.specs.Answers.{report};
 ghost use Rattle.reader.specs.declared.Judged.the-variants as judged;
 ghost use Rattle.reader.specs.Contracts.{OneValueMet, JudgedMet, ReadIntoMet};
@@ -119,8 +120,9 @@ fn read_into(message: &[u8], numbers: &mut [u64], bytes: &mut [u8], lent: usize)
 // Reads the message into a table of five numbers a row.
 pub fn read(message: &[u8], table: &mut [u64]) -> ReadAnswer
     ensures { λ r. ⌜
-        (report r ≡ readReport base asNumbers (now (message .entry)) (now (table .entry)))
-        × (now (table .exit) ≡ readTable base asNumbers (now (message .entry)) (now (table .entry)))
+        ReadCall base asNumbers
+        (now (message .entry)) (now (table .entry))
+        (report r) (now (table .exit))
         ⌝ }
 {
     let lent = table.len() / ROW_NUMBERS;
@@ -131,8 +133,9 @@ pub fn read(message: &[u8], table: &mut [u64]) -> ReadAnswer
 // Reads the message into a table of 40 bytes a row, each number as eight bytes, the highest first.
 pub fn read_bytes(message: &[u8], table: &mut [u8]) -> ReadAnswer
     ensures { λ r. ⌜
-        (report r ≡ readReport base asBytes (now (message .entry)) (now (table .entry)))
-        × (now (table .exit) ≡ readTable base asBytes (now (message .entry)) (now (table .entry)))
+        ReadCall base asBytes
+        (now (message .entry)) (now (table .entry))
+        (report r) (now (table .exit))
         ⌝ }
 {
     let lent = table.len() / ROW_BYTES;

@@ -1,4 +1,5 @@
 pub mod Answers
+pub mod Calls
 pub mod Claims
 pub mod Containers
 pub mod Grammar

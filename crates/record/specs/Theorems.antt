@@ -1,4 +1,6 @@
-pub mod Demanded
+pub mod AnswerTheorems
+pub mod CallCases
+pub mod Called
 pub mod Demands
 pub mod HopTheorems
 pub mod ItemTheorems

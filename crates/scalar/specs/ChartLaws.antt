@@ -5,7 +5,7 @@ use mathlib.Core.List.{List, [], _∷_}
 use Prim.Native.Nat.{ℕ, zero, suc, _+_, _*_, _-_, _/_, _%_, _≤_, _<_}
 use native.Mathlib.Omega.{arith}
 use borrow.Author.Tests.{eqb-true, eqb-false}
-use lib.Dec.{T, T-not, eqb, leb, eqb→eq, eqb-refl, leb→le}
+use lib.Dec.{T, T-not, eqb, leb, ltb, eqb→eq, eqb-refl, leb→le, lt→ltb}
 use lib.ListN.{getD}
 use Rattle.flow.specs.Flow.{pick}
 use Rattle.flow.specs.Tests.{by-cases, implies, implied, neqb, every, every-at, and-left, and-right}
@@ -16,7 +16,8 @@ use Rattle.scalar.specs.declared.Begun.{Begun}
 use Rattle.scalar.specs.declared.Begun.the-variants.{Starts, NoForm}
 use Rattle.scalar.specs.declared.Lead.{Lead}
 use Rattle.scalar.specs.declared.Lead.the-variants as lead
-use Rattle.scalar.specs.Scalars.{formsOf, formAt}
+use Rattle.scalar.specs.declared.Encoding.the-variants.{Utf8, Binary}
+use Rattle.scalar.specs.Scalars.{Form, formsOf, formAt, partHead, lastHeads}
 use Rattle.scalar.specs.Chart.{ranges, rangeOf, leadOf, kindOf, followOf, entry}
 
 -- ---- a kind's number says the kind
@@ -230,46 +231,82 @@ entries b l =
     eqb→eq (getD (spread entryRuns) b 0) (entry b)
     (every-at 256 (λ b. eqb (getD (spread entryRuns) b 0) (entry b)) entry-listed b l)
 
--- ---- a byte opens a kind of single value exactly where it begins a form of that kind, and as many bytes follow
-abbrev suits : Sort → ℕ → Begun → Bool
-suits s b NoForm = not (opens (lead.Number s) b)
-suits s b (Starts k u r) = opens (lead.Number s) b && eqb (followOf b) k
+-- ---- a byte opens a number, a text or a byte string exactly where it begins one of its forms or heads, and as many
+-- bytes follow; nothing follows what else a byte opens
+abbrev pub formsBy : Lead → List Form
+formsBy (lead.Number s) = formsOf s
+formsBy lead.Text = partHead Utf8 ∷ lastHeads Utf8
+formsBy lead.Bytes = partHead Binary ∷ lastHeads Binary
+formsBy lead.List = []
+formsBy lead.TypedList = []
+formsBy lead.Map = []
+formsBy lead.TypedMap = []
+formsBy lead.Object = []
+formsBy lead.Reference = []
+formsBy lead.Definition = []
+formsBy lead.Close = []
+formsBy lead.Reserved = []
 
-abbrev agrees : Sort → ℕ → Bool
-agrees s b = suits s b (formAt (formsOf s) b)
+abbrev suits : Lead → ℕ → Begun → Bool
+suits x b NoForm = not (opens x b)
+suits x b (Starts k u r) = opens x b && eqb (followOf b) k
 
-all-agree : (s : Sort) → T (every 256 (agrees s))
-unfolding formsOf formAt kindOf leadOf followOf rangeOf ranges pick
-all-agree Null = tt
-all-agree False = tt
-all-agree True = tt
-all-agree Int = tt
-all-agree Long = tt
-all-agree Double = tt
-all-agree Date = tt
+abbrev agrees : Lead → ℕ → Bool
+agrees x b = suits x b (formAt (formsBy x) b)
 
-agreed : (s : Sort) (b : ℕ) (x : Begun) → b < 256 → formAt (formsOf s) b ≡ x → T (suits s b x)
-agreed s b x l e = subst (λ (z : Begun). T (suits s b z)) e (every-at 256 (agrees s) (all-agree s) b l)
+pub data HasForms : Lead → Type 0 where
+  number : (s : Sort) → HasForms (lead.Number s)
+  text : HasForms lead.Text
+  byte-string : HasForms lead.Bytes
+
+all-agree : {x : Lead} → HasForms x → T (every 256 (agrees x))
+unfolding formsOf formAt partHead lastHeads kindOf leadOf followOf rangeOf ranges pick
+all-agree (number Null) = tt
+all-agree (number False) = tt
+all-agree (number True) = tt
+all-agree (number Int) = tt
+all-agree (number Long) = tt
+all-agree (number Double) = tt
+all-agree (number Date) = tt
+all-agree text = tt
+all-agree byte-string = tt
+
+agreed : {x : Lead} → HasForms x → (b : ℕ) (y : Begun) → b < 256 → formAt (formsBy x) b ≡ y → T (suits x b y)
+agreed {x} h b y l e = subst (λ (z : Begun). T (suits x b z)) e (every-at 256 (agrees x) (all-agree h) b l)
+
+pub lead-form : {x : Lead} → HasForms x → (b k u : ℕ) (r : Rule) → b < 256 → formAt (formsBy x) b ≡ Starts k u r
+    → (leadOf b ≡ x) × (followOf b ≡ k)
+lead-form {x} h b k u r l e =
+    let t = agreed h b (Starts k u r) l e in (
+      opened x b (and-left (opens x b) (eqb (followOf b) k) t),
+      eqb→eq (followOf b) k (and-right (opens x b) (eqb (followOf b) k) t),
+    )
+
+-- the byte begins a form, after which as many bytes follow
+pub record Begins (x : Lead) (b : ℕ) : Type 0 where
+  pub held : ℕ
+  pub rule : Rule
+  pub starts : formAt (formsBy x) b ≡ Starts (followOf b) held rule
+
+pub form-lead : {x : Lead} → HasForms x → (b : ℕ) → b < 256 → leadOf b ≡ x → Begins x b
+form-lead {x} h b l e = go (formAt (formsBy x) b) refl
+  where
+    go : (y : Begun) → formAt (formsBy x) b ≡ y → Begins x b
+    go (Starts k u r) y =
+        record { held = u; rule = r; starts = y ∙ ap (λ (n : ℕ). Starts n u r) (sym (lead-form h b k u r l y .1)) }
+    go NoForm y = absurd (T-not (opens x b) (agreed h b NoForm l y) (rw e (eqb-refl (kindOf x))))
+
+-- what else a byte opens has a kind above a byte string's
+all-alone : T (every 256 (λ b. implies (ltb 8 (kindOf (leadOf b))) (eqb (followOf b) 0)))
+unfolding kindOf leadOf followOf rangeOf ranges pick
+all-alone = tt
+
+pub nothing-follows : (b : ℕ) → b < 256 → 8 < kindOf (leadOf b) → followOf b ≡ 0
+nothing-follows b l h =
+    eqb→eq (followOf b) 0 (implied (ltb 8 (kindOf (leadOf b))) (eqb (followOf b) 0)
+    (every-at 256 (λ b. implies (ltb 8 (kindOf (leadOf b))) (eqb (followOf b) 0)) all-alone b l)
+    (lt→ltb 8 (kindOf (leadOf b)) h))
 
 pub lead-number : (s : Sort) (b k u : ℕ) (r : Rule) → b < 256 → formAt (formsOf s) b ≡ Starts k u r
     → (leadOf b ≡ lead.Number s) × (followOf b ≡ k)
-lead-number s b k u r l e =
-    let t = agreed s b (Starts k u r) l e in (
-      opened (lead.Number s) b (and-left (opens (lead.Number s) b) (eqb (followOf b) k) t),
-      eqb→eq (followOf b) k (and-right (opens (lead.Number s) b) (eqb (followOf b) k) t),
-    )
-
--- the byte begins a form of that kind
-pub record Begins (s : Sort) (b : ℕ) : Type 0 where
-  pub held : ℕ
-  pub rule : Rule
-  pub starts : formAt (formsOf s) b ≡ Starts (followOf b) held rule
-
-pub number-lead : (s : Sort) (b : ℕ) → b < 256 → leadOf b ≡ lead.Number s → Begins s b
-number-lead s b l e = go (formAt (formsOf s) b) refl
-  where
-    go : (x : Begun) → formAt (formsOf s) b ≡ x → Begins s b
-    go (Starts k u r) y =
-        record { held = u; rule = r; starts = y ∙ ap (λ (n : ℕ). Starts n u r) (sym (lead-number s b k u r l y .1)) }
-    go NoForm y =
-        absurd (T-not (opens (lead.Number s) b) (agreed s b NoForm l y) (rw e (eqb-refl (kindOf (lead.Number s)))))
+lead-number s b k u r l e = lead-form (number s) b k u r l e

@@ -9,7 +9,7 @@ use lib.Dec.{T, ltb}
 use lib.ListN.{length, take, drop, length-drop}
 use lib.Seq.{drop-drop}
 use Rattle.flow.specs.Tests.{by-test, by-cases, tests}
-use Rattle.scalar.specs.Scalars.{total, span}
+use Rattle.scalar.specs.Scalars.{total, fitting}
 
 abbrev pub Chars : List ℕ → Type 0
 Chars [] = Unit {0}
@@ -19,7 +19,7 @@ Chars (w ∷ ws) = (w ≤ 2) × Chars ws
 module _ (cap : ℕ) (last : ℕ → ℕ) where
   abbrev pub best : ℕ → List ℕ → ℕ
   best zero ws = 0
-  best (suc k) ws = cond (ltb cap (total ws)) (3 + best k (drop (span cap ws) ws)) (last (total ws))
+  best (suc k) ws = cond (ltb cap (total ws)) (3 + best k (drop (fitting cap ws) ws)) (last (total ws))
 
 pub chars-drop : (j : ℕ) (ws : List ℕ) → Chars ws → Chars (drop j ws)
 chars-drop zero ws h = h
@@ -31,15 +31,15 @@ total-drop zero ws = omega arith
 total-drop (suc j) [] = omega arith
 total-drop (suc j) (w ∷ ws) = omega (arith, total-drop j ws)
 
--- what fits is no more than `span`
-pub span-most : (cap j : ℕ) (ws : List ℕ) → j ≤ length ws → total (take j ws) ≤ cap → j ≤ span cap ws
+-- what fits is no more than `fitting`
+pub span-most : (cap j : ℕ) (ws : List ℕ) → j ≤ length ws → total (take j ws) ≤ cap → j ≤ fitting cap ws
 span-most cap zero ws l h = omega arith
 span-most cap (suc j) [] l h = absurd (omega arith)
 span-most cap (suc j) (w ∷ ws) l h =
     by-test (λ (n : ℕ). suc j ≤ n) (ltb cap w) (λ t. absurd (omega (arith, tests)))
     (λ t. omega (arith, span-most (cap - w) j ws (omega arith) (omega (arith, tests))))
 
-pub span-fits : (cap : ℕ) (ws : List ℕ) → (span cap ws ≤ length ws) × (total (take (span cap ws) ws) ≤ cap)
+pub span-fits : (cap : ℕ) (ws : List ℕ) → (fitting cap ws ≤ length ws) × (total (take (fitting cap ws) ws) ≤ cap)
 span-fits cap [] = (omega arith, omega arith)
 span-fits cap (w ∷ ws) =
     by-test (λ (n : ℕ). (n ≤ length (w ∷ ws)) × (total (take n (w ∷ ws)) ≤ cap)) (ltb cap w)
@@ -47,15 +47,15 @@ span-fits cap (w ∷ ws) =
     (λ t. let p = span-fits (cap - w) ws in (omega arith, omega (arith, tests)))
 
 -- where j fit, what fits of the rest
-pub span-cut : (cap j : ℕ) (ws : List ℕ) → j ≤ span cap ws
-    → span cap ws ≡ j + span (cap - total (take j ws)) (drop j ws)
+pub span-cut : (cap j : ℕ) (ws : List ℕ) → j ≤ fitting cap ws
+    → fitting cap ws ≡ j + fitting (cap - total (take j ws)) (drop j ws)
 span-cut cap zero ws l = let e : cap - 0 ≡ cap = omega arith in rw e (omega arith)
 span-cut cap (suc j) [] l = absurd (omega arith)
 span-cut cap (suc j) (w ∷ ws) l = by-cases (ltb cap w)
     (λ t. absurd (omega (arith, rw t at l)))
     (λ t.
     let e : cap - (w + total (take j ws)) ≡ cap - w - total (take j ws) = omega arith in
-    let i : suc j ≤ suc (span (cap - w) ws) = rw t at l in
+    let i : suc j ≤ suc (fitting (cap - w) ws) = rw t at l in
     rw (t, e) (omega (arith, span-cut (cap - w) j ws (omega arith))))
 
 pub total-split : (j : ℕ) (ws : List ℕ) → total (take j ws) + total (drop j ws) ≡ total ws
@@ -64,14 +64,14 @@ total-split (suc j) [] = omega arith
 total-split (suc j) (w ∷ ws) = omega (arith, total-split j ws)
 
 -- more room, more characters; and from a later start a chunk reaches as far
-span-room : (a b : ℕ) (ws : List ℕ) → a ≤ b → span a ws ≤ span b ws
-span-room a b ws h = let p = span-fits a ws in span-most b (span a ws) ws (p .0) (omega arith)
+span-room : (a b : ℕ) (ws : List ℕ) → a ≤ b → fitting a ws ≤ fitting b ws
+span-room a b ws h = let p = span-fits a ws in span-most b (fitting a ws) ws (p .0) (omega arith)
 
-span-reach : (cap j : ℕ) (ws : List ℕ) → span cap ws ≤ j + span cap (drop j ws)
+span-reach : (cap j : ℕ) (ws : List ℕ) → fitting cap ws ≤ j + fitting cap (drop j ws)
 span-reach cap zero ws = omega arith
 span-reach cap (suc j) [] = omega arith
 span-reach cap (suc j) (w ∷ ws) =
-    by-test (λ (n : ℕ). n ≤ suc j + span cap (drop j ws)) (ltb cap w) (λ t. omega arith)
+    by-test (λ (n : ℕ). n ≤ suc j + fitting cap (drop j ws)) (ltb cap w) (λ t. omega arith)
     (λ t. omega (arith, span-reach cap j ws, span-room (cap - w) cap ws (omega arith)))
 
 -- two starts, the second no earlier
@@ -87,37 +87,41 @@ same-test false y h = refl
 
 module _ (cap : ℕ) (two : 2 ≤ cap) (last : ℕ → ℕ) (grows : (m n : ℕ) → m ≤ n → last m ≤ last n)
     (three : (n : ℕ) → n ≤ cap → last n ≤ 3) where
-  pub progress : (ws : List ℕ) → Chars ws → cap < total ws → 0 < span cap ws
+  pub progress : (ws : List ℕ) → Chars ws → cap < total ws → 0 < fitting cap ws
   progress [] c h = absurd (omega arith)
   progress (w ∷ ws) c h = by-test (λ (n : ℕ). 0 < n) (ltb cap w) (λ t. absurd (omega (arith, tests))) (λ t. omega arith)
 
   -- what is left is shorter
   pub shorter : (ws : List ℕ) → Chars ws → cap < total ws → (k : ℕ) → length ws < suc k
-      → length (drop (span cap ws) ws) < k
+      → length (drop (fitting cap ws) ws) < k
   shorter ws c h k l = rw length-drop (omega (arith, progress ws c h, span-fits cap ws .0))
 
   -- a later start costs no more
   mono : (k : ℕ) (ws : List ℕ) → Chars ws → length ws < k → (j : ℕ) → best cap last k (drop j ws) ≤ best cap last k ws
   mono zero ws c l j = absurd (omega arith)
   mono (suc k) ws c l j =
-      by-test (λ (x : ℕ). x ≤ cond (ltb cap (total ws)) (3 + best cap last k (drop (span cap ws) ws)) (last (total ws)))
+      by-test (λ (x : ℕ). x ≤ cond (ltb cap (total ws)) (3 + best cap last k (drop (fitting cap ws) ws))
+      (last (total ws)))
       (ltb cap (total (drop j ws)))
-      (λ t. by-test (λ (y : ℕ). 3 + best cap last k (drop (span cap (drop j ws)) (drop j ws)) ≤ y) (ltb cap (total ws))
+      (λ t. by-test (λ (y : ℕ). 3 + best cap last k (drop (fitting cap (drop j ws)) (drop j ws)) ≤ y)
+      (ltb cap (total ws))
       (λ u.
       main
-      (mono k (drop (span cap ws) ws) (chars-drop (span cap ws) ws c) (shorter ws c (omega (arith, tests)) k l)))
+      (mono k (drop (fitting cap ws) ws) (chars-drop (fitting cap ws) ws c) (shorter ws c (omega (arith, tests)) k l)))
       (λ u. absurd (omega (arith, tests, total-drop j ws))))
       (λ t. by-test (λ (y : ℕ). last (total (drop j ws)) ≤ y) (ltb cap (total ws))
       (λ u. omega (arith, three (total (drop j ws)) (omega (arith, tests))))
       (λ u. grows (total (drop j ws)) (total ws) (total-drop j ws)))
     where
-      main : ((i : ℕ) → best cap last k (drop i (drop (span cap ws) ws)) ≤ best cap last k (drop (span cap ws) ws))
-          → 3 + best cap last k (drop (span cap (drop j ws)) (drop j ws)) ≤ 3 + best cap last k (drop (span cap ws) ws)
+      main : ((i : ℕ) → best cap last k (drop i (drop (fitting cap ws) ws)) ≤ best cap last k
+          (drop (fitting cap ws) ws))
+          → 3 + best cap last k (drop (fitting cap (drop j ws)) (drop j ws)) ≤ 3 + best cap last k
+          (drop (fitting cap ws) ws)
       main ih =
           rw
-          (drop-drop (span cap (drop j ws)) j ws
-          ∙ drop-later (span cap ws) (j + span cap (drop j ws)) ws (span-reach cap j ws))
-          (omega (arith, ih (j + span cap (drop j ws) - span cap ws)))
+          (drop-drop (fitting cap (drop j ws)) j ws
+          ∙ drop-later (fitting cap ws) (j + fitting cap (drop j ws)) ws (span-reach cap j ws))
+          (omega (arith, ih (j + fitting cap (drop j ws) - fitting cap ws)))
 
   -- more fuel is of no use
   enough : (k : ℕ) (ws : List ℕ) → Chars ws → length ws < k → best cap last (suc k) ws ≡ best cap last k ws
@@ -125,7 +129,8 @@ module _ (cap : ℕ) (two : 2 ≤ cap) (last : ℕ → ℕ) (grows : (m n : ℕ)
   enough (suc k) ws c l = same-test (ltb cap (total ws)) (last (total ws))
       (λ t.
       ap (λ (n : ℕ). 3 + n)
-      (enough k (drop (span cap ws) ws) (chars-drop (span cap ws) ws c) (shorter ws c (omega (arith, tests)) k l)))
+      (enough k (drop (fitting cap ws) ws) (chars-drop (fitting cap ws) ws c)
+      (shorter ws c (omega (arith, tests)) k l)))
 
   -- one chunk more, of any j characters that fit, never beats the longest
   pub chunk-more : (k : ℕ) (ws : List ℕ) → Chars ws → length ws < k → (j : ℕ) → j ≤ length ws → total (take j ws) ≤ cap
@@ -135,11 +140,11 @@ module _ (cap : ℕ) (two : 2 ≤ cap) (last : ℕ → ℕ) (grows : (m n : ℕ)
       by-test (λ (x : ℕ). x ≤ 3 + best cap last (suc k) (drop j ws)) (ltb cap (total ws))
       (λ t. big (omega (arith, tests))) (λ t. omega (arith, three (total ws) (omega (arith, tests))))
     where
-      big : cap < total ws → 3 + best cap last k (drop (span cap ws) ws) ≤ 3 + best cap last (suc k) (drop j ws)
+      big : cap < total ws → 3 + best cap last k (drop (fitting cap ws) ws) ≤ 3 + best cap last (suc k) (drop j ws)
       big u =
-          let a = mono (suc k) (drop j ws) (chars-drop j ws c) (rw length-drop (omega arith)) (span cap ws - j) in
-          let b = rw (← (drop-later j (span cap ws) ws (span-most cap j ws i h))) at a in
-          let e = enough k (drop (span cap ws) ws) (chars-drop (span cap ws) ws c) (shorter ws c u k l) in
+          let a = mono (suc k) (drop j ws) (chars-drop j ws c) (rw length-drop (omega arith)) (fitting cap ws - j) in
+          let b = rw (← (drop-later j (fitting cap ws) ws (span-most cap j ws i h))) at a in
+          let e = enough k (drop (fitting cap ws) ws) (chars-drop (fitting cap ws) ws c) (shorter ws c u k l) in
           omega arith
 
 -- a last chunk's head: 1 byte to 31 units, 2 to 1,023, 3 from there on

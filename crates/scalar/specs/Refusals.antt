@@ -1,14 +1,16 @@
--- The refusals of single values, texts and byte strings: 2, 3 and 4. Their places are at most `end`, where the message
--- ends.
-use mathlib.Core.Bool.{cond}
+-- The refusals of single values, texts and byte strings: 2 at the end of the message, `end`; 3 and 4 before it. P holds
+-- of these, and so of each refusal that is given. At most `bound` bytes are left, as in flow's laws: so the number that
+-- only bounds the recursion of `chunks` runs out only at the end.
 use mathlib.Core.List.{List, [], _∷_, _++_}
 use mathlib.Core.Option.{Option, none, some}
-use Prim.Native.Nat.{ℕ, zero, suc, _+_, _*_, _≤_}
+use Prim.Native.Nat.{ℕ, zero, suc, _+_, _*_, _<_}
 use native.Mathlib.Omega.{arith}
 use lib.ListN.{length}
-use Rattle.flow.specs.Flow.{within, Read, From, give, mapped, fail, bind}
+use Rattle.flow.specs.RefusalNumbers.{cut, wrong-byte, not-utf8}
+use Rattle.flow.specs.Flow.{within, Read, From}
 use Rattle.flow.specs.Tests.{pick-either}
-use Rattle.flow.specs.Refusals.{Tells, TellsFrom, cond-tells, byte-tells, mapped-tells, bind-tells}
+use Rattle.flow.specs.Refusals.{Tells, TellsFrom, give-tells, fail-tells, cond-tells, mapped-tells, bind-tells}
+use Rattle.flow.specs.Refusals.{cut-tells, next-tells, byte-tells}
 use Rattle.scalar.specs.declared.Sort.{Sort}
 use Rattle.scalar.specs.declared.Sort.the-variants as sort
 use Rattle.scalar.specs.declared.Begun.{Begun}
@@ -18,139 +20,121 @@ use Rattle.scalar.specs.declared.Encoding.the-variants.{Utf8, Binary}
 use Rattle.scalar.specs.declared.CharLead.{CharLead}
 use Rattle.scalar.specs.declared.CharLead.the-variants.{Basic, Supplementary, Halved, NoChar}
 use Rattle.scalar.specs.Scalars.{Form, formsOf, formAt, inside, value, bytesOf, numberFrom, partHead, lastHeads}
-use Rattle.scalar.specs.Scalars.{charLead, paired, ranged, continued, chained, lowOf, pairOf, pairThen, bySecond}
+use Rattle.scalar.specs.Scalars.{charLead, paired, ranged, continued, chained, pairOf, pairThen}
 use Rattle.scalar.specs.Scalars.{character, characters, octets, body, chunk, chunks, stringFrom}
 use Rattle.scalar.specs.Scalars.{Scalar, Num, Str, begins, orString, orNumber, scalarFrom, intFrom, textFrom}
 use Rattle.scalar.specs.NumberLaws.{numberBy}
 
-module _ (C I : Type 0) (P : ℕ → Type 0) (end : ℕ) (two : P 2) (three : P 3) (four : P 4) where
-  -- ---- numbers
-  bytes-tell : (k u : ℕ) → Tells {C = C} {I = I} P end (bytesOf k u)
-  bytes-tell zero u c at s l = omega arith
-  bytes-tell (suc k) u c at s l =
-      byte-tells P end two (λ p b. bytesOf k (256 * u + b)) (λ p b h. bytes-tell k (256 * u + b)) c at s l
+-- of the reader that there is, if there is one
+data TellsIf {C I : Type 0} (P : ℕ → ℕ → Type 0) (end bound : ℕ) : Option (Read C I (List ℕ)) → Type 0 where
+  no-reader : TellsIf P end bound none
+  a-reader : {f : Read C I (List ℕ)} → Tells P end bound f → TellsIf P end bound (some f)
 
-  by-tells : (x : Begun) (p : ℕ) → p ≤ end → Tells {C = C} {I = I} P end (numberBy x p)
-  by-tells NoForm p h = λ c at s l. (three, h)
-  by-tells (Starts k u r) p h = mapped-tells P end (value r) (bytesOf k u) (bytes-tell k u)
+module _ {C I : Type 0} {P : ℕ → ℕ → Type 0} {end : ℕ} (ends : P cut end)
+    (wrong : (o : ℕ) → o < end → P wrong-byte o) (ill : (o : ℕ) → o < end → P not-utf8 o) where
+  module _ {bound : ℕ} where
+    -- ---- numbers
+    bytes-tell : (k u : ℕ) → Tells {C = C} {I = I} P end bound (bytesOf k u)
+    bytes-tell zero u = give-tells u
+    bytes-tell (suc k) u = byte-tells ends (λ p b m. bytes-tell k (256 * u + b))
 
-  number-tells : (ws : List Form) → TellsFrom {C = C} {I = I} P end (numberFrom ws)
-  number-tells ws p b h = by-tells (formAt ws b) p h
+    by-tells : (x : Begun) (p : ℕ) → p < end → Tells {C = C} {I = I} P end bound (numberBy x p)
+    by-tells NoForm p m = fail-tells (wrong p m)
+    by-tells (Starts k u r) p m = mapped-tells (value r) (bytes-tell k u)
 
-  -- ---- texts and byte strings
-  ranged-tells : {A : Type 0} (o lo hi : ℕ) (f : ℕ → Read C I A) → o ≤ end → ((b : ℕ) → Tells P end (f b))
-      → Tells P end (ranged o lo hi f)
-  ranged-tells o lo hi f h k = byte-tells P end two (λ p b. cond (within lo hi b) (f b) (fail 4 o))
-      (λ p b m. cond-tells P end (within lo hi b) (f b) (fail 4 o) (k b) (λ c at s l. (four, h)))
+    number-tells : (ws : List Form) → TellsFrom {C = C} {I = I} P end bound (numberFrom ws)
+    number-tells ws p b m = by-tells (formAt ws b) p m
 
-  continued-tells : (o n lo hi : ℕ) → o ≤ end → Tells {C = C} {I = I} P end (continued o n lo hi)
-  continued-tells o zero lo hi h c at s l = omega arith
-  continued-tells o (suc n) lo hi h c at s l =
-      ranged-tells o lo hi (λ b. mapped (λ cs. b ∷ cs) (continued o n 0x80 0xc0)) h
-      (λ b. mapped-tells P end (λ cs. b ∷ cs) (continued o n 0x80 0xc0) (continued-tells o n 0x80 0xc0 h)) c at s l
+    -- ---- texts and byte strings
+    module _ (o : ℕ) (m : o < end) where
+      ranged-tells : {A : Type 0} (lo hi : ℕ) {f : ℕ → Read C I A} → ((b : ℕ) → Tells P end bound (f b))
+          → Tells P end bound (ranged o lo hi f)
+      ranged-tells lo hi h = byte-tells ends (λ p b l. cond-tells (within lo hi b) (h b) (fail-tells (ill o m)))
 
-  pair-tells : (o d : ℕ) → o ≤ end → Tells {C = C} {I = I} P end (pairOf o d)
-  pair-tells o d h =
-      ranged-tells o 0x80 0xc0 (lowOf o d) h (λ x.
-      ranged-tells o 0xed 0xee _ h (λ e.
-      ranged-tells o 0xb0 0xc0 _ h (λ y.
-      ranged-tells o 0x80 0xc0 (λ z. give (paired d x y z)) h (λ z c at s l. omega arith))))
+      continued-tells : (n lo hi : ℕ) → Tells {C = C} {I = I} P end bound (continued o n lo hi)
+      continued-tells zero lo hi = give-tells []
+      continued-tells (suc n) lo hi =
+          ranged-tells lo hi (λ b. mapped-tells (λ cs. b ∷ cs) (continued-tells n 0x80 0xc0))
 
-  chained-tells : (front : List ℕ) (f g : Read C I (List ℕ)) → Tells P end f → Tells P end g
-      → Tells P end (chained front f g)
-  chained-tells front f g h k = bind-tells P end f (λ cs. mapped (λ ds. front ++ (cs ++ ds)) g) h
-      (λ cs. mapped-tells P end (λ ds. front ++ (cs ++ ds)) g k)
+      pair-tells : (d : ℕ) → Tells {C = C} {I = I} P end bound (pairOf o d)
+      pair-tells d =
+          ranged-tells 0x80 0xc0 (λ x.
+          ranged-tells 0xed 0xee (λ e.
+          ranged-tells 0xb0 0xc0 (λ y.
+          ranged-tells 0x80 0xc0 (λ z. give-tells (paired d x y z)))))
 
-  abbrev TellsSome : Option (Read C I (List ℕ)) → Type 0
-  TellsSome none = Unit {0}
-  TellsSome (some g) = Tells P end g
+    chained-tells : (front : List ℕ) {f g : Read C I (List ℕ)} → Tells P end bound f → Tells P end bound g
+        → Tells P end bound (chained front f g)
+    chained-tells front h k = bind-tells h (λ cs. mapped-tells (λ ds. front ++ (cs ++ ds)) k)
 
-  high-tells : (p d : ℕ) (g : Option (Read C I (List ℕ))) → p ≤ end → TellsSome g → Tells P end (pairThen p d g)
-  high-tells p d none m i = λ c at s l. (four, m)
-  high-tells p d (some g) m i = chained-tells [] (pairOf p d) g (pair-tells p d m) i
+    high-tells : (p d : ℕ) {g : Option (Read C I (List ℕ))} → p < end → TellsIf P end bound g
+        → Tells P end bound (pairThen p d g)
+    high-tells p d m no-reader = fail-tells (ill p m)
+    high-tells p d m (a-reader k) = chained-tells [] (pair-tells p m d) k
 
-  character-tells : (x : CharLead) (f : Read C I (List ℕ)) (g : Option (Read C I (List ℕ))) → Tells P end f
-      → TellsSome g → TellsFrom P end (character x f g)
-  character-tells (Basic k lo hi) f g h i p b m =
-      chained-tells (b ∷ []) (continued p k lo hi) f (continued-tells p k lo hi m) h
-  character-tells (Supplementary lo hi) f none h i p b m = λ c at s l. (four, m)
-  character-tells (Supplementary lo hi) f (some g) h i p b m =
-      chained-tells (b ∷ []) (continued p 3 lo hi) g (continued-tells p 3 lo hi m) i
-  character-tells Halved f g h i p b m = byte-tells P end two (bySecond f g p b) (λ q d n.
-      cond-tells P end (within 0x80 0xa0 d) (chained (b ∷ d ∷ []) (continued p 1 0x80 0xc0) f) _
-      (chained-tells (b ∷ d ∷ []) (continued p 1 0x80 0xc0) f (continued-tells p 1 0x80 0xc0 m) h)
-      (cond-tells P end (within 0xa0 0xb0 d) (pairThen p d g) (fail 4 p)
-      (high-tells p d g m i) (λ c at s l. (four, m))))
-  character-tells NoChar f g h i p b m = λ c at s l. (four, m)
+    character-tells : (x : CharLead) {f : Read C I (List ℕ)} {g : Option (Read C I (List ℕ))} → Tells P end bound f
+        → TellsIf P end bound g → TellsFrom P end bound (character x f g)
+    character-tells (Basic j lo hi) h k p b m = chained-tells (b ∷ []) (continued-tells p m j lo hi) h
+    character-tells (Supplementary lo hi) h no-reader p b m = fail-tells (ill p m)
+    character-tells (Supplementary lo hi) h (a-reader k) p b m =
+        chained-tells (b ∷ []) (continued-tells p m 3 lo hi) k
+    character-tells Halved h k p b m = byte-tells ends (λ q d l.
+        cond-tells (within 0x80 0xa0 d) (chained-tells (b ∷ d ∷ []) (continued-tells p m 1 0x80 0xc0) h)
+        (cond-tells (within 0xa0 0xb0 d) (high-tells p d m k) (fail-tells (ill p m))))
+    character-tells NoChar h k p b m = fail-tells (ill p m)
 
-  characters-tell : (n : ℕ) → Tells {C = C} {I = I} P end (characters n)
-  characters-tell zero c at s l = omega arith
-  characters-tell (suc zero) c at s l =
-      byte-tells P end two (λ p b. character (charLead b) (characters zero) none p b)
-      (λ p b. character-tells (charLead b) (characters zero) none (characters-tell zero) tt p b) c at s l
-  characters-tell (suc (suc n)) c at s l =
-      byte-tells P end two (λ p b. character (charLead b) (characters (suc n)) (some (characters n)) p b)
-      (λ p b.
-      character-tells (charLead b) (characters (suc n)) (some (characters n)) (characters-tell (suc n))
-      (characters-tell n) p b) c at s l
+    characters-tell : (n : ℕ) → Tells {C = C} {I = I} P end bound (characters n)
+    characters-tell zero = give-tells []
+    characters-tell (suc zero) =
+        byte-tells ends (λ p b. character-tells (charLead b) (characters-tell zero) no-reader p b)
+    characters-tell (suc (suc n)) = byte-tells ends (λ p b.
+        character-tells (charLead b) (characters-tell (suc n)) (a-reader (characters-tell n)) p b)
 
-  octets-tell : (n : ℕ) → Tells {C = C} {I = I} P end (octets n)
-  octets-tell zero c at s l = omega arith
-  octets-tell (suc n) c at s l =
-      byte-tells P end two (λ p b. mapped (λ cs. b ∷ cs) (octets n))
-      (λ p b h. mapped-tells P end (λ cs. b ∷ cs) (octets n) (octets-tell n)) c at s l
+    octets-tell : (n : ℕ) → Tells {C = C} {I = I} P end bound (octets n)
+    octets-tell zero = give-tells []
+    octets-tell (suc n) = byte-tells ends (λ p b m. mapped-tells (λ cs. b ∷ cs) (octets-tell n))
 
-  pub body-tells : (k : Encoding) (n : ℕ) → Tells {C = C} {I = I} P end (body k n)
-  body-tells Binary n = octets-tell n
-  body-tells Utf8 n = characters-tell n
+    pub body-tells : (k : Encoding) (n : ℕ) → Tells {C = C} {I = I} P end bound (body k n)
+    body-tells Binary n = octets-tell n
+    body-tells Utf8 n = characters-tell n
 
-  chunk-tells : (k : Encoding) (next : Read C I (List ℕ)) → Tells P end next → TellsFrom P end (chunk k next)
-  chunk-tells k next h p b m =
-      cond-tells P end (inside (partHead k) b)
-      (bind (numberFrom (partHead k ∷ []) p b) (λ n. bind (body k n) (λ cs. mapped (λ ds. cs ++ ds) next)))
-      (bind (numberFrom (lastHeads k) p b) (body k))
-      (bind-tells P end (numberFrom (partHead k ∷ []) p b) (λ n. bind (body k n) (λ cs. mapped (λ ds. cs ++ ds) next))
-      (number-tells (partHead k ∷ []) p b m)
-      (λ n.
-      bind-tells P end (body k n) (λ cs. mapped (λ ds. cs ++ ds) next) (body-tells k n)
-      (λ cs. mapped-tells P end (λ ds. cs ++ ds) next h)))
-      (bind-tells P end (numberFrom (lastHeads k) p b) (body k) (number-tells (lastHeads k) p b m) (body-tells k))
+    chunk-tells : (k : Encoding) {next : Read C I (List ℕ)} → Tells P end bound next
+        → TellsFrom P end bound (chunk k next)
+    chunk-tells k h p b m = cond-tells (inside (partHead k) b)
+        (bind-tells (number-tells (partHead k ∷ []) p b m) (λ n.
+        bind-tells (body-tells k n) (λ cs. mapped-tells (λ ds. cs ++ ds) h)))
+        (bind-tells (number-tells (lastHeads k) p b m) (body-tells k))
 
-  chunks-tell : (k : Encoding) (j : ℕ) → Tells {C = C} {I = I} P end (chunks k j)
-  chunks-tell k zero c at s l = (two, omega arith)
-  chunks-tell k (suc j) c at s l =
-      byte-tells P end two (chunk k (chunks k j)) (chunk-tells k (chunks k j) (chunks-tell k j)) c at s l
+  chunks-tell : (k : Encoding) (j : ℕ) → Tells {C = C} {I = I} P end j (chunks k j)
+  chunks-tell k zero = cut-tells ends
+  chunks-tell k (suc j) = next-tells ends (chunk-tells k (chunks-tell k j))
 
-  string-tells : (k : Encoding) → TellsFrom {C = C} {I = I} P end (stringFrom k)
-  unfolding stringFrom
-  string-tells k p b m c at s l = chunk-tells k (chunks k (length s)) (chunks-tell k (length s)) p b m c at s l
+  module _ {bound : ℕ} where
+    string-tells : (k : Encoding) → TellsFrom {C = C} {I = I} P end bound (stringFrom k)
+    unfolding stringFrom
+    string-tells k p b m = record {
+      tells = λ c at s e i. chunk-tells k (chunks-tell k (length s)) p b m .tells c at s e (omega arith);
+    }
 
-  -- ---- what the layer above reads
-  string-or : (k : Encoding) (g : From C I Scalar) → TellsFrom {C = C} {I = I} P end g
-      → TellsFrom {C = C} {I = I} P end (orString k g)
-  string-or k g h p b m =
-      pick-either (Tells P end) (begins (partHead k ∷ lastHeads k) b)
-      (λ e. mapped-tells P end (Str k) (stringFrom k p b) (string-tells k p b m)) (λ e. h p b m)
+    -- ---- what the layer above reads
+    string-or : (k : Encoding) {g : From C I Scalar} → TellsFrom P end bound g → TellsFrom P end bound (orString k g)
+    string-or k h p b m = pick-either (Tells P end bound) (begins (partHead k ∷ lastHeads k) b)
+        (λ e. mapped-tells (Str k) (string-tells k p b m)) (λ e. h p b m)
 
-  number-or : (s : Sort) (g : From C I Scalar) → TellsFrom {C = C} {I = I} P end g
-      → TellsFrom {C = C} {I = I} P end (orNumber s g)
-  number-or s g h p b m =
-      pick-either (Tells P end) (begins (formsOf s) b)
-      (λ e. mapped-tells P end (Num s) (numberFrom (formsOf s) p b) (number-tells (formsOf s) p b m)) (λ e. h p b m)
+    number-or : (s : Sort) {g : From C I Scalar} → TellsFrom P end bound g → TellsFrom P end bound (orNumber s g)
+    number-or s h p b m = pick-either (Tells P end bound) (begins (formsOf s) b)
+        (λ e. mapped-tells (Num s) (number-tells (formsOf s) p b m)) (λ e. h p b m)
 
-  pub scalar-tells : TellsFrom {C = C} {I = I} P end scalarFrom
-  unfolding scalarFrom
-  scalar-tells =
-      string-or Utf8 _
-      (string-or Binary _
-      (number-or sort.Int _
-      (number-or sort.Long _ (number-or sort.Date _ (number-or sort.Double _ (number-or sort.Null _
-      (number-or sort.False _ (number-or sort.True _ (λ p b m c at s l. (three, m))))))))))
+    pub scalar-tells : TellsFrom {C = C} {I = I} P end bound scalarFrom
+    unfolding scalarFrom
+    scalar-tells = string-or Utf8 (string-or Binary
+        (number-or sort.Int (number-or sort.Long (number-or sort.Date (number-or sort.Double
+        (number-or sort.Null (number-or sort.False (number-or sort.True (λ p b m. fail-tells (wrong p m))))))))))
 
-  pub int-tells : TellsFrom {C = C} {I = I} P end intFrom
-  unfolding intFrom
-  int-tells p b = number-tells (formsOf sort.Int) p b
+    pub int-tells : TellsFrom {C = C} {I = I} P end bound intFrom
+    unfolding intFrom
+    int-tells p b = number-tells (formsOf sort.Int) p b
 
-  pub text-tells : TellsFrom {C = C} {I = I} P end textFrom
-  unfolding textFrom
-  text-tells p b = string-tells Utf8 p b
+    pub text-tells : TellsFrom {C = C} {I = I} P end bound textFrom
+    unfolding textFrom
+    text-tells p b = string-tells Utf8 p b

@@ -264,9 +264,9 @@ longestChunk = 65_535
 
 -- how many bytes of these weights fit cap units: whole characters, since the bytes after a character's first weigh
 -- nothing
-abbrev pub span : ℕ → List ℕ → ℕ
-span cap [] = 0
-span cap (u ∷ us) = cond (ltb cap u) 0 (suc (span (cap - u) us))
+abbrev pub fitting : ℕ → List ℕ → ℕ
+fitting cap [] = 0
+fitting cap (u ∷ us) = cond (ltb cap u) 0 (suc (fitting (cap - u) us))
 
 abbrev pub shortestHead : List Form → ℕ → List ℕ
 shortestHead ws n = elim (shortest ws n) [ none ↦ [] | some w ↦ w ]
@@ -275,7 +275,7 @@ shortestHead ws n = elim (shortest ws n) [ none ↦ [] | some w ↦ w ]
 abbrev pub spelled : Encoding → ℕ → List ℕ → List ℕ
 spelled k zero cs = []
 spelled k (suc f) cs =
-    let n = span longestChunk (map (weight k) cs) in
+    let n = fitting longestChunk (map (weight k) cs) in
     cond (ltb longestChunk (units k cs))
     (shortestHead (partHead k ∷ []) (units k (take n cs)) ++ (take n cs ++ spelled k f (drop n cs)))
     (shortestHead (lastHeads k) (units k cs) ++ cs)

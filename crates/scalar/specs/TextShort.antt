@@ -18,7 +18,7 @@ use Rattle.scalar.specs.declared.Rule.the-variants.{Plain}
 use Rattle.scalar.specs.declared.Encoding.{Encoding}
 use Rattle.scalar.specs.declared.Encoding.the-variants.{Utf8, Binary}
 use Rattle.scalar.specs.Scalars.{value, Form, form, shortest, partHead, lastHeads, weight, units, body}
-use Rattle.scalar.specs.Scalars.{longestChunk, span, shortestHead, spelled, readsAs, content, shortestString}
+use Rattle.scalar.specs.Scalars.{longestChunk, fitting, shortestHead, spelled, readsAs, content, shortestString}
 use Rattle.scalar.specs.Grammar.{Held, Number, here, later, String, last-chunk, chunk-before}
 use Rattle.scalar.specs.Guesses.{guess}
 use Rattle.scalar.specs.NumberLaws.{number-fact, Sane, Sanes, number-short, shortest-is, IsNumber}
@@ -185,15 +185,15 @@ weights-take k (suc n) (b ∷ cs) = ap {B = List ℕ} (λ z. weight k b ∷ z) (
 
 -- a content longer than a chunk: its first chunk fits, and what is after is shorter
 module _ (k : Encoding) (cs : List ℕ) (h : 65535 < units k cs) where
-  pub front-fits : units k (take (span longestChunk (weights k cs)) cs) ≤ 65535
+  pub front-fits : units k (take (fitting longestChunk (weights k cs)) cs) ≤ 65535
   front-fits = rw (weights-take, longest-is) (span-fits 65535 (weights k cs) .1)
 
-  pub rest-shorter : (f : ℕ) → length cs < suc f → length (drop (span longestChunk (weights k cs)) cs) < f
+  pub rest-shorter : (f : ℕ) → length cs < suc f → length (drop (fitting longestChunk (weights k cs)) cs) < f
   rest-shorter f l = rw (longest-is, length-drop) (simp (length-drop, length-map) at
       (shorter 65535 (omega arith) (last k) (last-grows k) (last-three k) (weights k cs) (weights-chars k cs) h f
       (rw length-map l)))
 
-  long-price : (f : ℕ) → price k (suc f) cs ≡ 3 + price k f (drop (span longestChunk (weights k cs)) cs)
+  long-price : (f : ℕ) → price k (suc f) cs ≡ 3 + price k f (drop (fitting longestChunk (weights k cs)) cs)
   long-price f = pass (ltb 65535 (units k cs)) _ _ (omega (arith, tests)) (rw (longest-is, weights-drop) refl)
 
 abbrev Spelt : Encoding → ℕ → List ℕ → List ℕ → Type 0
@@ -208,26 +208,27 @@ spelled-is k (suc f) {n} {cs} r l = by-test (Spelt k (suc f) cs) (ltb longestChu
   where
     long : 65535 < units k cs → ((m : ℕ) (ds : List ℕ) → Content k m ds → length ds < f → Spelt k f ds (spelled k f ds))
         → Spelt k (suc f) cs
-        (shortestHead (partHead k ∷ []) (units k (take (span longestChunk (weights k cs)) cs)) ++
-        (take (span longestChunk (weights k cs)) cs ++ spelled k f (drop (span longestChunk (weights k cs)) cs)))
+        (shortestHead (partHead k ∷ []) (units k (take (fitting longestChunk (weights k cs)) cs)) ++
+        (take (fitting longestChunk (weights k cs)) cs ++ spelled k f (drop (fitting longestChunk (weights k cs)) cs)))
     long h ih =
-        let j = span longestChunk (weights k cs) in
+        let j = fitting longestChunk (weights k cs) in
         let c = content-cut r longestChunk in
         let a =
-        head-is (partHead k ∷ []) (units k (take (span longestChunk (weights k cs)) cs)) 3 (part-sane k)
-        (part-some k (units k (take (span longestChunk (weights k cs)) cs)) (front-fits k cs h)) in
+        head-is (partHead k ∷ []) (units k (take (fitting longestChunk (weights k cs)) cs)) 3 (part-sane k)
+        (part-some k (units k (take (fitting longestChunk (weights k cs)) cs)) (front-fits k cs h)) in
         let z =
-        ih (units k (drop (span longestChunk (weights k cs)) cs)) (drop (span longestChunk (weights k cs)) cs) (c .1)
+        ih (units k (drop (fitting longestChunk (weights k cs)) cs)) (drop (fitting longestChunk (weights k cs)) cs)
+        (c .1)
         (rest-shorter k cs h f l) in
-        let e = take-append-drop (span longestChunk (weights k cs)) cs in (
+        let e = take-append-drop (fitting longestChunk (weights k cs)) cs in (
           rw e at (chunk-before (a .0) (content-body (c .0)) (z .0)),
           rw (long-price k cs h f, length-append, length-append)
               (omega (
                 arith,
                 a .1,
                 z .1,
-                sym (length-append (take (span longestChunk (weights k cs)) cs)
-                    (drop (span longestChunk (weights k cs)) cs))
+                sym (length-append (take (fitting longestChunk (weights k cs)) cs)
+                    (drop (fitting longestChunk (weights k cs)) cs))
                     ∙ ap length e,
               )),
         )

@@ -12,7 +12,7 @@ use Rattle.flow.specs.Tests.{by-test, within-yes, within-below, within-above, b
 use Rattle.flow.specs.Flow.{within, Bytes}
 use Rattle.scalar.specs.declared.Encoding.{Encoding}
 use Rattle.scalar.specs.declared.Encoding.the-variants.{Utf8, Binary}
-use Rattle.scalar.specs.Scalars.{weight, total, units, span}
+use Rattle.scalar.specs.Scalars.{weight, total, units, fitting}
 use Rattle.scalar.specs.Grammar.{Continued, no-more, follows, Char, one-byte, one-unit, below-halves, two-units}
 use Rattle.scalar.specs.Grammar.{Sent, as-it-is, as-a-pair, Body, empty, with-char}
 use Rattle.scalar.specs.CharLeads.{says}
@@ -164,12 +164,12 @@ body-length (with-char {w = w} {v = v} {cs = cs} {ds = ds} x r) =
     omega (arith, length-append w v, length-append cs ds, sent-length x, body-length r)
 
 -- ---- a content is cut at characters: what fits, and the rest, are contents
-nothing-span : (us vs : List ℕ) (cap : ℕ) → Nothing us → span cap (us ++ vs) ≡ length us + span cap vs
+nothing-span : (us vs : List ℕ) (cap : ℕ) → Nothing us → fitting cap (us ++ vs) ≡ length us + fitting cap vs
 nothing-span [] vs cap n = omega arith
 nothing-span (u ∷ us) vs cap n =
     rw (n .0)
     (rw (le-ltb cap 0 (omega arith))
-    (ap suc (ap (λ (c : ℕ). span c (us ++ vs)) (omega arith) ∙ nothing-span us vs cap (n .1)) ∙ omega arith))
+    (ap suc (ap (λ (c : ℕ). fitting c (us ++ vs)) (omega arith) ∙ nothing-span us vs cap (n .1)) ∙ omega arith))
 
 pub weights-length : (k : Encoding) (cs : List ℕ) → length (weights k cs) ≡ length cs
 weights-length k [] = refl
@@ -177,7 +177,7 @@ weights-length k (b ∷ cs) = ap suc (weights-length k cs)
 
 -- bytes of which only the first weighs
 first-span : (k : Encoding) (u : ℕ) (w v us : List ℕ) (cap : ℕ) → weights k w ≡ u ∷ us → Nothing us
-    → span cap (weights k (w ++ v)) ≡ cond (ltb cap u) 0 (length w + span (cap - u) (weights k v))
+    → fitting cap (weights k (w ++ v)) ≡ cond (ltb cap u) 0 (length w + fitting (cap - u) (weights k v))
 first-span k u w v us cap e z =
     rw (weights-append k w v, e, nothing-span us (weights k v) (cap - u) z)
     (ap (λ (n : ℕ). cond (ltb cap u) 0 n) (omega (arith, weights-length k w, ap length e)))
@@ -187,14 +187,14 @@ abbrev CutAt : Encoding → List ℕ → ℕ → Type 0
 CutAt k cs j = Content k (units k (take j cs)) (take j cs) × Content k (units k (drop j cs)) (drop j cs)
 
 pub content-cut : {k : Encoding} {n : ℕ} {cs : List ℕ} → Content k n cs → (cap : ℕ)
-    → CutAt k cs (span cap (weights k cs))
+    → CutAt k cs (fitting cap (weights k cs))
 content-cut no-chars cap = (no-chars, no-chars)
 content-cut {k} (more-chars {u = u} {w = w} {v = v} x r) cap =
     let z = char-weighs x in
     rw (first-span k u w v (z .rest) cap (z .weighs) (z .nothing))
     (by-test (CutAt k (w ++ v)) (ltb cap u)
     (λ t. (no-chars, content-counted (more-chars x r)))
-    (λ t. later (span (cap - u) (weights k v)) (content-cut r (cap - u))))
+    (λ t. later (fitting (cap - u) (weights k v)) (content-cut r (cap - u))))
   where
     later : (j : ℕ) → CutAt k v j → CutAt k (w ++ v) (length w + j)
     later j y = rw (take-append-add w v j, drop-append-add w v j) (content-counted (more-chars x (y .0)), y .1)

@@ -17,7 +17,7 @@ use Rattle.texts.specs.declared.ChunkRead.the-variants as chunk
 use Rattle.text_writer.specs.declared.Cursor.{Cursor}
 use Rattle.text_writer.specs.declared.Piece.{Piece}
 use Rattle.text_writer.specs.declared.Copied.{Copied}
-use Rattle.scalar.specs.Scalars.{weight, total, units, span, stringAt}
+use Rattle.scalar.specs.Scalars.{weight, total, units, fitting, stringAt}
 use Rattle.scalar.specs.TextUnits.{weights, weights-append, weights-length, singles, single-low, units-append}
 use Rattle.scalar.specs.Greedy.{span-cut, span-most, span-fits}
 use Rattle.scalar.specs.Decoded.{decoded, run-decoded, plain-same, plain-drop, plain-run}
@@ -100,8 +100,8 @@ module _ (k : Encoding) (m : List ℕ) (c : Cursor) where
   unfolding rest
   rest-open z f = let e : c .here + c .left ≡ c .here = omega arith in rw (e, z, f) refl
 
-  rest-stops : (cap : ℕ) → ((v : List ℕ) → span cap (weights k (decoded k (bytesLeft m c) ++ v)) ≡ 0)
-      → span cap (weights k (rest k m c)) ≡ 0
+  rest-stops : (cap : ℕ) → ((v : List ℕ) → fitting cap (weights k (decoded k (bytesLeft m c) ++ v)) ≡ 0)
+      → fitting cap (weights k (rest k m c)) ≡ 0
   unfolding rest
   rest-stops cap h = h (cond (c .last) [] (contentOf (stringAt k m (c .here + c .left))))
 
@@ -142,7 +142,8 @@ module _
   }
 
   -- what fits is the piece, and what fits of the rest
-  piece-span : span cap (weights k (rest k m c)) ≡ r .bytes + span (cap - r .units) (weights k (rest k m (moved c r)))
+  piece-span : fitting cap (weights k (rest k m c)) ≡ r .bytes + fitting (cap - r .units)
+      (weights k (rest k m (moved c r)))
   piece-span =
       let ws = weights k (x .front) in
       let vs = weights k (rest k m (moved c r)) in
@@ -164,7 +165,7 @@ pub record Copying
   pub bytes-are : length front ≡ bytes
   pub units-are : units k front ≡ done
   pub within : done ≤ cap
-  pub spans : span cap (weights k (rest k m a)) ≡ bytes + span (cap - done) (weights k (rest k m c))
+  pub spans : fitting cap (weights k (rest k m a)) ≡ bytes + fitting (cap - done) (weights k (rest k m c))
   pub same : length l′ ≡ length l
   pub holds : to + bytes ≤ length l → l′ ≡ stored l to front
 
@@ -188,14 +189,14 @@ module _
     {k : Encoding} {m : List ℕ} {a : Cursor} {cap : ℕ} {l : List ℕ} {to : ℕ} {c : Cursor} {bytes done : ℕ} {l′ : List ℕ}
     (R : Copying k m a cap l to c bytes done l′) where
   -- the place after what is passed is a number
-  pub copying-below : to + span cap (weights k (rest k m a)) < 2 ^ 64 → to + bytes < 2 ^ 64
+  pub copying-below : to + fitting cap (weights k (rest k m a)) < 2 ^ 64 → to + bytes < 2 ^ 64
   copying-below h = omega (arith, R .spans)
 
   -- nothing more fits
   abbrev answer : Copied
   answer = record { next = c; bytes = bytes; units = done }
 
-  stopped : span (cap - done) (weights k (rest k m c)) ≡ 0 → CopyMet k m a cap l to answer l′
+  stopped : fitting (cap - done) (weights k (rest k m c)) ≡ 0 → CopyMet k m a cap l to answer l′
   stopped e = record {
     spans = record {
       bytes = omega (arith, R .spans);

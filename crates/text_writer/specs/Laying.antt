@@ -14,7 +14,7 @@ use Rattle.flow.specs.OverlayLaws.{stored-sets, stored-seam, length-stored}
 use Rattle.scalar.specs.declared.Encoding.{Encoding}
 use Rattle.text_writer.specs.declared.Cursor.{Cursor}
 use Rattle.text_writer.specs.declared.Copied.{Copied}
-use Rattle.scalar.specs.Scalars.{partHead, lastHeads, units, span, shortestHead, spelled, stringAt}
+use Rattle.scalar.specs.Scalars.{partHead, lastHeads, units, fitting, shortestHead, spelled, stringAt}
 use Rattle.scalar.specs.TextUnits.{weights, weights-length, units-append}
 use Rattle.scalar.specs.TextShort.{longest-is, front-fits, rest-shorter}
 use Rattle.scalar.specs.Greedy.{span-fits}
@@ -23,7 +23,7 @@ use Rattle.text_writer.specs.Writing.{contentOf, rest, Going, Spans, Cop
 
 -- ---- the form of a content: of one that is longer than a chunk, and of another
 module _ (k : Encoding) (cs : List ℕ) where
-  pub spelled-long : 65535 < units k cs → (f : ℕ) → length cs < f → (n : ℕ) → n ≡ span 65535 (weights k cs)
+  pub spelled-long : 65535 < units k cs → (f : ℕ) → length cs < f → (n : ℕ) → n ≡ fitting 65535 (weights k cs)
       → (g : ℕ) × (f ≡ suc g)
       × (spelled k f cs
       ≡ shortestHead (partHead k ∷ []) (units k (take n cs)) ++ (take n cs ++ spelled k g (drop n cs)))
@@ -103,7 +103,7 @@ stored-both l to front h s tail l₁ l₂ r e d =
 module _
     {k : Encoding} {m : List ℕ} {p : ℕ} {l : List ℕ} {to : ℕ} {c : Cursor} {u n place : ℕ} {l′ : List ℕ}
     (R : Laying k m p l to c u n place l′) where
-  span-few : (cap : ℕ) → span cap (weights k (rest k m c)) ≤ n
+  span-few : (cap : ℕ) → fitting cap (weights k (rest k m c)) ≤ n
   span-few cap = omega (arith, R .bytes-are, span-fits cap (weights k (rest k m c)) .0, weights-length k (rest k m c))
 
   -- ---- a head of i bytes, and a content of j
@@ -204,7 +204,7 @@ module _
   -- how much it takes is found before it is stored
   pub part-first : 65535 < u → to + length (laid k m p) < 2 ^ 64 → Copyable k m c 65535 0
   part-first h few =
-      let b = span 65535 (weights k (rest k m c)) in
+      let b = fitting 65535 (weights k (rest k m c)) in
       let s : Copied = record { next = c; bytes = b; units = units k (take b (rest k m c)) } in
       let x : Spans k (rest k m c) 65535 s = record { bytes = refl; units-are = refl } in
       let z = room (head h s x) (chunk h s x) _ (whole h s x) (length (head h s x)) b refl (chunk-length h s x) in

@@ -15,7 +15,7 @@ use Rattle.text_writer.specs.declared.Copied.{Copied}
 use Rattle.text_writer.specs.declared.Piece.{Piece}
 use Rattle.text_writer.specs.declared.Found.{Found}
 use Rattle.text_writer.specs.declared.Found.the-variants.{There, Nothing}
-use Rattle.scalar.specs.Scalars.{form, paired, partHead, lastHeads, units, span, stringAt, spelled}
+use Rattle.scalar.specs.Scalars.{form, paired, partHead, lastHeads, units, fitting, stringAt, spelled}
 use Rattle.scalar.specs.TextUnits.{weights}
 use Rattle.scalar.specs.Decoded.{decoded}
 use Rattle.texts.specs.Ascii.{asciiAt}
@@ -58,7 +58,7 @@ pub record Opens (k : Encoding) (m : List ℕ) (p : ℕ) (r : Cursor) : Type 0 w
 
 -- how much of the content cs fits cap units
 pub record Spans (k : Encoding) (cs : List ℕ) (cap : ℕ) (r : Copied) : Type 0 where
-  pub bytes : r .bytes ≡ span cap (weights k cs)
+  pub bytes : r .bytes ≡ fitting cap (weights k cs)
   pub units-are : r .units ≡ units k (take (r .bytes) cs)
 
 -- how many bytes from p on, up to so many, weigh one each: those of ASCII, or any of a byte string
@@ -84,12 +84,12 @@ pub record PieceMet (k : Encoding) (w : List ℕ) (cap : ℕ) (l : List ℕ) (to
 pub record NextMet (k : Encoding) (w : List ℕ) (cap : ℕ) (l : List ℕ) (to : ℕ) (r : Piece) (l′ : List ℕ) : Type 0 where
   pub piece : PieceMet k w cap l to r l′
   pub kept : r .size ≡ 0 → l′ ≡ l
-  pub stops : r .size ≡ 0 → (v : List ℕ) → span cap (weights k (decoded k w ++ v)) ≡ 0
+  pub stops : r .size ≡ 0 → (v : List ℕ) → fitting cap (weights k (decoded k w ++ v)) ≡ 0
 
 -- as much of the content from the cursor on as fits cap units may be copied to `to`: the place after it is a number
 pub record Copyable (k : Encoding) (m : List ℕ) (c : Cursor) (cap to : ℕ) : Type 0 where
   pub going : Going k m c
-  pub below : to + span cap (weights k (rest k m c)) < 2 ^ 64
+  pub below : to + fitting cap (weights k (rest k m c)) < 2 ^ 64
 
 -- n bytes of the content from the cursor c on are in the list, where they fit; the cursor r is after them
 pub record Copies (k : Encoding) (m : List ℕ) (c : Cursor) (n : ℕ) (l : List ℕ) (to : ℕ) (l′ : List ℕ) (r : Cursor)

@@ -97,11 +97,12 @@ Stays s (Done j cs es c) = (j ≤ length s) × (es ≡ [])
 Stays s (Fault x o) = Unit {0}
 
 body-stays : (k : Encoding) (n at : ℕ) (s : List ℕ) → Stays s (body k n tt at s)
-body-stays k n at s =
-    go (body k n tt at s) (body-tells One One (λ x. Unit {0}) (at + length s) tt tt tt k n tt at s (omega arith))
+body-stays k n at s = go (body k n tt at s)
+    (body-tells {P = λ x o. Unit {0}} {end = at + length s} tt (λ o l. tt) (λ o l. tt) {bound = length s} k n
+    .tells tt at s refl (omega arith))
     (body-lifts (tt {0}) k n .lifts at s)
   where
-    go : (o : Answer (List ℕ)) → Told (λ x. Unit {0}) (at + length s) s o → o ≡ lifted tt o → Stays s o
+    go : (o : Answer (List ℕ)) → Told (λ x o. Unit {0}) s o → o ≡ lifted tt o → Stays s o
     go (Done j cs es c) t e = (t, cc)
     go (Fault x o) t e = tt
 

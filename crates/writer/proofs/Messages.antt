@@ -17,10 +17,10 @@ use Rattle.record.specs.declared.Contents.the-variants.{Elements}
 use Rattle.record.specs.Model.Items.{Item, Known, start}
 use Rattle.record.specs.Model.Rows.{Row}
 use Rattle.record.specs.Model.Shortest.{putValue}
-use Rattle.record.specs.Model.Answers.{WriteResult, Wrote, Refused, base, shortestOf, answeredTo, asNumbers}
-use Rattle.record.specs.Model.Answers.{asBytes, lentRows, rowsOf, writeNumbers, written, writeReport, writeOutput}
-use Rattle.record.specs.Model.Answers.{baseOpenFrom}
+use Rattle.record.specs.Model.Answers.{WriteResult, Wrote, Refused, base, shortestOf, answeredTo, asNumbers, asBytes}
+use Rattle.record.specs.Model.Answers.{lentRows, rowsOf, writeNumbers, written, baseOpenFrom}
 use Rattle.record.specs.Model.Answers.{outputWritten}
+use Rattle.record.specs.Model.Calls.{WriteCall}
 use Rattle.record.specs.Model.Answers as shorthands
 use Rattle.record.specs.Laws.Takes.{value-drops}
 use Rattle.record.specs.ForWriter.WritingAt.{claimed-few, WritingAt, WrittenTo, NoMessage, walk}
@@ -254,13 +254,13 @@ from-bytes openFrom source b n lent =
 
 module _ (source : List ℕ) (n : ℕ) (out : List ℕ) (r : answer.WriteAnswer) (out′ : List ℕ) where
   pub numbers-written : (t : List ℕ) → WritesFrom baseOpenFrom source t [] n out r out′
-      → (report r ≡ writeReport base baseOpenFrom asNumbers source t n out)
-      × (out′ ≡ writeOutput base baseOpenFrom asNumbers source t n out)
-  numbers-written t m = let e = from-numbers baseOpenFrom source t n (length out) in
-      (m .says ∙ ap writeNumbers e, m .holds ∙ ap (outputWritten out) e)
+      → WriteCall base baseOpenFrom asNumbers source t n out (report r) out′
+  numbers-written t m =
+      let e = from-numbers baseOpenFrom source t n (length out) in
+      record { report = m .says ∙ ap writeNumbers e; output = m .holds ∙ ap (outputWritten out) e }
 
   pub bytes-written : (b : List ℕ) → WritesFrom baseOpenFrom source [] b n out r out′
-      → (report r ≡ writeReport base baseOpenFrom asBytes source b n out)
-      × (out′ ≡ writeOutput base baseOpenFrom asBytes source b n out)
-  bytes-written b m = let e = from-bytes baseOpenFrom source b n (length out) in
-      (m .says ∙ ap writeNumbers e, m .holds ∙ ap (outputWritten out) e)
+      → WriteCall base baseOpenFrom asBytes source b n out (report r) out′
+  bytes-written b m =
+      let e = from-bytes baseOpenFrom source b n (length out) in
+      record { report = m .says ∙ ap writeNumbers e; output = m .holds ∙ ap (outputWritten out) e }

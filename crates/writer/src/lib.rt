@@ -25,8 +25,8 @@ use record::limits::LONGEST;
 ghost use mathlib.Core.Path.{_≡_};
 ghost use Prim.Native.Nat.{_≤_};
 ghost use lib.ListN.{length};
-ghost use Rattle.record.specs.Model.Answers.{base, baseOpenFrom, shortestOf, asNumbers, asBytes, writeReport};
-ghost use Rattle.record.specs.Model.Answers.{writeOutput};
+ghost use Rattle.record.specs.Model.Answers.{base, baseOpenFrom, shortestOf, asNumbers, asBytes};
+ghost use Rattle.record.specs.Model.Calls.{WriteCall};
 ghost use Rattle.record.specs.Model.Claims.{contentAt};
 ghost use Rattle.writer.specs.Answers.{report};
 ghost use Rattle.writer.specs.Contracts.{lentIn, rowsIn, PutMet, WritesInto, WritesFrom};
@@ -144,10 +144,9 @@ fn write_from(
 // Writes the first `rows` rows of a table of five numbers a row.
 pub fn write(source: &[u8], table: &[u64], rows: u64, output: &mut [u8]) -> WriteAnswer
     ensures { λ r. ⌜
-        (report r
-        ≡ writeReport base baseOpenFrom asNumbers (now (source .entry)) (now (table .entry)) rows (now (output .entry)))
-        × (now (output .exit)
-        ≡ writeOutput base baseOpenFrom asNumbers (now (source .entry)) (now (table .entry)) rows (now (output .entry)))
+        WriteCall base baseOpenFrom asNumbers
+        (now (source .entry)) (now (table .entry)) rows (now (output .entry))
+        (report r) (now (output .exit))
         ⌝ }
 {
     let lent = table.len() / ROW_NUMBERS;
@@ -158,10 +157,9 @@ pub fn write(source: &[u8], table: &[u64], rows: u64, output: &mut [u8]) -> Writ
 // Writes the first `rows` rows of a table of 40 bytes a row, each number as eight bytes, the highest first.
 pub fn write_bytes(source: &[u8], table: &[u8], rows: u64, output: &mut [u8]) -> WriteAnswer
     ensures { λ r. ⌜
-        (report r
-        ≡ writeReport base baseOpenFrom asBytes (now (source .entry)) (now (table .entry)) rows (now (output .entry)))
-        × (now (output .exit)
-        ≡ writeOutput base baseOpenFrom asBytes (now (source .entry)) (now (table .entry)) rows (now (output .entry)))
+        WriteCall base baseOpenFrom asBytes
+        (now (source .entry)) (now (table .entry)) rows (now (output .entry))
+        (report r) (now (output .exit))
         ⌝ }
 {
     let lent = table.len() / ROW_BYTES;

@@ -18,7 +18,7 @@ use Rattle.record.specs.Model.Answers.{ReadResult, Accept, Refuse, judge
 use Rattle.record.specs.Model.Answers.{shortestOf}
 use Rattle.record.specs.Model.Answers.{answered, fitted}
 use Rattle.record.specs.Model.Terms.{write, Accepts, Accepted, Reads}
-use Rattle.record.specs.Laws.Refusals.{Numbered, message-numbered}
+use Rattle.record.specs.Laws.Refusals.{Located, message-located}
 use Rattle.record.specs.Theorems.RowTheorems.{judged-done, done-judged}
 use Rattle.record.specs.Model.Claims.{contentAt}
 
@@ -49,7 +49,7 @@ module _ (ℓ : Limits) where
 
     -- why refusal x is given, at o
     abbrev Why : ℕ → ℕ → Type 0
-    Why x o = (Misfit × (_≡_ {A = Outcome Known Item One} (Fault 1 0) (Fault x o))) ⊎ Numbered x
+    Why x o = (Misfit × (_≡_ {A = Outcome Known Item One} (Fault 1 0) (Fault x o))) ⊎ Located (length m) x o
 
     faulted : (x o : ℕ) → judged ℓ m ≡ Fault x o → Why x o
     unfolding judged
@@ -63,7 +63,7 @@ module _ (ℓ : Limits) where
                   (ltb-true (ℓ .longest) (length (b ∷ n)) t)),
               e,
             ))
-            (λ t e. inr (message-numbered ℓ x o (b ∷ n) e))
+            (λ t e. inr (subst (λ (k : List ℕ). Located (length k) x o) (sym q) (message-located ℓ x o (b ∷ n) e)))
 
     pub misfit-judged : Misfit → judged ℓ m ≡ Fault 1 0
     unfolding judged
@@ -77,7 +77,7 @@ module _ (ℓ : Limits) where
   module _ (lent : ℕ) (m : List ℕ) where
     pub by-read : Bytes m → (P : ReadResult → Type 0)
         → (Misfit m → P (Refuse 1 0 0))
-        → ((x o : ℕ) → Numbered x → P (Refuse x 0 o))
+        → ((x o : ℕ) → Located (length m) x o → P (Refuse x 0 o))
         → ((r : List Item) (x : Accepts ℓ m r) → lent < length (x .entries) → P (Refuse 9 (length (x .entries)) 0))
         → ((r : List Item) (x : Accepts ℓ m r) → length (x .entries) ≤ lent → P (Accept (rows (x .entries)) (length m)))
         → P (read ℓ lent m)

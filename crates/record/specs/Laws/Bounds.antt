@@ -16,10 +16,10 @@ use Rattle.record.specs.Model.Reading.{message}
 use Rattle.record.specs.Laws.Extent.{rows-few}
 use Rattle.record.specs.Model.Answers.{ReadResult, judged, read, shortestOf, Layout, lentRows, rowsOf}
 use Rattle.record.specs.Model.Answers.{readNumbers, writeNumbers, written}
-use Rattle.record.specs.Model.Answers.{answered, fitted}
+use Rattle.record.specs.Model.Answers.{answered, fitted, WriteResult, Wrote, Refused}
 use Rattle.record.specs.ForReader.ReadMessages.{rows-length}
-use Rattle.record.specs.Laws.Refusals.{Numbered, message-within}
-use Rattle.record.specs.Theorems.Demanded.{read-numbered}
+use Rattle.record.specs.Laws.Refusals.{Located, located-within, message-within}
+use Rattle.record.specs.Theorems.AnswerTheorems.{read-numbered}
 use Rattle.record.specs.Model.Claims.{ContentMap}
 
 -- the count and the place of an answer are at most k
@@ -30,9 +30,9 @@ module _ (ℓ : Limits) (lent : ℕ) where
   message-most : (k : ℕ) (m : List ℕ) → Bytes m → length m ≤ k → Most k (answered lent (message ℓ start 0 m))
   message-most k m b l = go (message ℓ start 0 m) refl (message-within ℓ m)
     where
-      go : (o : Outcome Known Item One) → message ℓ start 0 m ≡ o → Told Numbered (length m) m o
+      go : (o : Outcome Known Item One) → message ℓ start 0 m ≡ o → Told (Located (length m)) m o
           → Most k (answered lent o)
-      go (Fault x o) e t = (omega arith, omega (arith, t .1))
+      go (Fault x o) e t = (omega arith, omega (arith, located-within t))
       go (Done n u es c) e t =
           let i : length es ≤ k = omega (
             arith,
@@ -77,3 +77,12 @@ written-small ℓ openFrom L contents source t n lent =
     pick-either (λ a. writeNumbers a .count ≤ ℓ .longest) (ltb (ℓ .longest) (length source)) (λ e. omega arith)
     (λ e. stored-small ℓ lent (pick (ltb (lentRows L t) n) none (shortestOf ℓ openFrom (contents source)
     (rowsOf L n t))))
+
+-- its place is 0
+pub written-place : (ℓ : Limits) (openFrom : ℕ) (L : Layout) (contents : List ℕ → ContentMap) (source t : List ℕ)
+    (n lent : ℕ) → writeNumbers (written ℓ openFrom L contents source t n lent) .place ≤ ℓ .longest
+written-place ℓ openFrom L contents source t n lent = go (written ℓ openFrom L contents source t n lent)
+  where
+    go : (x : WriteResult) → writeNumbers x .place ≤ ℓ .longest
+    go (Wrote w) = omega arith
+    go (Refused y k) = omega arith

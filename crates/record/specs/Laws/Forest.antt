@@ -10,10 +10,11 @@ use lib.Seq.{take-at, drop-at}
 use Rattle.flow.specs.Flow.{Entry, items}
 use Rattle.flow.specs.Laws.{items-append}
 use Rattle.scalar.specs.Grammar.{Spelt, Text}
+use Rattle.scalar.specs.Scalars.{total}
 use Rattle.record.specs.Model.Items.{Leaf, UntypedList, TypedList, UntypedMap, TypedMap, Object, Reference, Item}
 use Rattle.record.specs.Model.Items.{Val}
 use Rattle.record.specs.Model.Items.{Definition, ClassName, FieldName, TypeName, TypeNumber}
-use Rattle.record.specs.Model.Rows.{holds, begins, total, spans, span}
+use Rattle.record.specs.Model.Rows.{holds, begins, spans, span}
 
 -- items that are k values, names or types one after the other, a value with the definitions before it
 pub data Forest : ℕ → List Item → Type 0 where

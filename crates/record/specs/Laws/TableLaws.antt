@@ -11,6 +11,7 @@ use Rattle.wire.specs.BigEndian.{joined, be, high}
 use Rattle.wire.specs.Laws.{be-length, joined-be}
 use Rattle.record.specs.Model.Rows.{Row, row}
 use Rattle.record.specs.Model.Answers.{Layout, asNumbers, asBytes, rowsOf}
+use Rattle.record.specs.Model.Calls.{Fits, Keeps}
 
 -- each row has the layout's width, and is its numbers again
 pub record Sound (L : Layout) (r : Row) : Type 0 where
@@ -44,17 +45,6 @@ rows-again L sized rs h t l = ap (rowsOf L (length rs)) (overlay-flat (L .width)
     ∙ rows-flat L rs h (drop (length rs * L .width) t)
 
 -- ---- the two layouts
--- the numbers of a row have 64 bits
-pub record Fits (r : Row) : Type 0 where
-  pub kind : r .kind < 2 ^ 64
-  pub place : r .place < 2 ^ 64
-  pub first : r .first < 2 ^ 64
-  pub second : r .second < 2 ^ 64
-  pub after : r .after < 2 ^ 64
-
-pub numbers-sound : (r : Row) → Sound asNumbers r
-numbers-sound r = record { sized = refl; back = refl }
-
 be-back : (n : ℕ) → n < 2 ^ 64 → joined 0 (be 8 n) ≡ n
 be-back n l = let e : high 8 n ≡ 0 = omega arith in ap (λ (u : ℕ). joined u (be 8 n)) (sym e) ∙ joined-be 8 n
 
@@ -100,7 +90,7 @@ row-parts r =
 pub bytes-sized : (r : Row) → length (asBytes .encode r) ≡ asBytes .width
 bytes-sized r = row-parts r .all
 
-pub bytes-sound : (r : Row) → Fits r → Sound asBytes r
+bytes-sound : (r : Row) → Fits r → Sound asBytes r
 bytes-sound r h =
     let p = row-parts r in
     let a = ap (joined 0) (p .one) ∙ be-back (r .kind) (h .kind) in
@@ -110,10 +100,13 @@ bytes-sound r h =
     let e = ap (joined 0) (p .five) ∙ be-back (r .after) (h .after) in
     record { sized = p .all; back = λ i. row (a i) (b i) (c i) (d i) (e i) }
 
-pub all-numbers : (rs : List Row) → All (Sound asNumbers) rs
-all-numbers [] = tt
-all-numbers (r ∷ rs) = (numbers-sound r, all-numbers rs)
+-- both keep rows of 64-bit numbers
+pub numbers-keep : Keeps asNumbers
+numbers-keep = record { sized = λ r. refl; again = λ r h. refl }
 
-pub all-bytes : (rs : List Row) → All Fits rs → All (Sound asBytes) rs
-all-bytes [] h = tt
-all-bytes (r ∷ rs) h = (bytes-sound r (h .0), all-bytes rs (h .1))
+pub bytes-keep : Keeps asBytes
+bytes-keep = record { sized = bytes-sized; again = λ r h. bytes-sound r h .back }
+
+pub all-kept : {L : Layout} → Keeps L → (rs : List Row) → All Fits rs → All (Sound L) rs
+all-kept k [] h = tt
+all-kept k (r ∷ rs) h = (record { sized = k .sized r; back = k .again r (h .0) }, all-kept k rs (h .1))

@@ -28,7 +28,8 @@ use Rattle.record.specs.Laws.Extent.{scalar-some, rows-few}
 use Rattle.record.specs.Laws.Places.{EntriesOpen, places}
 use Rattle.record.specs.Laws.Spans.{Nested, own-nested}
 use Rattle.record.specs.Model.Terms.{Accepts}
-use Rattle.record.specs.Laws.TableLaws.{Fits, All}
+use Rattle.record.specs.Laws.TableLaws.{All}
+use Rattle.record.specs.Model.Calls.{Fits}
 use Rattle.record.specs.Theorems.RowTheorems.{judged-done, own-reads}
 
 -- ---- what is known after N bytes: at most N numbers of each sort, and classes of fewer than 2 ^ 63 fields

@@ -66,8 +66,8 @@ pub data PlainForm (ℓ : Limits) (room : Bool) (G : Phrase Known Item) : Known 
 pub data DefinitionForm (ℓ : Limits) : Known → List ℕ → List Item → Known → Type 0 where
   a-definition : {c c₁ : Known} {u v w cs : List ℕ} {n : ℕ} {is : List Item} → length (c .classes) < ℓ .classes
       → Text u cs → Int v n → n < 2 ^ 63 → n ≤ ℓ .fields
-      → Many (NameForm FieldName) n c w is c₁ → DefinitionForm ℓ c (u ++ (v ++ w)) (Definition n ∷ ClassName cs ∷ is)
-      (defined n c₁)
+      → Many (NameForm FieldName) n c w is c₁
+      → DefinitionForm ℓ c (u ++ (v ++ w)) (Definition n ∷ ClassName cs ∷ is) (defined n c₁)
 
 -- the values where no container may open
 abbrev pub Nowhere : Phrase Known Item

@@ -4,7 +4,7 @@ use Prim.Native.Nat.{ℕ, suc, _+_, _*_}
 use lib.ListN.{length, take, drop}
 use Rattle.flow.specs.Flow.{Entry}
 use Rattle.scalar.specs.declared.Encoding.the-variants.{Utf8, Binary}
-use Rattle.scalar.specs.Scalars.{sortKind, units, Num, Str}
+use Rattle.scalar.specs.Scalars.{sortKind, total, units, Num, Str}
 use Rattle.record.specs.Model.Kinds.{text-kind, bytes-kind, list-kind, typed-list-kind, map-kind, typed-map-kind}
 use Rattle.record.specs.Model.Kinds.{object-kind, reference-kind, class-kind, class-name-kind, field-name-kind}
 use Rattle.record.specs.Model.Kinds.{type-name-kind, type-number-kind}
@@ -71,10 +71,6 @@ begins (ClassName cs) = 0
 begins (FieldName cs) = 0
 begins (TypeName cs) = 0
 begins (TypeNumber k) = 0
-
-abbrev pub total : List ℕ → ℕ
-total [] = 0
-total (n ∷ l) = n + total l
 
 -- the values, names and types that items are, one after the other, a value with the definitions before it: how many
 -- items each has

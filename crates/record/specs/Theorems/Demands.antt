@@ -1,102 +1,106 @@
--- The demands, in their words, for all limits and every threshold openFrom up to 48. Terms.antt has their terms; the
--- proofs are in Demanded.antt.
+-- The demands, in their words, of calls that read and write whole messages. Model/Calls.antt has the terms; the proofs
+-- are in Called.antt.
 use mathlib.Core.{Path._≡_, Logic.{_↔_, _⊎_}, List.List}
 use Prim.Native.Nat.{ℕ, _^_, _≤_, _<_}
-use lib.ListN.{length}
-use Rattle.flow.specs.RefusalNumbers.{wrong-length, no-room, no-record}
-use Rattle.flow.specs.Flow.{Bytes}
+use lib.ListN.{length, take, drop}
+use Rattle.flow.specs.RefusalNumbers.{wrong-length, cut, bytes-after, no-room, no-record}
+use Rattle.flow.specs.Flow.{Report}
 use Rattle.record.specs.Model.Items.{Item, Limits}
-use Rattle.record.specs.Model.Rows.{Row, rows}
 use Rattle.record.specs.Model.Grammar.{Message}
-use Rattle.record.specs.Laws.Numbering.{definitions}
-use Rattle.record.specs.Laws.TableLaws.{Sound, All}
-use Rattle.record.specs.Model.Terms.{write, Has, Accepts, Holds, TooLong, Shortest}
-use Rattle.record.specs.Model.Answers.{Accept, Refuse, read, Wrote, Refused, Layout, asNumbers, asBytes, lentRows}
-use Rattle.record.specs.Model.Answers.{rowsOf, readNumbers, readTable}
-use Rattle.record.specs.Theorems.Demanded as demanded
+use Rattle.record.specs.Model.Answers.{Layout, lentRows, rowsOf}
+use Rattle.record.specs.Model.Same.{SameRecord}
+use Rattle.record.specs.Model.Hops.{Skippable}
+use Rattle.record.specs.Model.Calls.{ReadCall, WriteCall, Keeps, Holding, RecordOf, ShortestOf}
 
-module _ (ℓ : Limits) where
-  module _ (m : List ℕ) (b : Bytes m) (r : List Item) where
-    -- ---- demand 2: a message is accepted exactly when the grammar reads it as one record within the limits
-    pub accepted-exactly : Accepts ℓ m r ↔ ((length m ≤ ℓ .longest) × Message ℓ m r)
-    accepted-exactly = demanded.accepted-exactly ℓ m b r
+abbrev answer : ℕ → ℕ → ℕ → Report
+answer number count place = record { number = number; count = count; place = place }
 
-    -- what is accepted has at least one item, and so one row; and the classes then known are its definitions in their
-    -- order: each got the next number
-    pub accepted-some : Accepts ℓ m r → 0 < length r
-    accepted-some = demanded.accepted-some ℓ m b r
+-- of a call that reads: message, table, report, table afterwards
+pub record OfRead (ℓ : Limits) (L : Layout) (m t : List ℕ) (a : Report) (t′ : List ℕ) : Type 0 where
+  -- demand 1: it accepts or gives one of the numbered refusals, and a refusal changes nothing
+  pub numbered : a .number ≤ no-room
+  pub unchanged : (a .number ≡ 0 → ⊥) → t′ ≡ t
+  -- demand 2: it accepts exactly when the grammar reads the message as one record within the limits and the lent rows
+  -- suffice
+  pub accepted : (a .number ≡ 0)
+      ↔ ((r : List Item) × Message ℓ m r × (length m ≤ ℓ .longest) × (length r ≤ lentRows L t))
+  -- and the table then holds that record
+  pub holds : a .number ≡ 0 → Holding ℓ L m t a t′
+  -- refusal 1 exactly when the message is empty or too long
+  pub refused-1 : (a .number ≡ wrong-length) ↔ ((length m ≡ 0) ⊎ (ℓ .longest < length m))
+  -- refusal 9 exactly when the message would be accepted, and has more rows than are lent; it counts them, and no other
+  -- refusal counts
+  pub refused-9 : (a .number ≡ no-room)
+      ↔ ((r : List Item) × Message ℓ m r × (length m ≤ ℓ .longest) × (lentRows L t < length r))
+  pub needed : a .number ≡ no-room → (r : List Item) → Message ℓ m r → a .count ≡ length r
+  pub counts-nothing : (a .number ≡ 0 → ⊥) → (a .number ≡ no-room → ⊥) → a .count ≡ 0
+  -- 1 and 9 have no place; 2 has the message's length for its place, 3 to 8 a place inside the message
+  pub no-place : (a .number ≡ wrong-length) ⊎ (a .number ≡ no-room) → a .place ≡ 0
+  pub refused-2 : a .number ≡ cut → a .place ≡ length m
+  pub refused-inside : cut < a .number → a .number ≤ bytes-after → a .place < length m
 
-    pub classes-in-order : (x : Accepts ℓ m r) → x .known .classes ≡ definitions r
-    classes-in-order = demanded.classes-in-order ℓ m b r
+-- of a call that writes: source, table, rows claimed, output, report, output afterwards
+pub record OfWrite (ℓ : Limits) (openFrom : ℕ) (L : Layout) (s t : List ℕ) (n : ℕ) (o : List ℕ) (a : Report)
+    (o′ : List ℕ) : Type 0 where
+  -- demand 1: it accepts or gives one of the numbered refusals, and a refusal changes nothing
+  pub numbered : (a .number ≡ 0) ⊎ ((a .number ≡ wrong-length) ⊎ ((a .number ≡ no-room) ⊎ (a .number ≡ no-record)))
+  pub unchanged : (a .number ≡ 0 → ⊥) → o′ ≡ o
+  pub no-place : a .place ≡ 0
+  -- demand 2: it refuses only where a numbered rule says so. 10 exactly when, length set aside, no message within the
+  -- other ceilings has the record
+  pub refused-10 : length s ≤ ℓ .longest
+      → (a ≡ answer no-record 0 0) ↔ ((m : List ℕ) → RecordOf ℓ L s t n m → ⊥)
+  -- 1 exactly when the source is too long, or some messages have the record and each of them is too long
+  pub refused-1 : (a ≡ answer wrong-length 0 0) ↔ ((ℓ .longest < length s)
+      ⊎ (((m : List ℕ) × RecordOf ℓ L s t n m) × ((m : List ℕ) → RecordOf ℓ L s t n m → ℓ .longest < length m)))
+  -- 9 exactly when the bytes lent are fewer than the shortest message takes; it counts them
+  pub refused-9 : (k : ℕ) → (a ≡ answer no-room k 0)
+      ↔ ((length s ≤ ℓ .longest) × (w : List ℕ) × ShortestOf ℓ L s t n w × (length w ≡ k) × (length o < k))
+  -- it accepts else
+  pub accepted : (a .number ≡ 0)
+      ↔ ((length s ≤ ℓ .longest) × (w : List ℕ) × ShortestOf ℓ L s t n w × (length w ≤ length o))
+  -- what is written has the record that it was written from, and none that has it is shorter; the output past it is
+  -- unchanged
+  pub written-back : a .number ≡ 0 → ShortestOf ℓ L s t n (take (a .count) o′)
+      × (length (take (a .count) o′) ≡ a .count) × (drop (a .count) o′ ≡ drop (a .count) o)
+  -- demand 3: any table refused with neither 1 nor 10 is accepted, given room, and the message written is shortest
+  pub demand-3 : (a .number ≡ wrong-length → ⊥) → (a .number ≡ no-record → ⊥)
+      → (w : List ℕ) × ShortestOf ℓ L s t n w
+      × ((o₂ : List ℕ) (a₂ : Report) (o₂′ : List ℕ) → WriteCall ℓ openFrom L s t n o₂ a₂ o₂′ → length w ≤ length o₂
+      → (a₂ .number ≡ 0) × (take (a₂ .count) o₂′ ≡ w))
 
-  module _ (lent : ℕ) (m : List ℕ) where
-    -- and the lent rows suffice: the answer then is the record's rows; too few are refusal 9, which counts the rows
-    -- needed
-    pub rows-suffice : (r : List Item) (x : Accepts ℓ m r) → length (x .entries) ≤ lent
-        → read ℓ lent m ≡ Accept (rows (x .entries)) (length m)
-    rows-suffice = demanded.rows-suffice ℓ lent m
+-- of both, demand 3 over demand 2's reading: a shortest message is accepted and reads as the same record, and no
+-- accepted message that does is shorter
+pub record OfShortest (ℓ : Limits) (L : Layout) (s t : List ℕ) (n : ℕ) (w : List ℕ) : Type 0 where
+  pub written-reads : (t₂ : List ℕ) (a₂ : Report) (t₂′ : List ℕ) → ReadCall ℓ L w t₂ a₂ t₂′ → n ≤ lentRows L t₂
+      → (a₂ .number ≡ 0) × SameRecord s w (rowsOf L n t) (rowsOf L (a₂ .count) t₂′)
+  pub no-shorter : (m tm : List ℕ) (am : Report) (tm′ : List ℕ) → ReadCall ℓ L m tm am tm′ → am .number ≡ 0
+      → SameRecord s m (rowsOf L n t) (rowsOf L (am .count) tm′) → length w ≤ length m
 
-    pub rows-too-few : (r : List Item) (x : Accepts ℓ m r) → lent < length (x .entries)
-        → read ℓ lent m ≡ Refuse no-room (length (x .entries)) 0
-    rows-too-few = demanded.rows-too-few ℓ lent m
+-- ---- the theorem
+-- of the limits ℓ, the threshold openFrom and tables in the layout L
+pub record Demanded (ℓ : Limits) (openFrom : ℕ) (L : Layout) : Type 0 where
+  pub reading : (m t : List ℕ) (a : Report) (t′ : List ℕ) → ReadCall ℓ L m t a t′ → OfRead ℓ L m t a t′
+  pub writing : (s t : List ℕ) (n : ℕ) (o : List ℕ) (a : Report) (o′ : List ℕ) → WriteCall ℓ openFrom L s t n o a o′
+      → OfWrite ℓ openFrom L s t n o a o′
+  pub shortening : (s t : List ℕ) (n : ℕ) (w : List ℕ) → ShortestOf ℓ L s t n w → OfShortest ℓ L s t n w
+  -- read then write: the rows read of a message are accepted, given as many bytes as it has, and take no more (the same
+  -- record: written-back, written-reads)
+  pub rewriting : (m t : List ℕ) (a : Report) (t′ : List ℕ) → ReadCall ℓ L m t a t′ → a .number ≡ 0
+      → (o : List ℕ) (c : Report) (o′ : List ℕ) → WriteCall ℓ openFrom L m t′ (a .count) o c o′ → length m ≤ length o
+      → (c .number ≡ 0) × (c .count ≤ length m)
+  -- true copies: two tables hold the same record exactly when the messages written are the same bytes
+  pub copying : (s₁ t₁ : List ℕ) (n₁ : ℕ) (o₁ : List ℕ) (a₁ : Report) (o₁′ : List ℕ)
+      → WriteCall ℓ openFrom L s₁ t₁ n₁ o₁ a₁ o₁′ → a₁ .number ≡ 0
+      → (s₂ t₂ : List ℕ) (n₂ : ℕ) (o₂ : List ℕ) (a₂ : Report) (o₂′ : List ℕ)
+      → WriteCall ℓ openFrom L s₂ t₂ n₂ o₂ a₂ o₂′ → a₂ .number ≡ 0
+      → SameRecord s₁ s₂ (rowsOf L n₁ t₁) (rowsOf L n₂ t₂) ↔ (take (a₁ .count) o₁′ ≡ take (a₂ .count) o₂′)
+  -- request 2026-07: whatever rows hold the record of a message, each of them skips what it opens
+  pub skipping : (s t : List ℕ) (n : ℕ) (m : List ℕ) (x : RecordOf ℓ L s t n m)
+      → Skippable (rowsOf L n t) (x .record-of)
 
-    -- ---- the reader's refusals: 1 to 9
-    pub read-numbered : Bytes m → readNumbers (read ℓ lent m) .number ≤ no-room
-    read-numbered = demanded.read-numbered ℓ lent m
-
-    -- refusal 1 exactly where the message is empty or too long
-    pub read-refused-1 : Bytes m → (readNumbers (read ℓ lent m) .number ≡ wrong-length) ↔ ((length m ≡ 0)
-        ⊎ (ℓ .longest < length m))
-    read-refused-1 = demanded.read-refused-1 ℓ lent m
-
-    -- refusal 9 only where the message is else accepted, and its rows are more than are lent
-    pub read-refused-9 : Bytes m → readNumbers (read ℓ lent m) .number ≡ no-room
-        → (r : List Item) × (x : Accepts ℓ m r) × (lent < length (x .entries))
-    read-refused-9 = demanded.read-refused-9 ℓ lent m
-
-    -- no other message is accepted; so the count reported of an accepted one is never 0
-    pub answer-holds : Bytes m → (rs : List Row) (n : ℕ) → read ℓ lent m ≡ Accept rs n → Holds ℓ lent m rs
-    answer-holds = demanded.answer-holds ℓ lent m
-
-    pub answer-some : Bytes m → (rs : List Row) (n : ℕ) → read ℓ lent m ≡ Accept rs n → 0 < length rs
-    answer-some = demanded.answer-some ℓ lent m
-
-  module _ (m t : List ℕ) (b : Bytes m) where
-    -- the table then holds that record, whatever the layout in which these rows can be stored
-    pub table-holds : (L : Layout) → ((r : Row) → length (L .encode r) ≡ L .width) → (rs : List Row) (n : ℕ)
-        → All (Sound L) rs
-        → read ℓ (lentRows L t) m ≡ Accept rs n → rowsOf L (length rs) (readTable ℓ L m t) ≡ rs
-    table-holds L sized = demanded.table-holds ℓ L sized m t b
-
-    -- so C's table holds the record of every accepted message of fewer than 2 ^ 63 bytes, and a table of numbers that
-    -- of every one
-    pub bytes-hold : length m < 2 ^ 63 → (rs : List Row) (n : ℕ) → read ℓ (lentRows asBytes t) m ≡ Accept rs n
-        → rowsOf asBytes (length rs) (readTable ℓ asBytes m t) ≡ rs
-    bytes-hold = demanded.bytes-hold ℓ m t b
-
-    pub numbers-hold : (rs : List Row) (n : ℕ) → read ℓ (lentRows asNumbers t) m ≡ Accept rs n
-        → rowsOf asNumbers (length rs) (readTable ℓ asNumbers m t) ≡ rs
-    numbers-hold = demanded.numbers-hold ℓ m t b
-
-  module _ (openFrom : ℕ) (most : openFrom ≤ 48) (source : List ℕ) (r : List Row) (lent : ℕ) where
-    -- ---- demand 2: what is written is accepted, and reads as the record that it was written from
-    pub written-back : (w : List ℕ) → write ℓ openFrom lent source r ≡ Wrote w
-        → (x : Has ℓ source r w) × Accepts ℓ w (x .record-of)
-    written-back = demanded.written-back ℓ openFrom most source r lent
-
-    -- ---- refusal 10 is given exactly when, length set aside, no message within the other ceilings has the record
-    pub refused-10 : length source ≤ ℓ .longest
-        → (write ℓ openFrom lent source r ≡ Refused no-record 0) ↔ ((m : List ℕ) → Has ℓ source r m → ⊥)
-    refused-10 = demanded.refused-10 ℓ openFrom most source r lent
-
-    -- refusal 1 exactly where the source is too long; or where some message has the record, and each of them is too
-    -- long
-    pub refused-1 : (write ℓ openFrom lent source r ≡ Refused wrong-length 0) ↔ ((ℓ .longest < length source)
-        ⊎ TooLong ℓ source r)
-    refused-1 = demanded.refused-1 ℓ openFrom most source r lent
-
-    -- ---- demand 3: where neither 1 nor 10 is given, the table is accepted, given room, and no message that has its
-    -- record is shorter than the one written
-    pub demand-3 : (write ℓ openFrom lent source r ≡ Refused wrong-length 0 → ⊥)
-        → (write ℓ openFrom lent source r ≡ Refused no-record 0 → ⊥) → Shortest ℓ openFrom source r
-    demand-3 = demanded.demand-3 ℓ openFrom most source r lent
+-- they hold for all limits under which a message has fewer than 2 ^ 63 bytes, every threshold up to 48, and every
+-- layout that keeps rows of 64-bit numbers
+abbrev pub Theorem : Type 0
+Theorem = (ℓ : Limits) → ℓ .longest < 2 ^ 63 → (openFrom : ℕ) → openFrom ≤ 48 → (L : Layout) → Keeps L
+    → Demanded ℓ openFrom L

@@ -1,4 +1,4 @@
--- The proofs of the demands: Demands.antt states them.
+-- The demands of what the definitions answer, for all limits and every threshold openFrom up to 48.
 use mathlib.Core.Path.{_≡_, refl, sym, _∙_, ap, subst}
 use mathlib.Core.Logic.{_↔_, _⊎_, inl, inr}
 use mathlib.Core.List.{List}
@@ -19,7 +19,9 @@ use Rattle.record.specs.Model.Answers.{ReadResult, Accept, Refuse, read,
 use Rattle.record.specs.Model.Answers.{asNumbers, asBytes, lentRows, rowsOf, readNumbers, readTable}
 use Rattle.record.specs.Model.Answers.{answered, filled}
 use Rattle.record.specs.Model.Terms.{write, Has, Accepts, Holds, TooLong, Shortest}
-use Rattle.record.specs.Laws.TableLaws.{Sound, All, rows-again, Fits, bytes-sized, all-numbers, all-bytes}
+use Rattle.record.specs.Model.Calls.{Fits, Keeps}
+use Rattle.record.specs.Laws.TableLaws.{Sound, All, rows-again, all-kept}
+use Rattle.record.specs.Laws.Refusals.{located-numbered}
 use Rattle.record.specs.Laws.Widths.{rows-fit}
 use Rattle.record.specs.ForReader.ReadMessages.{rows-length}
 use Rattle.record.specs.Theorems.RowTheorems.{rows-no-longer, rows-back, rows-none, judged-done}
@@ -60,14 +62,15 @@ module _ (ℓ : Limits) where
     -- ---- the reader's refusals: 1 to 9
     pub read-numbered : Bytes m → readNumbers (read ℓ lent m) .number ≤ 9
     read-numbered b = by-read ℓ lent m b (λ a. readNumbers a .number ≤ 9) (λ h. omega arith)
-        (λ x o h. omega (arith, h .1)) (λ r x h. omega arith) (λ r x h. omega arith)
+        (λ x o h. omega (arith, located-numbered h .1)) (λ r x h. omega arith) (λ r x h. omega arith)
 
     -- refusal 1 exactly where the message is empty or too long
     pub read-refused-1 : Bytes m → (readNumbers (read ℓ lent m) .number ≡ 1) ↔ ((length m ≡ 0)
         ⊎ (ℓ .longest < length m))
     read-refused-1 b = (
       by-read ℓ lent m b (λ a. readNumbers a .number ≡ 1 → (length m ≡ 0) ⊎ (ℓ .longest < length m)) (λ h e. h)
-          (λ x o h e. absurd (omega (arith, h .0))) (λ r x h e. absurd (omega arith)) (λ r x h e. absurd (omega arith)),
+          (λ x o h e. absurd (omega (arith, located-numbered h .0))) (λ r x h e. absurd (omega arith))
+          (λ r x h e. absurd (omega arith)),
       λ h. ap (λ (o : Outcome Known Item One). readNumbers (answered lent o) .number) (misfit-judged ℓ m h),
     )
 
@@ -76,7 +79,7 @@ module _ (ℓ : Limits) where
         × (lent < length (x .entries))
     read-refused-9 b = by-read ℓ lent m b (λ a. readNumbers a .number ≡ 9 → (r : List Item) × (x : Accepts ℓ m r)
         × (lent < length (x .entries)))
-        (λ h e. absurd (omega arith)) (λ x o h e. absurd (omega (arith, h .1))) (λ r x h e. (r, x, h))
+        (λ h e. absurd (omega arith)) (λ x o h e. absurd (omega (arith, located-numbered h .1))) (λ r x h e. (r, x, h))
         (λ r x h e. absurd (omega arith))
 
     -- no other message is accepted
@@ -113,19 +116,13 @@ module _ (ℓ : Limits) where
       ap (λ (z : ReadResult). rowsOf L (length rs) (filled L t z)) e ∙ rows-again L sized rs h t
       (le-trans (mul-le-mul-right (L .width) k) (div-mul-le-self (length t) (L .width)))
 
-  -- so C's table holds the record of every accepted message of fewer than 2 ^ 63 bytes, and a table of numbers that of
-  -- every one
-  pub bytes-hold : (m t : List ℕ) → Bytes m → length m < 2 ^ 63 → (rs : List Row) (n : ℕ)
-      → read ℓ (lentRows asBytes t) m ≡ Accept rs n
-      → rowsOf asBytes (length rs) (readTable ℓ asBytes m t) ≡ rs
-  bytes-hold m t b l rs n e =
-      let x = answer-holds (lentRows asBytes t) m b rs n e in
-      table-holds asBytes bytes-sized m t b rs n
-      (all-bytes rs (subst (All Fits) (sym (x .holds)) (rows-fit ℓ m b l (x .record-of) (x .accepts)))) e
-
-  pub numbers-hold : (m t : List ℕ) → Bytes m → (rs : List Row) (n : ℕ) → read ℓ (lentRows asNumbers t) m ≡ Accept rs n
-      → rowsOf asNumbers (length rs) (readTable ℓ asNumbers m t) ≡ rs
-  numbers-hold m t b rs n e = table-holds asNumbers (λ r. refl) m t b rs n (all-numbers rs) e
+  -- so it is in every layout that keeps rows of 64-bit numbers, where messages have fewer than 2 ^ 63 bytes
+  pub kept-holds : (L : Layout) → Keeps L → (m t : List ℕ) → Bytes m → length m < 2 ^ 63 → (rs : List Row) (n : ℕ)
+      → read ℓ (lentRows L t) m ≡ Accept rs n → rowsOf L (length rs) (readTable ℓ L m t) ≡ rs
+  kept-holds L k m t b l rs n e =
+      let x = answer-holds (lentRows L t) m b rs n e in
+      table-holds L (k .sized) m t b rs n
+      (all-kept k rs (subst (All Fits) (sym (x .holds)) (rows-fit ℓ m b l (x .record-of) (x .accepts)))) e
 
   module _ (openFrom : ℕ) (most : openFrom ≤ 48) (source : List ℕ) (r : List Row) where
     -- ---- demand 2: what is written is accepted, and reads as the record that it was written from
