@@ -80,9 +80,19 @@ static void put_long(struct maker *m, int64_t n)
 /* A number of up to `size` bits with its sign, more often a small one. */
 static int64_t random_number(unsigned size)
 {
-    int64_t n = (int64_t)(random_bits() >> (65 - size) >> chance(size - 1));
+    uint64_t bits = random_bits() >> (65 - size);
+    int64_t n = (int64_t)(bits >> chance(size - 1));
 
     return chance(2) ? n : -n - 1;
+}
+
+/* The bits of a subnormal float, an infinity or a NaN. */
+static uint32_t random_edge(void)
+{
+    uint32_t sign = (uint32_t)chance(2) << 31, exponent = (uint32_t)chance(2) * 0x7f800000u;
+    uint32_t fraction = (uint32_t)chance(1u << 23);
+
+    return sign | exponent | fraction >> chance(24);
 }
 
 static void put_double(struct maker *m)
@@ -103,9 +113,9 @@ static void put_double(struct maker *m)
         put(m, 0x5f);
         put_number(m, random_bits(), 4);
         break;
-    case 4: /* a subnormal float, an infinity or a NaN */
+    case 4:
         put(m, 0x5f);
-        put_number(m, (uint64_t)chance(2) << 31 | chance(2) * 0x7f800000u | chance(1u << 23) >> chance(24), 4);
+        put_number(m, random_edge(), 4);
         break;
     default:
         put(m, 0x44);

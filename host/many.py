@@ -1,7 +1,9 @@
-"""Many small records, of which some are copies: for check_copies and bench_copies."""
+"""Records in folders, of which some are copies: for check_copies and bench_copies."""
 import os
 
 import samples
+
+LARGE = 250_000  # bytes, about
 
 
 def spellings(n):
@@ -20,6 +22,21 @@ def make_many(folder, count):
         data = spellings(n - 1)[2] if n % 5 == 4 else spellings(n)[n % 2]
         with open(folder / f"{n // 1000:04}/record-of-a-drive-{n:07}", "wb") as f:
             f.write(data[:-1] if n % 1000 == 500 else data)
+
+
+def large(n):
+    """A record of some 250,000 bytes: a list of lines of a logbook, each a number and a text."""
+    line = b"".join(samples.int_(k * (n + 1) % 100_000) + samples.text(f"lane {k % 4}") for k in range(LARGE // 10))
+    return samples.open_list(samples.int_(n), line)
+
+
+def make_large(folder, count, distinct):
+    """Large records, each of the distinct ones equally often, in the same bytes."""
+    records = [large(n) for n in range(distinct)]
+    os.makedirs(folder, exist_ok=True)
+    for n in range(count):
+        with open(folder / f"sweep-{n:05}", "wb") as f:
+            f.write(records[n % distinct])
 
 
 def roomy_folder():

@@ -1,32 +1,31 @@
 #!/usr/bin/env python3
 """Makes the records of samples/: `samples.py FOLDER` writes them there, and removes nothing.
 
-Each is spelled out by hand here, byte by byte, so that their spellings can differ: what is the same record and what is not is
-said beside each.
+Each is spelled out by hand here, form by form, so that their spellings can differ: what is the same record and what is
+not is said beside each.
 """
 import struct
 import sys
 from pathlib import Path
 
+sys.dont_write_bytecode = True
+sys.path.append(str(Path(__file__).resolve().parent.parent / "crates/vectors"))
+from hessian_format import (  # noqa: E402
+    BYTES, TEXT, THREE, halves, int_form, joined, string_form, text_form, units_of, wide,
+)
+
 
 # ---- forms: short ones, and wide ones that say the same
 
-def int_(n):
-    if -16 <= n <= 47:
-        return bytes([0x90 + n])
-    if -2048 <= n <= 2047:
-        return struct.pack(">H", 0xC800 + n)
-    if -262144 <= n <= 262143:
-        return (0xD40000 + n).to_bytes(3, "big")
-    return wide_int(n)
+int_ = int_form
 
 
 def wide_int(n):
-    return b"\x49" + struct.pack(">i", n)
+    return wide(0x49, n, 4)
 
 
 def long_(n):
-    return b"\x4c" + struct.pack(">q", n)
+    return wide(0x4C, n, 8)
 
 
 def double(x):
@@ -34,50 +33,34 @@ def double(x):
 
 
 def date(milliseconds):
-    return b"\x4a" + struct.pack(">q", milliseconds)
+    return wide(0x4A, milliseconds, 8)
 
 
 def minutes(n):
-    return b"\x4b" + struct.pack(">i", n)
-
-
-def units(s):
-    return len(s.encode("utf-16-be")) // 2
+    return wide(0x4B, n, 4)
 
 
 def text(s):
-    n, body = units(s), s.encode()
-    if n < 32:
-        return bytes([n]) + body
-    if n < 1024:
-        return struct.pack(">H", 0x3000 + n) + body
-    return b"\x53" + struct.pack(">H", n) + body
+    return text_form(s.encode())
 
 
 def parted_text(*parts):
-    """A text in chunks."""
-    return b"".join(b"\x52" + struct.pack(">H", units(s)) + s.encode() for s in parts[:-1]) + \
-        b"\x53" + struct.pack(">H", units(parts[-1])) + parts[-1].encode()
+    """A text in chunks, each with a head of three bytes."""
+    return joined(TEXT, [s.encode() for s in parts], THREE)
 
 
 def halved(s):
     """A short text as Java libraries spell it, where each half of a pair has three bytes."""
-    sixteen = struct.unpack(f">{units(s)}H", s.encode("utf-16-be"))
-    return bytes([len(sixteen)]) + b"".join(chr(n).encode("utf-8", "surrogatepass") for n in sixteen)
+    return bytes([units_of(TEXT, s.encode())]) + halves(s)
 
 
 def binary(b):
-    if len(b) < 16:
-        return bytes([0x20 + len(b)]) + b
-    if len(b) < 1024:
-        return struct.pack(">H", 0x3400 + len(b)) + b
-    return b"\x42" + struct.pack(">H", len(b)) + b
+    return string_form(BYTES, b)
 
 
 def parted_binary(size, b):
     """A byte string in chunks of `size`."""
-    parts = [b[i:i + size] for i in range(0, len(b), size)]
-    return b"".join(b"\x41" + struct.pack(">H", len(p)) + p for p in parts[:-1]) + binary(parts[-1])
+    return joined(BYTES, [b[i:i + size] for i in range(0, len(b), size)])
 
 
 def class_(name, *fields, text=text):

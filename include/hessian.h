@@ -1,11 +1,12 @@
 /*
- * Hessian 2.0 records: read a message into a table of rows, and write a table as its shortest message. docs/FORMAT.md
- * has the format and every rule.
+ * Hessian 2.0 records: read a message into a table of rows, write a table as its shortest message, and copy out the
+ * texts and byte strings that rows name. docs/FORMAT.md has the format and every rule.
  *
- * Every function may be handed any bytes. It ends, touches nothing beyond what it was lent, and answers one number,
- * which HESSIAN_NUMBER, HESSIAN_COUNT and HESSIAN_PLACE take apart. A refusal changes nothing that was lent. The
- * functions keep no state, use no heap, and may be called from several threads at once. A pointer may not be null, even
- * where its length is 0; what is read and what is written may not overlap.
+ * Every function may be handed any bytes. It ends, touches nothing beyond what it was lent, and answers a number, a
+ * count and a place. A refusal changes nothing that was lent. The functions keep no state, use no heap, and may be
+ * called from several threads at once. Pointers need no alignment; one may be null where its length is 0. What is read
+ * and what is written may not overlap. A call takes less than 32 KiB of stack, as measured with 32 open containers. The
+ * library is compiled for x86-64.
  */
 #ifndef HESSIAN_H
 #define HESSIAN_H
@@ -17,7 +18,9 @@
 extern "C" {
 #endif
 
-/* The longest message, in bytes, and so the most rows of one. */
+#define HESSIAN_VERSION "1.1"
+
+/* The longest message, in bytes. A message has no more rows than bytes, so a table of so many rows is always enough. */
 #define HESSIAN_LONGEST 262144u
 
 /* The bytes of a row in a table: kind, place, first, second and after, eight bytes each, the highest first. */
@@ -103,10 +106,91 @@ uint64_t hessian_read(const uint8_t *message, size_t message_len, uint8_t *table
 uint64_t hessian_write(const uint8_t *source, size_t source_len, const uint8_t *table, size_t table_len, uint64_t rows,
                        uint8_t *output, size_t output_len);
 
-/* The parts of an answer. */
+/* The parts of an answer of hessian_read and hessian_write. */
 #define HESSIAN_NUMBER(answer) ((unsigned)((uint64_t)(answer) >> 48))
 #define HESSIAN_COUNT(answer) ((size_t)((uint64_t)(answer) >> 24 & 0xffffffu))
 #define HESSIAN_PLACE(answer) ((size_t)((uint64_t)(answer) & 0xffffffu))
+
+/* An answer of the other functions. */
+typedef struct {
+    uint64_t number; /* enum hessian_refusal */
+    uint64_t count;
+    uint64_t place;
+} hessian_answer;
+
+/*
+ * Copies out the content of the text or byte string that a row of this kind and place names, its chunks joined: the
+ * bytes of a byte string (HESSIAN_BYTES), the characters of a text or name (HESSIAN_TEXT and the names) in UTF-8. A
+ * row's place is that of the head before its first character, so content is not to be looked for there by hand.
+ * Accepted: the count is the bytes copied, the place 0; bytes of the output past them stay as they were. HESSIAN_ROOM:
+ * the count is the bytes needed, which a row has as its second number (HESSIAN_BYTES: its first). HESSIAN_NO_RECORD:
+ * the place opens no complete text or byte string of this kind, or the kind is that of another row. The source may have
+ * any length.
+ */
+hessian_answer hessian_content(const uint8_t *source, size_t source_len, uint64_t kind, uint64_t place, uint8_t *output,
+                               size_t output_len);
+
+/* ---- rows, and refusals in words */
+
+typedef struct {
+    uint64_t kind; /* enum hessian_kind */
+    uint64_t place;
+    uint64_t first;
+    uint64_t second;
+    uint64_t after;
+} hessian_row;
+
+/* The eight bytes at p as a number. */
+static inline uint64_t hessian_number_at(const uint8_t *p)
+{
+    return (uint64_t)p[0] << 56 | (uint64_t)p[1] << 48 | (uint64_t)p[2] << 40 | (uint64_t)p[3] << 32 |
+           (uint64_t)p[4] << 24 | (uint64_t)p[5] << 16 | (uint64_t)p[6] << 8 | (uint64_t)p[7];
+}
+
+/* Row `index` of a table, which must have so many rows. */
+static inline hessian_row hessian_row_at(const uint8_t *table, size_t index)
+{
+    const uint8_t *p = table + index * HESSIAN_ROW_SIZE;
+    hessian_row row;
+
+    row.kind = hessian_number_at(p);
+    row.place = hessian_number_at(p + 8);
+    row.first = hessian_number_at(p + 16);
+    row.second = hessian_number_at(p + 24);
+    row.after = hessian_number_at(p + 32);
+    return row;
+}
+
+/* Why an answer's number refuses. */
+static inline const char *hessian_refusal_text(uint64_t number)
+{
+    switch (number) {
+    case HESSIAN_ACCEPTED:
+        return "accepted";
+    case HESSIAN_LENGTH:
+        return "the message is empty or too long";
+    case HESSIAN_CUT:
+        return "the message is cut off";
+    case HESSIAN_BYTE:
+        return "this byte cannot stand here";
+    case HESSIAN_UTF8:
+        return "a character is not UTF-8, is half a pair, or does not fit its chunk";
+    case HESSIAN_NEGATIVE:
+        return "a count is negative";
+    case HESSIAN_UNGIVEN:
+        return "no such class, type or reference has been given";
+    case HESSIAN_CEILING:
+        return "more than 32 containers are open, or more than 256 classes, types or fields";
+    case HESSIAN_AFTER:
+        return "bytes follow the record";
+    case HESSIAN_ROOM:
+        return "too little room was lent";
+    case HESSIAN_NO_RECORD:
+        return "the rows are no record";
+    default:
+        return "no known refusal";
+    }
+}
 
 #ifdef __cplusplus
 }

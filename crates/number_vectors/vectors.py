@@ -1,105 +1,48 @@
 #!/usr/bin/env python3
-"""Writes the cases of number_vectors, stdin, and what it is to print, stdout: `python3 vectors.py` rewrites both.
+"""Writes the cases of number_vectors, stdin, and what it is to print, stdout: `python3 vectors.py` rewrites both, and
+with `--to FOLDER` writes them there.
 
-Nothing here goes the way of the code. A form is decoded by Python's own conversions. The forms of up to three bytes are all
-decoded once, and the shortest form of a value is the shortest of all that decode to it. The shapes of stdin's and stdout's
-lines are described in src/main.rt.
+What a form stands for says ../vectors/hessian_format.py. The shortest form of a value is sought here among all forms
+that stand for it, those of up to three bytes decoded one by one, and held to the one that is said there. The shapes of
+stdin's and stdout's lines are described in src/main.rt.
 """
 import datetime
 import math
 import os
 import struct
+import sys
 
-NULL, FALSE, TRUE, INT, LONG, DOUBLE, DATE = range(7)
+sys.dont_write_bytecode = True
+sys.path.insert(0, os.path.join(os.path.dirname(os.path.abspath(__file__)), "../vectors"))
+from hessian_cases import arguments, write_files  # noqa: E402
+from hessian_format import (  # noqa: E402
+    BYTE, COMPACT, CUT, DATE, DOUBLE, FALSE, FIRST_BYTES, INT, LONG, NULL, NUMBER_FORMS, NUMBERS, TRUE, WORD, bits,
+    from_word, number_form, widened,
+)
+
 READ, WRITE, CHART, READ_AT = range(4)
-BITS = 2**64
-
-# ---- the first bytes: kind, first, last, bytes that follow
-CHART_ROWS = [
-    (7, 0x00, 0x1F, 0), (7, 0x30, 0x33, 1), (7, 0x53, 0x53, 2), (7, 0x52, 0x52, 2),
-    (8, 0x20, 0x2F, 0), (8, 0x34, 0x37, 1), (8, 0x42, 0x42, 2), (8, 0x41, 0x41, 2),
-    (INT, 0x80, 0xBF, 0), (INT, 0xC0, 0xCF, 1), (INT, 0xD0, 0xD7, 2), (INT, 0x49, 0x49, 4),
-    (LONG, 0xD8, 0xEF, 0), (LONG, 0xF0, 0xFF, 1), (LONG, 0x38, 0x3F, 2), (LONG, 0x59, 0x59, 4), (LONG, 0x4C, 0x4C, 8),
-    (DATE, 0x4A, 0x4A, 8), (DATE, 0x4B, 0x4B, 4),
-    (DOUBLE, 0x5B, 0x5B, 0), (DOUBLE, 0x5C, 0x5C, 0), (DOUBLE, 0x5D, 0x5D, 1), (DOUBLE, 0x5E, 0x5E, 2),
-    (DOUBLE, 0x5F, 0x5F, 4), (DOUBLE, 0x44, 0x44, 8),
-    (NULL, 0x4E, 0x4E, 0), (FALSE, 0x46, 0x46, 0), (TRUE, 0x54, 0x54, 0),
-    (10, 0x70, 0x77, 0), (10, 0x56, 0x56, 0), (10, 0x55, 0x55, 0),
-    (9, 0x78, 0x7F, 0), (9, 0x58, 0x58, 0), (9, 0x57, 0x57, 0),
-    (12, 0x4D, 0x4D, 0), (11, 0x48, 0x48, 0), (15, 0x43, 0x43, 0),
-    (13, 0x60, 0x6F, 0), (13, 0x4F, 0x4F, 0), (14, 0x51, 0x51, 0),
-    (20, 0x5A, 0x5A, 0),
-    (21, 0x40, 0x40, 0), (21, 0x45, 0x45, 0), (21, 0x47, 0x47, 0), (21, 0x50, 0x50, 0),
-]
-KIND = {}
-for kind, first, last, follow in CHART_ROWS:
-    for code in range(first, last + 1):
-        assert code not in KIND
-        KIND[code] = (kind, follow)
-assert len(KIND) == 256
-
-# ---- what a form stands for
-# compact ints and longs: the code whose own part is 0
-ZERO = {(INT, 0): 0x90, (INT, 1): 0xC8, (INT, 2): 0xD4, (LONG, 0): 0xE0, (LONG, 1): 0xF8, (LONG, 2): 0x3C}
-
-
-def signed(rest):
-    return int.from_bytes(rest, "big", signed=True)
-
-
-def bits(x):
-    """The 64 bits of a Python float, which is no NaN."""
-    return int.from_bytes(struct.pack(">d", x), "big")
-
-
-def float_bits(rest):
-    """The 64 bits of the double that four bytes of a 32-bit float are. A NaN goes by its bits."""
-    u = int.from_bytes(rest, "big")
-    if u & 0x7F800000 == 0x7F800000 and u & 0x7FFFFF:
-        return (u >> 31) << 63 | 0x7FF << 52 | (u & 0x7FFFFF) << 29
-    return bits(struct.unpack(">f", rest)[0])
-
-
-def worth(sort, code, rest):
-    """The value, as 64 bits, of a form: its first byte and the bytes that follow."""
-    if sort in (NULL, FALSE, TRUE):
-        return 0
-    if sort in (INT, LONG):
-        if (sort, len(rest)) in ZERO:
-            value = (code - ZERO[sort, len(rest)]) * 256 ** len(rest) + int.from_bytes(rest, "big")
-        else:
-            value = signed(rest)
-        return value % BITS
-    if sort == DATE:
-        return signed(rest) * (60000 if code == 0x4B else 1) % BITS
-    if code == 0x44:
-        return int.from_bytes(rest, "big")
-    if code == 0x5F:
-        return float_bits(rest)
-    return bits({0x5B: 0.0, 0x5C: 1.0}[code] if code in (0x5B, 0x5C) else float(signed(rest)))
 
 
 def read(sort, message, at):
     """('value', value, size), or ('refused', number, place)."""
     if at >= len(message):
-        return "refused", 2, len(message)
-    kind, follow = KIND[message[at]]
+        return "refused", CUT, len(message)
+    kind, follow, worth = NUMBERS.get(message[at], (None, 0, None))
     if kind != sort:
-        return "refused", 3, at
+        return "refused", BYTE, at
     if at + 1 + follow > len(message):
-        return "refused", 2, len(message)
-    return "value", worth(sort, message[at], message[at + 1 : at + 1 + follow]), 1 + follow
+        return "refused", CUT, len(message)
+    return "value", worth(message[at], message[at + 1 : at + 1 + follow]) % WORD, 1 + follow
 
 
 # ---- the shortest form
 # of each sort, the shortest of all forms of up to three bytes
-SHORT = {sort: {} for sort in range(7)}
-for kind, first, last, follow in sorted(CHART_ROWS, key=lambda row: row[3]):
-    if kind <= DATE and follow <= 2:
-        for code in range(first, last + 1):
-            for n in range(256**follow):
-                rest = n.to_bytes(follow, "big")
-                SHORT[kind].setdefault(worth(kind, code, rest), bytes([code]) + rest)
+SHORT = {sort: {} for sort in range(DATE + 1)}
+for kind, first, last, follow, worth in sorted(NUMBER_FORMS, key=lambda form: form[3]):
+    for code in range(first, last + 1) if follow <= 2 else ():
+        for n in range(256**follow):
+            rest = n.to_bytes(follow, "big")
+            SHORT[kind].setdefault(worth(code, rest) % WORD, bytes([code]) + rest)
 
 
 def nearest_float(value):
@@ -115,7 +58,6 @@ def nearest_float(value):
 
 def longer(sort, value):
     """Forms of five and nine bytes that may hold the value, the shorter first."""
-    number = signed(value.to_bytes(8, "big"))
     whole = value.to_bytes(8, "big")
     low = whole[4:]
     if sort == INT:
@@ -125,7 +67,7 @@ def longer(sort, value):
     if sort == DOUBLE:
         return [b"\x5f" + nearest_float(value), b"\x44" + whole]
     if sort == DATE:
-        return [b"\x4b" + (number // 60000 % 2**32).to_bytes(4, "big"), b"\x4a" + whole]
+        return [b"\x4b" + (from_word(value) // 60000 % 2**32).to_bytes(4, "big"), b"\x4a" + whole]
     return []
 
 
@@ -134,7 +76,9 @@ def shortest(sort, value):
     forms = [SHORT[sort][value]] if value in SHORT[sort] else []
     forms += longer(sort, value)
     forms = [f for f in forms if read(sort, f, 0) == ("value", value, len(f))]
-    return min(forms, key=len) if forms else None
+    form = min(forms, key=len, default=b"")
+    assert form == number_form(sort, value), (sort, value)
+    return form or None
 
 
 # ---- cases
@@ -155,7 +99,7 @@ def read_at(sort, message, at):
 
 
 def write_case(sort, value):
-    add(WRITE, sort, 0, (value % BITS).to_bytes(8, "big"))
+    add(WRITE, sort, 0, (value % WORD).to_bytes(8, "big"))
 
 
 def both(sort, message):
@@ -169,7 +113,7 @@ def both(sort, message):
 def example(sort, text, value):
     """A printed form and the value that it is said to be."""
     message = bytes.fromhex(text)
-    assert read(sort, message, 0) == ("value", value % BITS, len(message)), text
+    assert read(sort, message, 0) == ("value", value % WORD, len(message)), text
     both(sort, message)
 
 
@@ -180,7 +124,7 @@ def rewritten(sort, text, form):
 
 
 def spelled(sort, value, form):
-    assert shortest(sort, value % BITS) == bytes.fromhex(form), value
+    assert shortest(sort, value % WORD) == bytes.fromhex(form), value
     write_case(sort, value)
 
 
@@ -257,7 +201,8 @@ for u in (0, 1, 0xFFFFFFFF, 0x7FFFFFFF, 0x80000000, 0x80000001, 0x00FFFFFF, 0x01
 for u in (0, 1, 59999, 60000, 60001, 2**63 - 1, 2**63, 2**64 - 1, 2**64 - 60000):
     both(DATE, b"\x4a" + u.to_bytes(8, "big"))
 
-for sort, first, last, follow in CHART_ROWS:
+ZERO = {(sort, follow): zero for sort, forms in COMPACT.items() for _, _, zero, follow in forms}
+for sort, first, last, follow, _ in NUMBER_FORMS:
     if sort in (INT, LONG):
         zero = ZERO.get((sort, follow), first)
         for code in sorted({first, max(first, zero - 1), zero, last}):
@@ -293,7 +238,7 @@ for u in floats:
     for sign in (0, 0x80000000):
         rest = (u + sign).to_bytes(4, "big")
         both(DOUBLE, b"\x5f" + rest)
-    value = float_bits(u.to_bytes(4, "big"))
+    value = widened(u.to_bytes(4, "big"))
     write_case(DOUBLE, value + 1)
     write_case(DOUBLE, value + 2**28)
     if value:
@@ -304,7 +249,7 @@ for power in (
 ):
     write_case(DOUBLE, bits(2.0**power if power % 2 else -(2.0**power)))
 # what would round to the next float, or past the last
-last = float_bits(bytes.fromhex("7f7fffff"))
+last = widened(bytes.fromhex("7f7fffff"))
 for value in (last, last + 1, last + 2**28 - 1, last + 2**28, last + 2**29 - 1, last + 2**29):
     write_case(DOUBLE, value)
     write_case(DOUBLE, value + 2**63)
@@ -330,7 +275,7 @@ for value in (0, 1, 2**63, bits(1.0), bits(-1.0), bits(0.1), 0x7FF0000000000001,
 for code in range(256):
     for sort in (INT, LONG, DOUBLE, DATE):
         read_case(sort, bytes([code, 0x9C, 0x45, 0x80, 0x01, 0xFE, 0x00, 0x33, 0xA7, 0x10]))
-    kind, follow = KIND[code]
+    kind, follow = FIRST_BYTES[code]
     if kind in (INT, LONG, DOUBLE, DATE):
         for size in range(1, follow + 1):
             read_case(kind, bytes([code, 0x81, 0x02, 0x83, 0x04, 0x85, 0x06, 0x87, 0x08])[:size])
@@ -360,7 +305,7 @@ def shown(case):
     if sort > DATE or operation > READ_AT or operation in (READ, READ_AT) and n > 10:
         return "bad"
     if operation == CHART:
-        kind, follow = KIND[data[0]]
+        kind, follow = FIRST_BYTES[data[0]]
         return str(10 * kind + follow)
     if operation == WRITE:
         form = shortest(sort, int.from_bytes(data[:8], "big"))
@@ -378,9 +323,4 @@ bad = [good.replace("9", c) for c in "/:@AG`g"] + [good[:-1] + " "]
 bad += ["07" + good[2:], "0f" + good[2:], "43" + good[2:], "f3" + good[2:], "030b" + good[4:], "33ff" + good[4:]]
 lines[5:5] = [(line, "bad") for line in bad]
 
-here = os.path.dirname(os.path.abspath(__file__))
-with open(os.path.join(here, "stdin"), "w") as f:
-    f.write("".join(line + "\n" for line, _ in lines))
-with open(os.path.join(here, "stdout"), "w") as f:
-    f.write("".join(answer + "\n" for _, answer in lines))
-print(len(lines), "cases")
+write_files(arguments(__file__).to, lines)

@@ -1,5 +1,6 @@
 #!/usr/bin/env python3
-"""Writes the cases of record_vectors, stdin, and what it is to print, stdout: `python3 vectors.py` rewrites both.
+"""Writes the cases of record_vectors, stdin, and what it is to print, stdout: `python3 vectors.py` rewrites both, and
+with `--to FOLDER` writes them there.
 
 A case is a line: how many numbers are lent, in decimal, and the message in groups, one space before each. A group is
 bytes, two hexadecimal digits each; `*` and a number after them say how often they stand there.
@@ -9,358 +10,38 @@ the call; and `ok`, where the numbers past the accepted rows, or after a refusal
 the call number i of the table is 0xb1a0000000000000 + i. The checksum starts at 7, and the high and then the low 32
 bits of each number of the table, h, take it from s to s * 1000003 + h, modulo 2^31 - 1.
 
-The reader below is written from 01, 2026-04, 2026-07 and docs/DECISIONS.md, and shares nothing with the code that is
-tested. UTF-8 and UTF-16 are Python's own. Most cases are given with their answers, and each random message is made
-together with its rows. A row has four numbers here; `ends` gives the fifth ones.
+The reader is that of ../vectors/hessian_format.py. Most cases are given with their answers, and each random message is
+made together with its rows. A row has four numbers here; `ends` gives the fifth ones.
 """
-import functools
-import math
 import os
-import re
-import struct
+import sys
 
-MOST_BYTES = 262144
-MOST_OPEN = 32
-MOST = 256
+sys.dont_write_bytecode = True
+sys.path.insert(0, os.path.join(os.path.dirname(os.path.abspath(__file__)), "../vectors"))
+from hessian_cases import (  # noqa: E402
+    BEETLE, BROKEN, CARS, CODES, COLORS, EDGES, LINKED, LONE, NO_FIELDS, ONE_FIELD, PAIRS, SMILE, TOUR, TYPES, Chance,
+    Maker, arguments, checksum, chunked, class_of, data_of, each, groups, raw, some, text_of, write_files,
+)
+from hessian_format import (  # noqa: E402
+    BYTES, COLLECTIONS, LONGEST, MOST_OPEN, OBJECTS, TEXT, WORD, bits, bytes_heads, ends, halves, int_form, int_forms,
+    judged, long_forms, text_heads,
+)
+
 LENT = 8000
 ROW = 5
-WORD = 2**64
-
-
-class Refused(Exception):
-    """A refusal: its number and its place."""
-
-    def __init__(self, number, place):
-        super().__init__(number, place)
-        self.number, self.place = number, place
-
-
-# ---- first bytes
-def signed(data):
-    return int.from_bytes(data, "big", signed=True)
-
-
-def bits(x):
-    return int.from_bytes(struct.pack(">d", x), "big")
-
-
-def widened(data):
-    """The bits of the double that a 32-bit float stands for."""
-    whole = int.from_bytes(data, "big")
-    sign, exponent, fraction = whole >> 31, whole >> 23 & 0xFF, whole & 0x7FFFFF
-    if exponent == 0xFF:
-        return sign << 63 | 0x7FF << 52 | fraction << 29
-    size = math.ldexp(fraction + (2**23 if exponent else 0), max(exponent, 1) - 150)
-    return bits(-size if sign else size)
-
-
-# of a single number: the row's kind, how many bytes follow, and its worth by code and following bytes
-NUMBERS = {}
-
-
-def numbers(kind, first, last, more, worth):
-    for code in range(first, last + 1):
-        NUMBERS[code] = kind, more, worth
-
-
-numbers(0, 0x4E, 0x4E, 0, lambda code, b: 0)
-numbers(1, 0x46, 0x46, 0, lambda code, b: 0)
-numbers(2, 0x54, 0x54, 0, lambda code, b: 0)
-numbers(3, 0x80, 0xBF, 0, lambda code, b: code - 0x90)
-numbers(3, 0xC0, 0xCF, 1, lambda code, b: (code - 0xC8) * 256 + b[0])
-numbers(3, 0xD0, 0xD7, 2, lambda code, b: (code - 0xD4) * 65536 + 256 * b[0] + b[1])
-numbers(3, 0x49, 0x49, 4, lambda code, b: signed(b))
-numbers(4, 0xD8, 0xEF, 0, lambda code, b: code - 0xE0)
-numbers(4, 0xF0, 0xFF, 1, lambda code, b: (code - 0xF8) * 256 + b[0])
-numbers(4, 0x38, 0x3F, 2, lambda code, b: (code - 0x3C) * 65536 + 256 * b[0] + b[1])
-numbers(4, 0x59, 0x59, 4, lambda code, b: signed(b))
-numbers(4, 0x4C, 0x4C, 8, lambda code, b: signed(b))
-numbers(5, 0x5B, 0x5B, 0, lambda code, b: bits(0.0))
-numbers(5, 0x5C, 0x5C, 0, lambda code, b: bits(1.0))
-numbers(5, 0x5D, 0x5D, 1, lambda code, b: bits(float(signed(b))))
-numbers(5, 0x5E, 0x5E, 2, lambda code, b: bits(float(signed(b))))
-numbers(5, 0x5F, 0x5F, 4, lambda code, b: widened(b))
-numbers(5, 0x44, 0x44, 8, lambda code, b: int.from_bytes(b, "big"))
-numbers(6, 0x4A, 0x4A, 8, lambda code, b: signed(b))
-numbers(6, 0x4B, 0x4B, 4, lambda code, b: 60000 * signed(b))
-INTS = {code: form for code, form in NUMBERS.items() if form[0] == 3}
-
-
-def heads(*forms):
-    """Of the head of a chunk: the first code of its form, how many bytes follow, whether the chunk is the last."""
-    return {code: (first, more, last) for first, end, more, last in forms for code in range(first, end + 1)}
-
-
-TEXT = heads((0x00, 0x1F, 0, True), (0x30, 0x33, 1, True), (0x53, 0x53, 2, True), (0x52, 0x52, 2, False))
-BYTES = heads((0x20, 0x2F, 0, True), (0x34, 0x37, 1, True), (0x42, 0x42, 2, True), (0x41, 0x41, 2, False))
-
-# of a list or map: the row's kind, whether a type follows, how many values are in an element, and how many elements
-COUNT, OPEN = "a count follows", "up to 5a"
-COLLECTIONS = {0x57: (9, False, 1, OPEN), 0x58: (9, False, 1, COUNT), 0x48: (11, False, 2, OPEN)}
-COLLECTIONS.update({0x55: (10, True, 1, OPEN), 0x56: (10, True, 1, COUNT), 0x4D: (12, True, 2, OPEN)})
-COLLECTIONS.update({0x70 + n: (10, True, 1, n) for n in range(8)})
-COLLECTIONS.update({0x78 + n: (9, False, 1, n) for n in range(8)})
-OBJECTS = {0x4F, *range(0x60, 0x70)}
-
-# ---- UTF-8
-def units_of(text):
-    return len(text.encode("utf-16-le")) // 2
-
-
-def halves(text):
-    """The text with each character beyond the 16-bit range as a pair of halves in six bytes, as 2026-04 has it."""
-    units = text.encode("utf-16-be")
-    numbers = (int.from_bytes(units[i : i + 2], "big") for i in range(0, len(units), 2))
-    return b"".join(chr(n).encode("utf-8", "surrogatepass") for n in numbers)
-
-
-# what some character begins with and is longer than: 64 characters at a time differ in the last byte only
-CHARACTERS = [chr(c) for c in range(0x80, 0x110000, 64) if not 0xD800 <= c <= 0xDFFF]
-SPELLED = [c.encode() for c in CHARACTERS] + [halves(c) for c in CHARACTERS]
-BEGINNINGS = {c[:n] for c in SPELLED for n in range(1, len(c))}
-PLAIN = re.compile(rb"[\x00-\x7f]*")
-
-
-# ---- reading
-class Message:
-    """A message, how far it is read, and what it has given so far."""
-
-    def __init__(self, data):
-        self.data, self.at = data, 0
-        self.references, self.types, self.fields = 0, 0, []
-
-    def take(self, n):
-        if n > len(self.data) - self.at:
-            raise Refused(2, len(self.data))
-        self.at += n
-        return self.data[self.at - n : self.at]
-
-    def next(self):
-        """The next byte, which is not taken."""
-        if self.at == len(self.data):
-            raise Refused(2, self.at)
-        return self.data[self.at]
-
-    def due(self, chart):
-        """The next byte and its entry in this chart."""
-        if self.next() not in chart:
-            raise Refused(3, self.at)
-        code = self.take(1)[0]
-        return code, chart[code]
-
-
-def number(m, chart):
-    """The row of a number."""
-    place = m.at
-    code, (kind, more, worth) = m.due(chart)
-    return kind, place, worth(code, m.take(more)), 0
-
-
-def integer(m):
-    return number(m, INTS)[2]
-
-
-def two_units(piece):
-    """Whether these bytes begin a character of two units: the first byte tells, or of a pair of halves the second."""
-    return 0xF0 <= piece[0] <= 0xF4 or piece[0] == 0xED and piece[1:2] >= b"\xa0"
-
-
-def characters(m, units):
-    """Takes characters of so many units; their bytes in UTF-8."""
-    size = 0
-    while units:
-        plain = len(m.take(PLAIN.match(m.data, m.at, m.at + units).end() - m.at))
-        units, size = units - plain, size + plain
-        if not units:
-            break
-        place, piece = m.at, m.take(1)
-        while piece in BEGINNINGS and not (two_units(piece) and units == 1):
-            piece += m.take(1)
-        try:
-            # a half is a character of its own, until UTF-16 joins it to the other one
-            sixteen = piece.decode("utf-8", "surrogatepass").encode("utf-16-be", "surrogatepass")
-            character = sixteen.decode("utf-16-be")
-        except UnicodeDecodeError:
-            raise Refused(4, place) from None
-        units, size = units - units_of(character), size + len(character.encode())
-    return size
-
-
-def octets(m, n):
-    """Takes so many bytes."""
-    return len(m.take(n))
-
-
-def string(m, chart, content):
-    """The units of the chunks' heads, and the bytes of their contents."""
-    units = size = 0
-    last = False
-    while not last:
-        code, (first, more, last) = m.due(chart)
-        n = int.from_bytes(bytes([code - first]) + m.take(more), "big")
-        units, size = units + n, size + content(m, n)
-    return units, size
-
-
-def text(m, kind):
-    """The row of a text."""
-    place = m.at
-    return (kind, place, *string(m, TEXT, characters))
-
-
-def count(m):
-    """A count, and the place of its first byte."""
-    place = m.at
-    n = integer(m)
-    if n < 0:
-        raise Refused(5, place)
-    return n, place
-
-
-def type_of(m):
-    """The row of a type, and its number."""
-    place = m.at
-    if m.next() in TEXT:
-        if m.types == MOST:
-            raise Refused(7, place)
-        m.types += 1
-        return text(m, 18), m.types - 1
-    n = integer(m)
-    if not 0 <= n < m.types:
-        raise Refused(6, place)
-    return (19, place, n, 0), n
-
-
-def definition(m):
-    """The rows of a class definition."""
-    place = m.at
-    if len(m.fields) == MOST:
-        raise Refused(7, place)
-    m.take(1)
-    name = text(m, 16)
-    n, where = count(m)
-    if n > MOST:
-        raise Refused(7, where)
-    names = [text(m, 17) for _ in range(n)]
-    m.fields.append(n)
-    return [(15, place, n, 0), name, *names]
-
-
-def values(m, n, allowance):
-    return [row for _ in range(n) for row in value(m, allowance)]
-
-
-def container(m, allowance):
-    """The rows of a list, map or object; so many may open."""
-    place, code = m.at, m.next()
-    if not allowance:
-        raise Refused(7, place)
-    m.take(1)
-    m.references += 1
-    if code in OBJECTS:
-        which = integer(m) if code == 0x4F else code - 0x60
-        if not 0 <= which < len(m.fields):
-            raise Refused(6, place)
-        n = m.fields[which]
-        return [(13, place, which, n), *values(m, n, allowance - 1)]
-    kind, typed, width, n = COLLECTIONS[code]
-    rows, second = [], 0
-    if typed:
-        row, second = type_of(m)
-        rows.append(row)
-    if n == OPEN:
-        n = 0
-        while m.next() != 0x5A:
-            rows += values(m, width, allowance - 1)
-            n += 1
-        m.take(1)
-    else:
-        if n == COUNT:
-            n, _ = count(m)
-        rows += values(m, n * width, allowance - 1)
-    return [(kind, place, n, second), *rows]
-
-
-def value(m, allowance):
-    """The rows of a value, with the definitions before it."""
-    rows = []
-    while m.next() == 0x43:
-        rows += definition(m)
-    place, code = m.at, m.next()
-    if code in NUMBERS:
-        return rows + [number(m, NUMBERS)]
-    if code in TEXT:
-        return rows + [text(m, 7)]
-    if code in BYTES:
-        return rows + [(8, place, string(m, BYTES, octets)[0], 0)]
-    if code == 0x51:
-        m.take(1)
-        n = integer(m)
-        if not 0 <= n < m.references:
-            raise Refused(6, place)
-        return rows + [(14, place, n, 0)]
-    if code in COLLECTIONS or code in OBJECTS:
-        return rows + container(m, allowance)
-    raise Refused(3, place)
-
-
-@functools.lru_cache(maxsize=16)
-def judged(data):
-    """The rows of a message; or a refusal's number and place."""
-    if not 1 <= len(data) <= MOST_BYTES:
-        return 1, 0
-    m = Message(data)
-    try:
-        rows = value(m, MOST_OPEN)
-        if m.at < len(data):
-            raise Refused(8, m.at)
-        return rows
-    except Refused as r:
-        return r.number, r.place
-
 
 # ---- lines
 PATTERN = [0xB1A0000000000000 + i for i in range(LENT)]
 
 
-def summed(s, t):
-    """The checksum s with the number t added."""
-    for half in (t >> 32, t % 2**32):
-        s = (s * 1000003 + half) % (2**31 - 1)
-    return s
+def summed(table, s=7):
+    """The checksum s with the numbers of a table added."""
+    return checksum((half for t in table for half in (t >> 32, t % 2**32)), s)
 
 
-def checksum(table):
-    return functools.reduce(summed, table, 7)
-
-
-UNTOUCHED = [checksum([])]
+UNTOUCHED = [summed([])]
 for t in PATTERN:
-    UNTOUCHED.append(summed(UNTOUCHED[-1], t))
-
-
-def ends(rows):
-    """The fifth numbers by kinds and counts: the row after what each row opens. Of what is no record, some numbers."""
-    found = [k + 1 for k in range(len(rows))]
-
-    def value(k):
-        """The row after the value that begins at k, with the definitions before it."""
-        while k < len(rows) and rows[k][0] == 15:
-            found[k] = k + 2 + rows[k][2]
-            k = found[k]
-        if k >= len(rows):
-            return len(rows)
-        kind, _, first, second = rows[k]
-        end = k + 1 + (kind in (10, 12))
-        for _ in range({9: first, 10: first, 11: 2 * first, 12: 2 * first, 13: second}.get(kind, 0)):
-            if end >= len(rows):
-                break
-            end = value(end)
-        found[k] = end
-        return end
-
-    value(0)
-    return found
+    UNTOUCHED.append(summed([t], UNTOUCHED[-1]))
 
 
 def answer(read, size, lent):
@@ -370,28 +51,7 @@ def answer(read, size, lent):
     if lent // ROW < len(read):
         return f"9 {len(read)} 0 {UNTOUCHED[lent]} ok"
     table = [n % WORD for row, end in zip(read, ends(read)) for n in (*row, end)]
-    return f"0 {len(read)} {size} {checksum(table + PATTERN[len(table) : lent])} ok"
-
-
-@functools.lru_cache(maxsize=16)
-def groups(data):
-    """The message in groups. Bytes are repeated where that is shorter."""
-    words, plain, at = [], b"", 0
-    while at < len(data):
-        best = 4, 0, 0
-        for width in range(1, 17):
-            unit, end = data[at : at + width], at + width
-            while data.startswith(unit, end):
-                end += width
-            times = (end - at) // width
-            best = max(best, (2 * width * (times - 1) - len(f"* {times}"), width, end - at))
-        _, width, size = best
-        if width:
-            words += ([plain.hex()] if plain else []) + [f"{data[at : at + width].hex()}*{size // width}"]
-            plain, at = b"", at + size
-        else:
-            plain, at = plain + data[at : at + 1], at + 1
-    return words + ([plain.hex()] if plain else [])
+    return f"0 {len(read)} {size} {summed(table + PATTERN[len(table) : lent])} ok"
 
 
 CASES = {}
@@ -408,27 +68,6 @@ def case(data, lent=None):
     return read
 
 
-# what stands for a class definition without fields, and with one
-CLASSES = {"D": b"\x43\x00\x90", "F": b"\x43\x00\x91\x00"}
-NO_FIELDS, ONE_FIELD = CLASSES.values()
-
-
-def raw(spelled):
-    """Bytes, spelled in hexadecimal digits, quoted plain characters, D and F."""
-    parts = re.findall(r"'([^']*)'|([0-9a-f]{2})|([DF])|(\S)", spelled)
-    assert not any(stray for *_, stray in parts), spelled
-    return b"".join(CLASSES.get(name) or bytes.fromhex(digits) or quoted.encode() for quoted, digits, name, _ in parts)
-
-
-def each(spelled):
-    """Messages with a bar between."""
-    return [raw(message) for message in spelled.split("|")]
-
-
-def data_of(message):
-    return raw(message) if isinstance(message, str) else message
-
-
 def accepted(message, *rows):
     """A message that none of the refusals 1 to 8 is given; with these rows, where they are named."""
     read = case(data_of(message))
@@ -439,54 +78,6 @@ def refused(message, number, place):
     read = case(data_of(message))
     assert read == (number, place), (message, read)
 
-
-# ---- spelling
-def forms(n, compact, code, size):
-    """All forms of a number: the compact ones that hold it, and the wide one."""
-    found = [(zero * 256**more + n).to_bytes(1 + more, "big") for zero, lo, hi, more in compact if lo <= n <= hi]
-    return found + [bytes([code]) + n.to_bytes(size, "big", signed=True)]
-
-
-def int_forms(n):
-    return forms(n, [(0x90, -16, 47, 0), (0xC8, -2048, 2047, 1), (0xD4, -262144, 262143, 2)], 0x49, 4)
-
-
-def long_forms(n):
-    found = forms(n, [(0xE0, -8, 15, 0), (0xF8, -2048, 2047, 1), (0x3C, -262144, 262143, 2)], 0x4C, 8)
-    return found + ([b"\x59" + n.to_bytes(4, "big", signed=True)] if -(2**31) <= n < 2**31 else [])
-
-
-def int_of(n):
-    """An int in its shortest form."""
-    return int_forms(n)[0]
-
-
-def head_forms(n, tiny, few, brief, wide):
-    """All heads of a last chunk."""
-    found = [bytes([tiny + n])] if n < few else []
-    found += [bytes([brief + n // 256, n % 256])] if n < 1024 else []
-    return found + [bytes([wide, n // 256, n % 256])]
-
-
-def text_heads(n):
-    return head_forms(n, 0x00, 32, 0x30, 0x53)
-
-
-def bytes_heads(n):
-    return head_forms(n, 0x20, 16, 0x34, 0x42)
-
-
-def text_of(content):
-    """A text in its shortest form, of one chunk."""
-    return text_heads(units_of(content))[0] + content.encode()
-
-
-def class_of(fields):
-    """A class definition with so many fields; no name has a character."""
-    return b"\x43\x00" + int_of(fields) + b"\x00" * fields
-
-
-SMILE = "\U0001f600"
 
 # ---- examples of 01
 CAR = (15, 0, 1, 0), (16, 1, 3, 3), (17, 6, 5, 5), (13, 12, 0, 1), (7, 13, 3, 3)
@@ -600,10 +191,6 @@ FIRST = (10, 1, 2, 0), (18, 2, 4, 4), (3, 7, 0, 0), (3, 8, 1, 0)
 SECOND = (10, 9, 3, 0), (19, 10, 0, 0), (3, 11, 2, 0), (3, 12, 3, 0), (3, 13, 4, 0)
 accepted("72 04 '[int' 90 91", *((kind, place - 1, *rest) for kind, place, *rest in FIRST))
 accepted("7a 72 04 '[int' 90 91 73 90 92 93 94", (9, 0, 2, 0), *FIRST, *SECOND)
-BEETLE = "4d 13 'com.caucho.test.Car' 05 'color' 0a 'aquamarine' 05 'model' 06 'Beetle' 07 'mileage' 49 00010000 5a"
-CARS = "7a 43 0b 'example.Car' 92 05 'color' 05 'model' 4f 90 03 'red' 08 'corvette' 60 05 'green' 05 'civic'"
-COLORS = "7c 43 0d 'example.Color' 91 04 'name' 60 03 'RED' 60 05 'GREEN' 60 04 'BLUE' 51 92"
-LINKED = "43 0a 'LinkedList' 92 04 'head' 04 'tail' 4f 90 91 51 90"
 for message in ("48 91 03 'fee' a0 03 'fie' c900 03 'foe' 5a", BEETLE, CARS, COLORS, LINKED):
     accepted(message)
 for message in each("00 | 05 'hello' | 01 c383 | 53 0005 'hello' | 52 0007 'hello, ' 05 'world'"):
@@ -687,17 +274,11 @@ for n in (0, 1, 15, 16, 31, 32, 255, 256, 1023, 1024):
     accepted(raw("52 0001 'x'") + text_of("\u00e9" * n), (7, 0, n + 1, 2 * n + 1))
     accepted(text_of(SMILE * (n // 2) + "y" * (n % 2)), (7, 0, n, 4 * (n // 2) + n % 2))
     accepted(text_heads(n)[0] + halves(SMILE * (n // 2) + "y" * (n % 2)), (7, 0, n, 4 * (n // 2) + n % 2))
-EDGES = [0x00, 0x7F, 0x80, 0x7FF, 0x800, 0xFFF, 0x1000, 0xCFFF, 0xD000, 0xD7FF, 0xE000, 0xFFFF]
-EDGES += [0x10000, 0x3FFFF, 0x40000, 0xFFFFF, 0x100000, 0x10FFFF]
 for c in EDGES:
     accepted(text_of(chr(c)))
     accepted(b"\x7a" + text_of("a" + chr(c) + "z") + b"\x90")
     for size in range(1, len(chr(c).encode())):
         refused(b"\x79\x02" + chr(c).encode()[:size], 2, 2 + size)
-BROKEN = "80 | bf | c0 80 | c1 bf | c2 00 | c2 c0 | df 7f | e0 9f bf | e1 80 00 | e1 7f 80"
-BROKEN += "| ef bf c0 | f0 8f bf bf | f0 90 00 80 | f0 90 80 00 | f1 7f 80 80 | f4 90 80 80 | f4 8f bf c0 | f5 80 80 80"
-# halves that are no pair: a high one, a low one, two high ones, the wrong order, a fault inside the second
-BROKEN += "| ed a0 80 41 | ed bf bf | ed a0 80 ed a0 80 | ed b0 80 ed a0 80 | ed a0 80 ed b0 41"
 for broken in each(BROKEN + "| fe | ff"):
     refused(b"\x02" + broken, 4, 1)
     refused(b"\x7a\x90\x04a" + broken + b"b", 4, 4)
@@ -713,15 +294,6 @@ NAMED = (15, 0, 1, 0), (16, 1, 2, 4), (17, 9, 2, 4), (13, 16, 0, 1), (7, 17, 2, 
 accepted("43 02 eda0bdedb880 91 02 edafbfedbfbf 60 02 eda080edb080", *NAMED)
 accepted("71 02 eda0bdedb880 90", (10, 0, 1, 0), (18, 1, 2, 4), (3, 8, 0, 0))
 accepted("4d 02 eda0bdedb880 90 91 5a", (12, 0, 1, 0), (18, 1, 2, 4), (3, 8, 0, 0), (3, 9, 1, 0))
-# with one unit left, and with the end before the low half is complete
-LONE = {"01 ed": (2, 2), "01 eda0": (4, 1), "01 eda080": (4, 1), "01 eda080edb080": (4, 1), "01 edb0": (4, 1)}
-LONE.update({"02 ed": (2, 2), "02 eda0": (2, 3), "02 eda080": (2, 4), "02 eda080ed": (2, 5), "02 eda080edb0": (2, 6)})
-# another byte follows; a low half; not in the same chunk
-LONE.update({"02 eda041": (4, 1), "02 eda08041": (4, 1), "02 eda08080": (4, 1), "02 eda080ff": (4, 1)})
-LONE.update({"02 eda080ed9f": (4, 1), "02 eda080eda0": (4, 1), "02 eda080edb041": (4, 1), "02 eda080f09f9880": (4, 1)})
-LONE.update({"01 edb080": (4, 1), "02 edb080eda080": (4, 1), "02 edb080edb080": (4, 1), "02 eda080eda080": (4, 1)})
-LONE.update({"03 eda080edb080edb080": (4, 7), "03 eda080edb080eda0": (4, 7), "02 'a' eda080edb080": (4, 2)})
-LONE.update({"52 0001 eda080 01 edb080": (4, 3), "52 0002 'a' eda080 01 edb080": (4, 4), "52 0001 eda0": (4, 3)})
 for message, fault in LONE.items():
     refused(message, *fault)
     for before in each("7a 90 | 43 | 43 00 91 | 70"):
@@ -736,20 +308,9 @@ accepted(raw("52 fffe") + halves(SMILE) * 32767 + raw("02 eda0bdedb880"), (7, 0,
 refused(raw("52 ffff") + halves(SMILE) * 32767 + raw("eda0bdedb880 00"), 4, 3 + 6 * 32767)
 
 # ---- lists, maps and objects: each form, with few and many elements, types spelled out and by number
-SOME = each("90 | 4e | 01 'a' | e1 | 54 | 21 00 | 5c | 78")
-
-
-def some(n):
-    return b"".join(SOME[i % len(SOME)] for i in range(n))
-
-
-# what stands before a list or map, and its type: with BEFORE the types 0 and 1 are given, and one more element is due
-BEFORE = raw("7b 70 00 4d 02 'ab' 5a")
-TYPES = [(b"", form) for form in each("04 '[int' | 52 0001 '[' 30 03 'int'")]
-TYPES += [(BEFORE, form) for form in each("00 | 91 | d40000")]
 for n in (0, 1, 7, 8, 47, 48):
     accepted(b"\x57" + some(n) + b"\x5a")
-    accepted(b"\x58" + int_of(n) + some(n))
+    accepted(b"\x58" + int_form(n) + some(n))
     accepted(b"\x48" + some(2 * n) + b"\x5a")
     for form in int_forms(n):
         accepted(b"\x58" + form + b"\x90" * n)
@@ -757,7 +318,7 @@ for n in (0, 1, 7, 8, 47, 48):
         accepted(b"\x43\x01a" + form + b"\x00" * n + b"\x60" + some(n))
     for before, form in TYPES:
         accepted(before + b"\x55" + form + some(n) + b"\x5a")
-        accepted(before + b"\x56" + form + int_of(n) + some(n))
+        accepted(before + b"\x56" + form + int_form(n) + some(n))
         accepted(before + b"\x4d" + form + some(2 * n) + b"\x5a")
         if n <= 7:
             accepted(before + bytes([0x70 + n]) + form + some(n))
@@ -766,9 +327,9 @@ for n in (0, 1, 7, 8, 47, 48):
     # one element more or less
     refused(b"\x57" + b"\x90" * n + b"\x5a\x90", 8, n + 2)
     refused(b"\x57" + b"\x90" * n, 2, n + 1)
-    refused(b"\x58" + int_of(n) + b"\x90" * n + b"\x5a", 8, 1 + len(int_of(n)) + n)
-    refused(b"\x58" + int_of(n + 1) + b"\x90" * n, 2, 1 + len(int_of(n + 1)) + n)
-    refused(b"\x58" + int_of(n + 1) + b"\x90" * n + b"\x5a", 3, 1 + len(int_of(n + 1)) + n)
+    refused(b"\x58" + int_form(n) + b"\x90" * n + b"\x5a", 8, 1 + len(int_form(n)) + n)
+    refused(b"\x58" + int_form(n + 1) + b"\x90" * n, 2, 1 + len(int_form(n + 1)) + n)
+    refused(b"\x58" + int_form(n + 1) + b"\x90" * n + b"\x5a", 3, 1 + len(int_form(n + 1)) + n)
     refused(b"\x48" + b"\x90" * (2 * n + 1) + b"\x5a", 3, 2 * n + 2)
     refused(class_of(n) + b"\x60" + b"\x90" * (n + 1), 8, len(class_of(n)) + 1 + n)
     refused(class_of(n + 1) + b"\x60" + b"\x90" * n, 2, len(class_of(n + 1)) + 1 + n)
@@ -815,7 +376,7 @@ GIVEN += "| 55 00 51 90 5a | 48 51 90 51 90 5a | 4d 00 51 90 4e 5a | F 60 51 90 
 for message in each(GIVEN):
     accepted(message)
 EIGHT = raw("78 48 5a 55 00 5a D 60 4d 00 5a 70 00 56 00 90 58 90")
-accepted(b"\x57" + EIGHT + b"".join(b"\x51" + int_of(n) for n in range(9)) + b"\x5a")
+accepted(b"\x57" + EIGHT + b"".join(b"\x51" + int_form(n) for n in range(9)) + b"\x5a")
 refused(b"\x57" + EIGHT + b"\x51\x99\x5a", 6, 1 + len(EIGHT))
 for form in each("91 | 8f | 80 | c7ff | c801 | d3ffff | d40001 | 49 00000001 | 49 7fffffff | 49 80000000"):
     refused(b"\x79\x51" + form, 6, 1)
@@ -849,10 +410,6 @@ refused(raw("58 49 7fffffff") + b"\x90" * 1000, 2, 1006)
 refused(raw("56 00 49 7fffffff") + b"\x90" * 100, 2, 107)
 
 # ---- cut at each byte
-TOUR = """57 4e 46 54 91 c930 d50000 49 00040000 e1 f900 3d0000 59 00040000 4c 0001020304050607
-    4a 0001020304050607 4b 00010203 5b 5c 5d 7f 5e 0100 5f 41440000 44 4028800000000000 01 'a' 30 02 c3a9 e282ac
-    52 0002 f09f9880 53 0001 'b' 02 eda0bdedb880 21 ff 34 01 fe 41 0001 fd 42 0001 fc 58 91 90 79 91
-    55 01 't' 92 5a 56 90 91 93 71 90 94 48 95 96 5a 4d 90 97 98 5a 43 01 'C' 91 01 'f' 60 99 4f 90 9a 51 90 5a"""
 for message in map(raw, (TOUR, BEETLE, COLORS, LINKED, "52 0007 'hello, ' 05 'world'")):
     accepted(message)
     for size in range(1, len(message)):
@@ -940,38 +497,28 @@ accepted(class_of(255) * 3 + b"\x62" + b"\x4e" * 255)
 
 
 # ---- 262,144 bytes
-def chunked(size, part, last):
-    """A text or bytes that take so many bytes, with chunks as long as may be."""
-    found = b""
-    while size - len(found) > 65538:
-        found += bytes([part]) + b"\xff\xff" + b"a" * 65535
-    rest = size - len(found) - 3
-    return found + bytes([last]) + rest.to_bytes(2, "big") + b"a" * rest
-
-
-accepted(chunked(MOST_BYTES, 0x52, 0x53), (7, 0, MOST_BYTES - 12, MOST_BYTES - 12))
-accepted(chunked(MOST_BYTES, 0x41, 0x42), (8, 0, MOST_BYTES - 12, 0))
-PAIRS = raw("52 fffe") + halves(SMILE) * 32767 + raw("53 5558 'abcd'") + halves(SMILE) * 10922
-assert len(PAIRS) == MOST_BYTES
+accepted(chunked(LONGEST, TEXT), (7, 0, LONGEST - 12, LONGEST - 12))
+accepted(chunked(LONGEST, BYTES), (8, 0, LONGEST - 12, 0))
+assert len(PAIRS) == LONGEST
 accepted(PAIRS, (7, 0, 65534 + 0x5558, 4 + 4 * (32767 + 10922)))
-accepted(b"\x57" + (b"\x53\x80\x00" + b"a" * 32768) * 7 + chunked(MOST_BYTES - 2 - 7 * 32771, 0x52, 0x53) + b"\x5a")
-accepted(b"\x57" + b"\x90" * (MOST_BYTES - 2) + b"\x5a")
-accepted(b"\x57" + b"\x78" * (MOST_BYTES - 8) + b"\x51" + int_forms(MOST_BYTES - 8)[-1] + b"\x5a")
-refused(b"\x57" + b"\x78" * (MOST_BYTES - 8) + b"\x51" + int_forms(MOST_BYTES - 7)[-1] + b"\x5a", 6, MOST_BYTES - 7)
-refused(chunked(MOST_BYTES, 0x52, 0x52), 2, MOST_BYTES)
-refused(chunked(MOST_BYTES - 1, 0x52, 0x53) + b"\x00", 8, MOST_BYTES - 1)
-refused(chunked(MOST_BYTES + 1, 0x52, 0x53)[:-1], 2, MOST_BYTES)
-refused(chunked(MOST_BYTES, 0x52, 0x53)[:-1] + b"\x80", 4, MOST_BYTES - 1)
-refused(b"\x57" + b"\x90" * (MOST_BYTES - 1), 2, MOST_BYTES)
-refused(b"\x57" + b"\x90" * (MOST_BYTES - 2) + b"\x40", 3, MOST_BYTES - 1)
-refused(b"\x90" * MOST_BYTES, 8, 1)
-refused(b"\x40" * MOST_BYTES, 3, 0)
-refused(chunked(MOST_BYTES + 1, 0x52, 0x53), 1, 0)
-refused(chunked(MOST_BYTES + 1, 0x41, 0x42), 1, 0)
-refused(b"\x57" + b"\x90" * (MOST_BYTES - 1) + b"\x5a", 1, 0)
+accepted(b"\x57" + (b"\x53\x80\x00" + b"a" * 32768) * 7 + chunked(LONGEST - 2 - 7 * 32771, TEXT) + b"\x5a")
+accepted(b"\x57" + b"\x90" * (LONGEST - 2) + b"\x5a")
+accepted(b"\x57" + b"\x78" * (LONGEST - 8) + b"\x51" + int_forms(LONGEST - 8)[-1] + b"\x5a")
+refused(b"\x57" + b"\x78" * (LONGEST - 8) + b"\x51" + int_forms(LONGEST - 7)[-1] + b"\x5a", 6, LONGEST - 7)
+refused(chunked(LONGEST, TEXT).replace(b"\x53", b"\x52"), 2, LONGEST)
+refused(chunked(LONGEST - 1, TEXT) + b"\x00", 8, LONGEST - 1)
+refused(chunked(LONGEST + 1, TEXT)[:-1], 2, LONGEST)
+refused(chunked(LONGEST, TEXT)[:-1] + b"\x80", 4, LONGEST - 1)
+refused(b"\x57" + b"\x90" * (LONGEST - 1), 2, LONGEST)
+refused(b"\x57" + b"\x90" * (LONGEST - 2) + b"\x40", 3, LONGEST - 1)
+refused(b"\x90" * LONGEST, 8, 1)
+refused(b"\x40" * LONGEST, 3, 0)
+refused(chunked(LONGEST + 1, TEXT), 1, 0)
+refused(chunked(LONGEST + 1, BYTES), 1, 0)
+refused(b"\x57" + b"\x90" * (LONGEST - 1) + b"\x5a", 1, 0)
 for code in (0x90, 0x40, 0x5A, 0x57, 0x79):
-    refused(bytes([code]) * (MOST_BYTES + 1), 1, 0)
-refused(chunked(270000, 0x41, 0x42), 1, 0)
+    refused(bytes([code]) * (LONGEST + 1), 1, 0)
+refused(chunked(270000, BYTES), 1, 0)
 
 # ---- how many numbers are lent
 assert answer(judged(raw("57 90 91 5a")), 4, 15).startswith("0 3 4 ")
@@ -990,11 +537,11 @@ assert LENT == 1600 * ROW
 for n in (1597, 1598, 1599, 1600, 1601):
     for lent in (LENT, LENT - 1, LENT - 4, LENT - 5, 0):
         case(b"\x57" + b"\x90" * n + b"\x5a", lent)
-        case(b"\x58" + int_of(n) + b"\x4e" * n, lent)
+        case(b"\x58" + int_form(n) + b"\x4e" * n, lent)
 for lent in (0, 4, 5, 6, LENT):
-    case(chunked(MOST_BYTES, 0x52, 0x53), lent)
-    case(b"\x57" + b"\x90" * (MOST_BYTES - 2) + b"\x5a", lent)
-    case(b"\x57" + b"\x90" * (MOST_BYTES - 1) + b"\x5a", lent)
+    case(chunked(LONGEST, TEXT), lent)
+    case(b"\x57" + b"\x90" * (LONGEST - 2) + b"\x5a", lent)
+    case(b"\x57" + b"\x90" * (LONGEST - 1) + b"\x5a", lent)
 
 # ---- each first byte
 for code in range(256):
@@ -1002,178 +549,17 @@ for code in range(256):
         case(bytes([code]) + b"\x00" * zeros)
 
 # ---- where a value, a type, a count, a number, a name or a chunk is due: each kind of code
-CODES = [0x00, 0x1F, 0x20, 0x2F, 0x33, 0x37, 0x38, *range(0x40, 0x61), 0x6F, 0x70, 0x77, 0x78, 0x7F]
-CODES += [0x80, 0x8F, 0x90, 0xBF, 0xC7, 0xC8, 0xD0, 0xD7, 0xD8, 0xEF, 0xF0, 0xFF]
 DUE = "D | 57 | 79 | 48 | 48 90 | F 60 | 55 | 56 | 70 | 4d | 58 | 56 00 | 43 | 43 00 | 43 00 91 | D 4f | 79 51"
 for before in each(DUE + "| 52 0001 'a' | 41 0001 ff"):
     for code in CODES:
         case(before + bytes([code]) + b"\x00" * 9)
 
 # ---- random messages
-seed = 1
-
-
-def chance(n):
-    """A number below n."""
-    global seed
-    seed = (seed * 6364136223846793005 + 1442695040888963407) % WORD
-    return (seed >> 33) % n
-
-
-def choice(things):
-    return things[chance(len(things))]
-
-
-def some_number(size):
-    """A number that fits so many bits with its sign; a small one more often."""
-    n = chance(2**31) << 33 | chance(2**31) << 2 | chance(4)
-    return (n >> chance(64) & 2 ** (size - 1) - 1) * choice((1, -1))
-
-
-class Maker:
-    """A random message in random spellings, the rows that it is to be read as, and their fifth numbers."""
-
-    def __init__(self, values):
-        self.data, self.rows, self.ends, self.values = b"", [], [], values
-        self.references, self.types, self.fields = 0, 0, []
-
-    def row(self, *numbers):
-        """A row; what it opens ends with it, unless `end` says that it ends later."""
-        self.rows.append([*numbers])
-        self.ends.append(len(self.rows))
-        return self.rows[-1]
-
-    def end(self, start):
-        """Here ends what the row `start` opens."""
-        self.ends[start] = len(self.rows)
-
-    def int(self, n):
-        self.data += choice(int_forms(n))
-
-    def chunks(self, part, heads):
-        """A random text or byte string: its units and its bytes."""
-        units = size = 0
-        more = True
-        while more:
-            if part == 0x52:
-                piece = "".join(choice((chr(0x61 + chance(26)), chr(choice(EDGES)))) for _ in range(chance(6)))
-                n, content, spelled = units_of(piece), piece.encode(), choice((str.encode, halves))(piece)
-            else:
-                content = spelled = bytes(chance(256) for _ in range(chance(6)))
-                n = len(content)
-            more = chance(4) == 0
-            self.data += (bytes([part, 0, n]) if more else choice(heads(n))) + spelled
-            units, size = units + n, size + len(content)
-        return units, size
-
-    def text(self, kind):
-        place = len(self.data)
-        self.row(kind, place, *self.chunks(0x52, text_heads))
-
-    def type(self):
-        """A type, and its number."""
-        if self.types and chance(2):
-            n = chance(self.types)
-            self.row(19, len(self.data), n, 0)
-            self.int(n)
-            return n
-        self.text(18)
-        self.types += 1
-        return self.types - 1
-
-    def definition(self):
-        n, start = choice((0, 1, 1, 2, 2, 3)), len(self.rows)
-        self.row(15, len(self.data), n, 0)
-        self.data += b"\x43"
-        self.text(16)
-        self.int(n)
-        for _ in range(n):
-            self.text(17)
-        self.end(start)
-        self.fields.append(n)
-
-    def number(self):
-        place, kind = len(self.data), chance(10)
-        if kind < 3:
-            n = 0
-            self.data += b"\x4e\x46\x54"[kind : kind + 1]
-        elif kind < 6:
-            kind, n = 3, some_number(32)
-            self.data += choice(int_forms(n))
-        elif kind < 8:
-            kind, n = 4, some_number(64)
-            self.data += choice(long_forms(n))
-        elif kind == 8:
-            kind, n = 6, some_number(32)
-            self.data += b"\x4b" + n.to_bytes(4, "big", signed=True)
-            n *= 60000
-        else:
-            kind, n = 5, some_number(16)
-            x = bits(float(n))
-            spelled = [b"\x44" + x.to_bytes(8, "big"), b"\x5e" + n.to_bytes(2, "big", signed=True)]
-            spelled += [b"\x5f" + struct.pack(">f", n)]
-            spelled += [b"\x5d" + n.to_bytes(1, "big", signed=True)] if -128 <= n < 128 else []
-            self.data += choice(spelled)
-            n = x
-        self.row(kind, place, n, 0)
-
-    def container(self, allowance):
-        place, start, n = len(self.data), len(self.rows), choice((chance(3), chance(9)))
-        row = self.row(0, place, 0, 0)
-        self.references += 1
-        form = choice([0x57, 0x58, 0x78, 0x55, 0x56, 0x70, 0x48, 0x4D] + [0x60, 0x60] * bool(self.fields))
-        n = min(n, 7) if form in (0x78, 0x70) else n
-        if form == 0x60:
-            k = chance(len(self.fields))
-            n = self.fields[k]
-            row[:] = 13, place, k, n
-            if k < 16 and chance(2):
-                self.data += bytes([0x60 + k])
-            else:
-                self.data += b"\x4f"
-                self.int(k)
-        else:
-            self.data += bytes([form + n if form in (0x78, 0x70) else form])
-            kind, typed, width, _ = COLLECTIONS[form]
-            row[:] = kind, place, n, self.type() if typed else 0
-            if form in (0x58, 0x56):
-                self.int(n)
-            n *= width
-        for _ in range(n):
-            self.value(allowance - 1)
-        self.end(start)
-        if form in (0x57, 0x55, 0x48, 0x4D):
-            self.data += b"\x5a"
-
-    def value(self, allowance):
-        self.values -= 1
-        while chance(12) == 0:
-            self.definition()
-        # the outermost value is a container as a rule
-        kind = 0 if allowance == MOST_OPEN and chance(8) else chance(10)
-        if kind < 4 and allowance and self.values > 0:
-            self.container(allowance)
-        elif kind < 6:
-            self.text(7)
-        elif kind == 6:
-            place = len(self.data)
-            self.row(8, place, self.chunks(0x41, bytes_heads)[0], 0)
-        elif kind == 7 and self.references:
-            n = chance(self.references)
-            self.row(14, len(self.data), n, 0)
-            self.data += b"\x51"
-            self.int(n)
-        else:
-            self.number()
-
-
-def some_byte():
-    return bytes([choice((chance(256), choice(CODES)))])
-
+chance = Chance(1)
 
 made = 0
 while made < 530:
-    maker = Maker(2 + chance(30))
+    maker = Maker(chance, 2 + chance.below(30))
     maker.value(MOST_OPEN)
     message, rows = maker.data, len(maker.rows)
     if len(message) > 250:
@@ -1181,17 +567,12 @@ while made < 530:
     made += 1
     assert judged(message) == [tuple(row) for row in maker.rows], message.hex()
     assert ends(judged(message)) == maker.ends, message.hex()
-    lent = ROW * rows + choice((0, 1, 2, 3, 4, 9, 40, -1, -5, -ROW * rows, -ROW * chance(rows + 1)))
+    lent = ROW * rows + chance.choice((0, 1, 2, 3, 4, 9, 40, -1, -5, -ROW * rows, -ROW * chance.below(rows + 1)))
     case(message, max(0, lent))
     # a byte changed, the message cut short, a byte inserted
-    at = chance(len(message))
-    case(message[:at] + some_byte() + message[at + 1 :], ROW * rows + chance(8))
-    case(message[:at], ROW * rows + chance(8))
-    case(message[:at] + some_byte() + message[at:], ROW * rows + chance(8))
+    at = chance.below(len(message))
+    case(message[:at] + chance.byte() + message[at + 1 :], ROW * rows + chance.below(8))
+    case(message[:at], ROW * rows + chance.below(8))
+    case(message[:at] + chance.byte() + message[at:], ROW * rows + chance.below(8))
 
-here = os.path.dirname(os.path.abspath(__file__))
-with open(os.path.join(here, "stdin"), "w") as f:
-    f.write("".join(line + "\n" for line in CASES))
-with open(os.path.join(here, "stdout"), "w") as f:
-    f.write("".join(line + "\n" for line in CASES.values()))
-print(len(CASES), "cases")
+write_files(arguments(__file__).to, [*CASES.items()])

@@ -1,5 +1,6 @@
 #!/usr/bin/env python3
-"""Writes the cases of write_vectors, stdin, and what it is to print, stdout: `python3 vectors.py` rewrites both.
+"""Writes the cases of write_vectors, stdin, and what it is to print, stdout: `python3 vectors.py` rewrites both, and
+with `--to FOLDER` writes them there.
 
 A case is a line: how many bytes of output are lent and how many rows are claimed, in decimal; the source in groups, one
 space before each; ` ;`; and the rows of the table, one space before each. A group is bytes, two hexadecimal digits each;
@@ -11,360 +12,33 @@ call; and `ok`, where the output past what was written, or after a refusal the w
 byte i of the output is (i * 7 + 3) % 251. The checksum starts at 7, and each byte b takes it from s to s * 1000003 + b,
 modulo 2^31 - 1.
 
-The writer below is written from 01, 2026-04, 2026-07 and docs/DECISIONS.md, and shares nothing with the code that is
-tested, nor with the reader of record_vectors. That reader is asked what rows a message has, and whether what is written
-reads back as the same record: by then its own answers are checked. UTF-8 and UTF-16 are Python's own. Most rows have
-four numbers here, and get the fifth ones of the record that they would be, so that something else is tested.
+Writer and reader are those of ../vectors/hessian_format.py. The reader is asked what rows a message has, and whether
+what is written reads back as the same record. Most rows have four numbers here, and get the fifth ones of the record
+that they would be, so that something else is tested.
 """
 import functools
-import importlib.util
 import itertools
 import os
 import struct
+import sys
 
-HERE = os.path.dirname(os.path.abspath(__file__))
-spec = importlib.util.spec_from_file_location("record_vectors", os.path.join(HERE, "../record_vectors/vectors.py"))
-reader = importlib.util.module_from_spec(spec)
-spec.loader.exec_module(reader)
-raw, each, data_of, chance, choice = reader.raw, reader.each, reader.data_of, reader.chance, reader.choice
-halves = reader.halves
+sys.dont_write_bytecode = True
+sys.path.insert(0, os.path.join(os.path.dirname(os.path.abspath(__file__)), "../vectors"))
+from hessian_cases import (  # noqa: E402
+    BEETLE, BROKEN, CARS, COLORS, EDGES, LINKED, LONE, NO_FIELDS, PAIRS, TOUR, TYPES, Chance, Maker, arguments,
+    checksum, chunked, class_of, data_of, each, groups, raw, some, text_of, write_files,
+)
+from hessian_format import (  # noqa: E402
+    BYTES, LONGEST, MOST_OPEN, STRINGS, TEXT, TEXTS, WORD, bytes_heads, date_form, double_form, ends, halves, int_form,
+    int_forms, judged, long_form, long_forms, string_at, text_form, text_heads, units_of, wide, written,
+)
 
-LONGEST = 262144
-DEEPEST = 32
-MOST = 256
-WORD = 2**64
 MOST_LENT = 270000
 MOST_ROWS = 2000
 MOST_INPUT = 400000
 
-
-# ---- shortest forms
-def signed(n):
-    """The number that 64 bits in two's complement are."""
-    return n - WORD if n >> 63 else n
-
-
-def fits(n, size):
-    return -(2 ** (size - 1)) <= n < 2 ** (size - 1)
-
-
-def compact(n, zero, few):
-    """An int or long in one, two or three bytes; or nothing. `zero` has the three codes for 0."""
-    for more, within in enumerate((n in few, fits(n, 12), fits(n, 19))):
-        if within:
-            return (zero[more] * 256**more + n).to_bytes(1 + more, "big")
-    return b""
-
-
-def wide(code, n, size):
-    return bytes([code]) + (n % 256**size).to_bytes(size, "big")
-
-
-def int_form(n):
-    return compact(n, (0x90, 0xC8, 0xD4), range(-16, 48)) or wide(0x49, n, 4)
-
-
-def long_form(n):
-    return compact(n, (0xE0, 0xF8, 0x3C), range(-8, 16)) or (wide(0x59, n, 4) if fits(n, 32) else wide(0x4C, n, 8))
-
-
-def date_form(n):
-    minutes, rest = divmod(n, 60000)
-    return wide(0x4B, minutes, 4) if rest == 0 and fits(minutes, 32) else wide(0x4A, n, 8)
-
-
-def float_bits(bits):
-    """The 32-bit float that stands for these bits of a double; or nothing."""
-    sign, fraction = bits >> 63, bits % 2**52
-    if bits >> 52 & 0x7FF == 0x7FF:
-        return None if fraction % 2**29 else sign << 31 | 0xFF << 23 | fraction >> 29
-    double = bits.to_bytes(8, "big")
-    try:
-        single = struct.pack(">f", *struct.unpack(">d", double))
-    except OverflowError:
-        return None
-    return int.from_bytes(single, "big") if struct.pack(">d", *struct.unpack(">f", single)) == double else None
-
-
-def double_form(bits):
-    for n in (0, 1):
-        if struct.pack(">d", n) == bits.to_bytes(8, "big"):
-            return bytes([0x5B + n])
-    for n in WHOLE.get(bits, ()):
-        return wide(0x5D, n, 1) if fits(n, 8) else wide(0x5E, n, 2)
-    single = float_bits(bits)
-    return wide(0x44, bits, 8) if single is None else wide(0x5F, single, 4)
-
-
-WHOLE = {int.from_bytes(struct.pack(">d", n), "big"): [n] for n in range(-32768, 32768)}
-
-
-def head(n, tiny, few, brief, last):
-    """The head of a last chunk."""
-    if n < few:
-        return bytes([tiny + n])
-    return wide(brief + n // 256, n, 1) if n < 1024 else wide(last, n, 2)
-
-
-def text_form(content):
-    found, units = b"", content.decode().encode("utf-16-be")
-    while len(units) > 2 * 65535:
-        # the first half of a pair goes with the second
-        n = 65534 if 0xD8 <= units[2 * 65534] <= 0xDB else 65535
-        found += wide(0x52, n, 2) + units[: 2 * n].decode("utf-16-be").encode()
-        units = units[2 * n :]
-    return found + head(len(units) // 2, 0x00, 32, 0x30, 0x53) + units.decode("utf-16-be").encode()
-
-
-def bytes_form(content):
-    found = b""
-    while len(content) > 65535:
-        found, content = found + wide(0x41, 65535, 2) + content[:65535], content[65535:]
-    return found + head(len(content), 0x20, 16, 0x34, 0x42) + content
-
-
-# ---- texts and bytes in a source
-def characters(data, units):
-    """How many bytes at the front are characters of so many units, and their content in UTF-8; or None."""
-    # three bytes a unit are enough; up to a byte that breaks UTF-8, each half of a pair as a character of its own
-    data = data[: 3 * units]
-    try:
-        text = data.decode("utf-8", "surrogatepass")
-    except UnicodeDecodeError as e:
-        text = data[: e.start].decode("utf-8", "surrogatepass")
-    ends = list(itertools.accumulate((1 + (c > "\uffff") for c in text), initial=0))
-    if units not in ends:
-        return None
-    text = text[: ends.index(units)]
-    try:
-        # UTF-16 joins the halves of a pair, and has no place for a lone one
-        content = text.encode("utf-16-be", "surrogatepass").decode("utf-16-be").encode()
-    except UnicodeDecodeError:
-        return None
-    return len(text.encode("utf-8", "surrogatepass")), content
-
-
-def octets(data, size):
-    """The same for so many bytes."""
-    return (size, data[:size]) if len(data) >= size else None
-
-
-@functools.lru_cache(maxsize=4096)
-def string_at(source, place, text):
-    """The content of the text, or bytes, that opens at this place, and its shortest form; or None."""
-    tiny, few, brief, part, last = (0x00, 32, 0x30, 0x52, 0x53) if text else (0x20, 16, 0x34, 0x41, 0x42)
-    content = b""
-    while place < len(source):
-        code, size = source[place], 0
-        if code in (part, last):
-            more, size = 2, 0
-        elif code in range(brief, brief + 4):
-            more, size = 1, code - brief
-        elif code in range(tiny, tiny + few):
-            more, size = 0, code - tiny
-        else:
-            return None
-        length, place = source[place + 1 : place + 1 + more], place + 1 + more
-        if len(length) < more:
-            return None
-        size = size * 256**more + int.from_bytes(length, "big")
-        found = (characters if text else octets)(source[place : place + 3 * size], size)
-        if found is None:
-            return None
-        content, place = content + found[1], place + found[0]
-        if code != part:
-            return content, text_form(content) if text else bytes_form(content)
-    return None
-
-
-# ---- writing
-class NoRecord(Exception):
-    """The rows are no record."""
-
-
-def need(met):
-    if not met:
-        raise NoRecord
-
-
-def opening(write):
-    """Writes what the next row opens, whose fifth number is to be that of the row after it."""
-
-    @functools.wraps(write)
-    def judged(walk, *rest):
-        start = walk.at
-        write(walk, *rest)
-        need(walk.rows[start][4] == walk.at)
-
-    return judged
-
-
-class Walk:
-    """Rows, how many of them are written, and what they have given so far."""
-
-    def __init__(self, source, rows):
-        self.source, self.rows, self.at = source, rows, 0
-        self.references, self.types, self.fields = 0, 0, []
-        self.pieces = []
-
-    def kind(self):
-        """The next row's kind."""
-        need(self.at < len(self.rows))
-        return self.rows[self.at][0]
-
-    def take(self, *kinds):
-        """The next row, but for its fifth number."""
-        need(self.kind() in kinds)
-        self.at += 1
-        return self.rows[self.at - 1][:4]
-
-    def put(self, piece):
-        self.pieces.append(piece)
-
-    @opening
-    def text(self, kind):
-        _, place, units, size = self.take(kind)
-        found = string_at(self.source, place, True)
-        need(found and len(found[0]) == size and len(found[0].decode().encode("utf-16-be")) == 2 * units)
-        self.put(found[1])
-
-    @opening
-    def bytes(self):
-        _, place, size, zero = self.take(8)
-        found = string_at(self.source, place, False)
-        need(found and len(found[0]) == size and zero == 0)
-        self.put(found[1])
-
-    @opening
-    def number(self):
-        kind, _, first, zero = self.take(*range(7))
-        need(zero == 0)
-        if kind < 3:
-            need(first == 0)
-            self.put((b"N", b"F", b"T")[kind])
-        elif kind == 3:
-            need(fits(signed(first), 32))
-            self.put(int_form(signed(first)))
-        elif kind == 4:
-            self.put(long_form(signed(first)))
-        elif kind == 5:
-            self.put(double_form(first))
-        else:
-            self.put(date_form(signed(first)))
-
-    @opening
-    def type(self, number):
-        """The type of a list or map whose row has this type number."""
-        if self.kind() == 18:
-            need(number == self.types and self.types < MOST)
-            self.types += 1
-            self.text(18)
-        else:
-            _, _, named, zero = self.take(19)
-            need(zero == 0 and named == number and named < self.types)
-            self.put(int_form(named))
-
-    @opening
-    def definition(self):
-        _, _, fields, zero = self.take(15)
-        need(zero == 0 and fields <= MOST and len(self.fields) < MOST)
-        self.put(b"C")
-        self.text(16)
-        self.put(int_form(fields))
-        for _ in range(fields):
-            self.text(17)
-        self.fields.append(fields)
-
-    @opening
-    def reference(self):
-        _, _, number, zero = self.take(14)
-        need(zero == 0 and number < self.references)
-        self.put(b"Q" + int_form(number))
-
-    def values(self, n, allowance):
-        while n:
-            self.value(allowance)
-            n -= 1
-
-    @opening
-    def list(self, allowance):
-        kind, _, n, number = self.take(9, 10)
-        typed = kind == 10
-        if n < 8:
-            self.put(bytes([(0x70 if typed else 0x78) + n]))
-        elif n < 48:
-            self.put(b"V" if typed else b"X")
-        else:
-            self.put(b"U" if typed else b"W")
-        if typed:
-            self.type(number)
-        else:
-            need(number == 0)
-        if 8 <= n < 48:
-            self.put(int_form(n))
-        self.values(n, allowance)
-        if 48 <= n:
-            self.put(b"Z")
-
-    @opening
-    def map(self, allowance):
-        kind, _, pairs, number = self.take(11, 12)
-        self.put(b"M" if kind == 12 else b"H")
-        if kind == 12:
-            self.type(number)
-        else:
-            need(number == 0)
-        self.values(2 * pairs, allowance)
-        self.put(b"Z")
-
-    @opening
-    def object(self, allowance):
-        _, _, number, fields = self.take(13)
-        need(number < len(self.fields) and fields == self.fields[number])
-        self.put(bytes([0x60 + number]) if number < 16 else b"O" + int_form(number))
-        self.values(fields, allowance)
-
-    def value(self, allowance):
-        """A value and the definitions before it; so many lists, maps and objects may open."""
-        while self.kind() == 15:
-            self.definition()
-        kind = self.kind()
-        if kind < 7:
-            self.number()
-        elif kind == 7:
-            self.text(7)
-        elif kind == 8:
-            self.bytes()
-        elif kind == 14:
-            self.reference()
-        else:
-            need(9 <= kind <= 13 and allowance)
-            self.references += 1
-            (self.list if kind < 11 else self.map if kind < 13 else self.object)(allowance - 1)
-
-
-def written(source, rows, claimed):
-    """The shortest message of the first rows; or the refusal 1 or 10, whatever output is lent."""
-    if len(source) > LONGEST:
-        return 1
-    walk = Walk(source, rows[:claimed])
-    try:
-        need(claimed <= len(rows))
-        walk.value(DEEPEST)
-        need(walk.at == claimed)
-    except NoRecord:
-        return 10
-    return b"".join(walk.pieces) if sum(map(len, walk.pieces)) <= LONGEST else 1
-
-
 # ---- lines
 PATTERN = bytes((i * 7 + 3) % 251 for i in range(MOST_LENT))
-
-
-def checksum(output, s=7):
-    for b in output:
-        s = (s * 1000003 + b) % (2**31 - 1)
-    return s
 
 
 @functools.lru_cache(maxsize=None)
@@ -395,17 +69,17 @@ def row_words(rows):
 
 
 CASES = {}
-TEXTS = (7, 16, 17, 18)
-STRINGS = (8, *TEXTS)
+# any number would do; this one keeps the cases as they were
+chance = Chance(12953007724344040943)
 
 
 def contents(source, rows):
-    return [string_at(source, row[1], row[0] in TEXTS)[0] for row in rows if row[0] in STRINGS]
+    return [string_at(source, row[1], TEXT if row[0] in TEXTS else BYTES)[0] for row in rows if row[0] in STRINGS]
 
 
 def read(message):
     """The rows of a message that is accepted."""
-    rows = reader.judged(message)
+    rows = judged(message)
     assert isinstance(rows, list), (message, rows)
     return [tuple(n % WORD for n in row) for row in rows]
 
@@ -418,8 +92,7 @@ def same(source, rows, other_source, other_rows):
 
 def ended(rows, claimed=WORD):
     """The rows with their fifth numbers, as the ones claimed are to have them; the others have 0."""
-    ends = reader.ends(rows[:claimed])
-    return [(*row, end % WORD) for row, end in itertools.zip_longest(rows, ends, fillvalue=0)]
+    return [(*row, end % WORD) for row, end in itertools.zip_longest(rows, ends(rows[:claimed]), fillvalue=0)]
 
 
 def case_of(source, rows, claimed=None, lent=None):
@@ -436,7 +109,7 @@ def case_of(source, rows, claimed=None, lent=None):
     assert len(rows) <= MOST_ROWS and len(source) <= MOST_LENT
     assert all(0 <= n < WORD for row in [*rows, [claimed]] for n in row)
     lent = min(max(lent, 0), MOST_LENT)
-    line = " ".join([str(lent), str(claimed), *reader.groups(source), ";", *row_words(rows)])
+    line = " ".join([str(lent), str(claimed), *groups(source), ";", *row_words(rows)])
     CASES.setdefault(line, answer(found, lent))
     return found
 
@@ -484,7 +157,7 @@ def none(source, rows, claimed=None, lent=None):
 SMILE = "\U0001f600".encode()
 NULL, ZERO = (0, 0, 0, 0), (3, 0, 0, 0)
 # a class definition without fields, and its name at a place
-NO_FIELDS = (15, 0, 0, 0), (16, 0, 0, 0)
+EMPTY_CLASS = (15, 0, 0, 0), (16, 0, 0, 0)
 
 # ---- examples of 01
 CAR = "43 03 'Car' 91 05 'color' 60 03 'red'"
@@ -520,10 +193,10 @@ none("", [(9, 0, 1, 0)] * 32 + [(9, 0, 0, 0)])
 AROUND = [2**31 - 1, 262144, 262143, 2048, 2047, 48, 47, 16, 15, 1, 0, -1, -8, -9, -16, -17]
 AROUND += [-2048, -2049, -262144, -262145, -(2**31)]
 for n in AROUND:
-    for form in reader.int_forms(n):
+    for form in int_forms(n):
         rewrites(form, int_form(n))
 for n in AROUND + [2**63 - 1, 2**31, -(2**31) - 1, -(2**63)]:
-    for form in reader.long_forms(n):
+    for form in long_forms(n):
         rewrites(form, long_form(n))
 for n, size in ((47, 1), (48, 2), (2047, 2), (2048, 3), (262143, 3), (262144, 5), (-16, 1), (-17, 2), (-262145, 5)):
     assert len(int_form(n)) == size
@@ -564,19 +237,19 @@ for bits in (1, WORD - 1, 0x7FF0000000000001, 0x3FF0000000000001, 0x36A000000000
 
 # ---- texts and bytes: each form's bounds, from each form
 for n in (0, 1, 15, 16, 31, 32, 255, 256, 1023, 1024):
-    for form in reader.text_heads(n):
-        rewrites(form + b"a" * n, reader.text_heads(n)[0] + b"a" * n)
-    for form in reader.bytes_heads(n):
-        rewrites(form + b"\xff" * n, reader.bytes_heads(n)[0] + b"\xff" * n)
-    shortens(raw("52 0001 'x'") + reader.text_of("\u00e9" * n))
-    shortens(reader.text_of("\u20ac" * n))
-    shortens(reader.text_of("\U0001f600" * (n // 2)))
-    shortens(raw("41 0000 41 0001 00") + reader.bytes_heads(n)[-1] + b"\x01" * n)
+    for form in text_heads(n):
+        rewrites(form + b"a" * n, text_heads(n)[0] + b"a" * n)
+    for form in bytes_heads(n):
+        rewrites(form + b"\xff" * n, bytes_heads(n)[0] + b"\xff" * n)
+    shortens(raw("52 0001 'x'") + text_of("\u00e9" * n))
+    shortens(text_of("\u20ac" * n))
+    shortens(text_of("\U0001f600" * (n // 2)))
+    shortens(raw("41 0000 41 0001 00") + bytes_heads(n)[-1] + b"\x01" * n)
 rewrites("52 0000 52 0000 00", "00")
 rewrites("41 0000 41 0000 20", "20")
 rewrites("52 0002 f09f9880 52 0001 c3a9 02 f09f9880", "05 f09f9880 c3a9 f09f9880")
-for c in reader.EDGES:
-    shortens(reader.text_of("a" + chr(c) + "z"))
+for c in EDGES:
+    shortens(text_of("a" + chr(c) + "z"))
 for n in (65534, 65535, 65536, 65537, 131070, 131071):
     text = b"a" * n
     for cut in (1, n // 3, min(n, 65535)):
@@ -620,14 +293,14 @@ none("4d 02 eda0bdedb880 5a", [(12, 0, 0, 0), (18, 1, 2, 6)])
 for place in range(len(raw(NAMES)) + 1):
     assert (case(raw(NAMES), [(7, place, 2, 4)]) == 10) == (place not in (1, 9, 17))
 # halves that are no pair: with the lengths that they would have as characters, and as a pair
-for message in reader.LONE:
+for message in LONE:
     for units, size in ((1, 3), (1, 4), (2, 4), (2, 6), (3, 7)):
         none(message, [(7, 0, units, size)])
-for c in map(chr, reader.EDGES):
+for c in map(chr, EDGES):
     if c > "\uffff":
         rewrites(b"\x04a" + halves(c) + b"z", b"\x04a" + c.encode() + b"z")
 for n in (16, 30, 32, 1022, 1024):
-    rewrites(reader.text_heads(n)[-1] + halves("\U0001f600") * (n // 2), reader.text_of("\U0001f600" * (n // 2)))
+    rewrites(text_heads(n)[-1] + halves("\U0001f600") * (n // 2), text_of("\U0001f600" * (n // 2)))
 # beyond 65,535 units: chunks of 65,534
 SIX = raw("eda0bdedb880")
 rewrites(raw("52 fffe") + b"a" * 65534 + b"\x02" + SIX, PAIR)
@@ -638,20 +311,19 @@ for size in (32767, 32768, 40000):
 for at in (65533, 65534, 65535):
     spelled = wide(0x52, at, 2) + b"a" * at + wide(0x53, 40002, 2) + SIX + b"b" * 40000
     rewrites(spelled, text_form(b"a" * at + SMILE + b"b" * 40000))
-rewrites(reader.PAIRS, text_form(SMILE * 32767 + b"abcd" + SMILE * 10922))
+rewrites(PAIRS, text_form(SMILE * 32767 + b"abcd" + SMILE * 10922))
 
 # ---- lists, maps and objects
-some = reader.some
 SIZES = (0, 7, 8, 47, 48)
 for n in SIZES:
     values = some(n)
     counted = b"\x58" + int_form(n) + values
     listed = bytes([0x78 + n]) + values if n < 8 else counted if n < 48 else b"\x57" + values + b"\x5a"
-    for form in reader.int_forms(n):
+    for form in int_forms(n):
         rewrites(b"\x58" + form + values, listed)
     rewrites(b"\x57" + values + b"\x5a", listed)
     rewrites(listed)
-    for before, spelled in reader.TYPES:
+    for before, spelled in TYPES:
         shortest = text_form(b"[int") if not before else b"\x00" if spelled == b"\x00" else int_form(spelled[0] == 0x91)
         typed = bytes([0x70 + n]) + shortest + values if n < 8 else b"\x56" + shortest + int_form(n) + values
         typed = typed if n < 48 else b"\x55" + shortest + values + b"\x5a"
@@ -662,7 +334,7 @@ for n in SIZES:
         mapped = values * 2 + b"\x5a"
         rewrites(before + b"\x4d" + spelled + mapped, before + b"\x4d" + shortest + mapped)
     rewrites(b"\x48" + values * 2 + b"\x5a")
-    shortens(reader.class_of(n) + raw("4f d40000") + values)
+    shortens(class_of(n) + raw("4f d40000") + values)
     shortens(raw("43 52 0000 01 'a' 49") + n.to_bytes(4, "big") + b"\x30\x00" * n + b"\x60" + values)
 for n in (48, 300, 1999):
     writes("", [(9, 0, n, 0)] + [ZERO] * n, b"\x57" + b"\x90" * n + b"\x5a")
@@ -670,18 +342,18 @@ writes("01 't'", [(10, 0, 1998, 0), (18, 0, 1, 1)] + [NULL] * 1998, raw("55 01 '
 writes("", [(11, 0, 999, 0)] + [ZERO] * 999 + [NULL] * 999, b"\x48" + b"\x90" * 999 + b"\x4e" * 999 + b"\x5a")
 for message in each("D 90 | D D 61 | 57 D 90 D 91 5a | 48 D 60 D 61 D 60 D 62 5a | F 60 F 61 F 62 90 | D F 61 57 D 60 D 62 5a"):
     shortens(message)
-for message in (reader.BEETLE, reader.CARS, reader.COLORS, reader.LINKED, reader.TOUR):
+for message in (BEETLE, CARS, COLORS, LINKED, TOUR):
     shortens(message)
 # classes 15, 16 and 255
 for number, shortest in ((0, "60"), (14, "6e"), (15, "6f"), (16, "4f a0"), (47, "4f bf"), (48, "4f c830"), (255, "4f c8ff")):
-    classes = reader.NO_FIELDS * (number + 1)
-    for form in reader.int_forms(number)[-1 if number == 255 else 0 :]:
+    classes = NO_FIELDS * (number + 1)
+    for form in int_forms(number)[-1 if number == 255 else 0 :]:
         rewrites(classes + b"\x4f" + form, classes + data_of(shortest))
     if number < 16:
         rewrites(classes + bytes([0x60 + number]))
 # references of each size
 for number, shortest in ((0, "51 90"), (47, "51 bf"), (48, "51 c830"), (300, "51 c92c")):
-    for form in reader.int_forms(number):
+    for form in int_forms(number):
         values = b"\x78" * max(number, 47)
         rewrites(b"\x57" + values + b"\x51" + form + b"\x5a", b"\x57" + values + data_of(shortest) + b"\x5a")
 none("", [(9, 0, 301, 0)] + [(9, 0, 0, 0)] * 300 + [(14, 0, 301, 0)])
@@ -705,13 +377,14 @@ def changed(rows, at, which, n):
 for message in SMALL:
     rows = read(message)
     for at, (kind, place, first, second) in enumerate(rows):
-        for n in sorted({kind + 1, choice(range(20)), kind + choice((-1, 256, 2**32, 2**63))} - {kind}):
+        for n in sorted({kind + 1, chance.choice(range(20)), kind + chance.choice((-1, 256, 2**32, 2**63))} - {kind}):
             case(message, changed(rows, at, 0, n))
-        for n in (first + 1, first - 1, first + choice((2**32, 2**63))):
+        for n in (first + 1, first - 1, first + chance.choice((2**32, 2**63))):
             case(message, changed(rows, at, 2, n))
-        for n in (second + 1, second - choice((1, 2**32, 2**63))):
+        for n in (second + 1, second - chance.choice((1, 2**32, 2**63))):
             case(message, changed(rows, at, 3, n))
-        for n in (place + 1, choice((len(message), 2**32 + place, WORD - 1))) if kind in STRINGS else (WORD - 1,):
+        wrong = (place + 1, chance.choice((len(message), 2**32 + place, WORD - 1))) if kind in STRINGS else (WORD - 1,)
+        for n in wrong:
             case(message, changed(rows, at, 1, n))
 # an int is 32 bits with its sign
 for n in (2**31, 2**32 - 1, 2**32, -(2**31) - 1, 2**63, -(2**32)):
@@ -726,19 +399,19 @@ for kind in (20, 21, 255, 256, 259, 2**32 + 3, 2**63 + 3, WORD - 1):
     none("", [(kind, 0, 0, 0)])
 
 # ---- 10: rows missing, one too many, swapped; claims
-for message in (*SMALL, raw(CAR), raw(reader.COLORS), raw("7a 55 01 't' 58 92 90 91 5a 48 01 'k' 4d 90 5a 5a")):
+for message in (*SMALL, raw(CAR), raw(COLORS), raw("7a 55 01 't' 58 92 90 91 5a 48 01 'k' 4d 90 5a 5a")):
     rows = unplaced(read(message))
     for at in range(len(rows)):
         case(message, rows[:at] + rows[at + 1 :])
         case(message, rows[:at] + rows[at : at + 1] + rows[at:])
         if at + 1 < len(rows) and rows[at] != rows[at + 1]:
             case(message, [*rows[:at], rows[at + 1], rows[at], *rows[at + 2 :]])
-    none(message, [*rows, choice((NULL, (14, 0, 0, 0), NO_FIELDS[0]))])
+    none(message, [*rows, chance.choice((NULL, (14, 0, 0, 0), EMPTY_CLASS[0]))])
     none(message, rows, 0)
-    for claimed in (len(rows) + 1, choice((2**32, 2**59, 2**61, 2**62, 2**63)) + len(rows)):
+    for claimed in (len(rows) + 1, chance.choice((2**32, 2**59, 2**61, 2**62, 2**63)) + len(rows)):
         none(message, rows, claimed)
     # a row lent and not claimed is not looked at
-    assert isinstance(case(message, [*rows, choice(((99, 99, 99, 99), NULL, rows[0]))], len(rows)), bytes)
+    assert isinstance(case(message, [*rows, chance.choice(((99, 99, 99, 99), NULL, rows[0]))], len(rows)), bytes)
     if len(rows) > 1:
         case(message, rows, len(rows) - 1)
 for claimed in (0, 1, 2, 2**62, 2**63, WORD - 1):
@@ -763,18 +436,18 @@ none("", [(11, 0, 1, 0), ZERO])
 # ---- 10: classes, types and references that are not given
 none("00", [(13, 0, 0, 0)])
 for number in (1, 2, 16, 256, 2**31, 2**32, WORD - 1):
-    none("00", [*NO_FIELDS, (13, 0, number, 0)])
-    none("00", [*NO_FIELDS * 2, (13, 0, number + (number == 1), 0)])
+    none("00", [*EMPTY_CLASS, (13, 0, number, 0)])
+    none("00", [*EMPTY_CLASS * 2, (13, 0, number + (number == 1), 0)])
 for fields in (1, 2, WORD - 1, 2**32):
-    none("00", [*NO_FIELDS, (13, 0, 0, fields), ZERO])
+    none("00", [*EMPTY_CLASS, (13, 0, 0, fields), ZERO])
     none("00", [(15, 0, 3, 0), (16, 0, 0, 0), *[(17, 0, 0, 0)] * 3, (13, 0, 0, fields), ZERO, ZERO])
-none("00", list(NO_FIELDS))
-none("00", [NO_FIELDS[0], ZERO])
+none("00", list(EMPTY_CLASS))
+none("00", [EMPTY_CLASS[0], ZERO])
 none("00", [(15, 0, 1, 0), (16, 0, 0, 0), ZERO])
 none("00", [(15, 0, 1, 0), (16, 0, 0, 0), (16, 0, 0, 0), ZERO])
 none("00", [(15, 0, 1, 0), (17, 0, 0, 0), (17, 0, 0, 0), ZERO])
 none("00", [(15, 0, 1, 0), (16, 0, 0, 0), (7, 0, 0, 0), ZERO])
-none("00", [(9, 0, 1, 0), *NO_FIELDS])
+none("00", [(9, 0, 1, 0), *EMPTY_CLASS])
 none("00", [(15, 0, 1, 0), (16, 0, 0, 0), (13, 0, 0, 1), (17, 0, 0, 0)])
 for number in (0, 1, 255, 2**31, 2**32, WORD - 3):
     none("01 't'", [(10, 0, 0, number), (19, 0, number, 0)])
@@ -796,11 +469,11 @@ none("01 't'", [(10, 0, 0, 0)])
 # ---- 10: places that open no such item
 SOURCE = raw("52 0003 'ab' c3a9 03 f09f9880 'z' 41 0002 0141 22 4142 30 02 'cd' 53 0002 'ef' 34 01 00 42 0002 ff01 02 c3")
 for place in [*range(len(SOURCE) + 2), 2**31, 2**32, 2**63, WORD - 1]:
-    for text in (True, False):
-        found = string_at(SOURCE, place, text)
-        units = len(found[0].decode().encode("utf-16-be")) // 2 if found and text else len(found[0]) if found else 2
+    for kind in (TEXT, BYTES):
+        found = string_at(SOURCE, place, kind)
+        units = units_of(kind, found[0]) if found else 2
         size = len(found[0]) if found else 2
-        row = (7, place, units, size) if text else (8, place, size, 0)
+        row = (kind, place, units, size if kind == TEXT else 0)
         assert (case(SOURCE, [row]) == 10) == (found is None)
 for kind, rest in ((7, [NULL]), (16, []), (17, []), (18, [])):
     for place, units, size in ((0, 6, 9), (0, 3, 4), (0, 6, 8), (0, 5, 9), (0, 9, 9), (0, 6, 6), (7, 3, 5), (7, 3, 4), (8, 3, 5)):
@@ -815,7 +488,7 @@ for kind, rest in ((7, [NULL]), (16, []), (17, []), (18, [])):
             rows = [(12, 0, 0, 0), text]
         case(SOURCE, rows)
 # a text that is not well formed, or is cut
-for broken in each(reader.BROKEN):
+for broken in each(BROKEN):
     none(b"\x02" + broken + b"aa", [(7, 0, 2, 2)])
     none(b"\x02" + broken, [(7, 0, 2, len(broken))])
 none("01 f09f9880", [(7, 0, 1, 4)])
@@ -848,8 +521,8 @@ for start in ((9, 0, 1, 0), (11, 0, 1, 0)):
 F = [(15, 0, 1, 0), (16, 0, 0, 0), (17, 0, 0, 0)]
 assert isinstance(case(b"\x00", F + [(13, 0, 0, 1)] * 32 + [NULL]), bytes)
 none("00", F + [(13, 0, 0, 1)] * 33 + [NULL])
-none("00", [*NO_FIELDS] + [(9, 0, 1, 0)] * 32 + [(13, 0, 0, 0)])
-assert isinstance(case(b"\x00", [*NO_FIELDS] + [(9, 0, 1, 0)] * 31 + [(13, 0, 0, 0)]), bytes)
+none("00", [*EMPTY_CLASS] + [(9, 0, 1, 0)] * 32 + [(13, 0, 0, 0)])
+assert isinstance(case(b"\x00", [*EMPTY_CLASS] + [(9, 0, 1, 0)] * 31 + [(13, 0, 0, 0)]), bytes)
 typed = [row for i in range(32) for row in ((10, 0, 1, i), (18, 0, 0, 0))]
 assert isinstance(case(b"\x00", typed + [ZERO]), bytes)
 none("00", typed + [(12, 0, 0, 0), (19, 0, 0, 0)])
@@ -859,7 +532,7 @@ none("", [(9, 0, 2, 0)] + [(9, 0, 1, 0)] * 30 + [(9, 0, 0, 0)] + [(9, 0, 1, 0)] 
 for n in (256, 257):
     rows = [(9, 0, n, 0), *(row for i in range(n) for row in ((10, 0, 0, i), (18, 0, 0, 0)))]
     assert (case(b"\x00", rows) == 10) == (n > 256)
-    rows = [*NO_FIELDS * n, (13, 0, n - 1, 0)]
+    rows = [*EMPTY_CLASS * n, (13, 0, n - 1, 0)]
     assert (case(b"\x00", rows) == 10) == (n > 256)
     rows = [(15, 0, n, 0), (16, 0, 0, 0), *[(17, 0, 0, 0)] * n, (13, 0, 0, n), *[NULL] * n]
     assert (case(b"\x00", rows) == 10) == (n > 256)
@@ -884,11 +557,11 @@ for lent in (0, 100):
             refused(number or 10, source, [NULL], 2, lent)
             refused(number or 10, source, [(20, 0, 0, 0)], 1, lent)
             refused(number or 10, source, [(7, 0, 1, 1)], 1, lent)
-whole = reader.chunked(LONGEST, 0x52, 0x53)
+whole = chunked(LONGEST, TEXT)
 rewrites(whole)
 rewrites(whole, lent=MOST_LENT)
 rewrites(whole, lent=LONGEST - 1)
-rewrites(reader.chunked(LONGEST, 0x41, 0x42))
+rewrites(chunked(LONGEST, BYTES))
 refused(1, whole + b"\x00", [(7, 0, LONGEST - 12, LONGEST - 12)])
 writes(b"a" * (LONGEST - 2) + b"\x01z", [(7, LONGEST - 2, 1, 1)], "01 'z'")
 writes(b"a" * (LONGEST - 1) + b"\x00", [(7, LONGEST - 1, 0, 0)], "00")
@@ -954,7 +627,7 @@ for message in (*SMALL, *HELD):
         wrong = {0, at, at + 1, right - 1, right + 1, len(rows), right + 2**32, right + 2**63, WORD - 1} - {right}
         # all of them for the first two rows of a kind
         seen[kind] = seen.get(kind, 0) + 1
-        wrong = sorted(wrong) if seen[kind] <= 2 else [choice(sorted(wrong)), right + choice((-1, 1))]
+        wrong = sorted(wrong) if seen[kind] <= 2 else [chance.choice(sorted(wrong)), right + chance.choice((-1, 1))]
         for n in wrong:
             wrong_fifth(message, rows, at, n)
 assert sorted(seen) == list(range(20))
@@ -983,7 +656,7 @@ wrong_fifth("71 00 90", ended(read(raw("71 00 90"))), 0, 2)
 wrong_fifth("71 00 90", ended(read(raw("71 00 90"))), 1, 3)
 
 # ---- how many bytes are lent
-for message in (*SMALL, raw(CAR), raw(reader.TOUR), raw(reader.BEETLE), PAIR, b"\x57" + b"\x91" * 60 + b"\x5a"):
+for message in (*SMALL, raw(CAR), raw(TOUR), raw(BEETLE), PAIR, b"\x57" + b"\x91" * 60 + b"\x5a"):
     rows = unplaced(read(message))
     needed = len(written(message, ended(rows), len(rows)))
     for lent in (0, needed - 1, needed, needed + 40):
@@ -994,39 +667,40 @@ for lent in (0, 1, 7, 1000, MOST_LENT):
     assert case(b"", [NULL], lent=lent) == b"N"
 
 # ---- random records
-reader.seed = 2
+chance = Chance(2)
 
 
 def random_number(n):
     """Another number near this one, or any."""
-    return (n + choice((1, -1, 2, 8, 256, 2**32, 2**63, chance(20), -chance(20), chance(2**31)))) % WORD
+    below = chance.below
+    return (n + chance.choice((1, -1, 2, 8, 256, 2**32, 2**63, below(20), -below(20), below(2**31)))) % WORD
 
 
 def damaged(message, rows):
     """A source and rows with something changed."""
-    at, kind = chance(len(rows)), chance(8)
+    at, kind = chance.below(len(rows)), chance.below(8)
     if kind < 3:
-        which = choice((0, 1, 2, 2, 3))
-        return message, changed(rows, at, which, chance(20) if which == 0 else random_number(rows[at][which]))
+        which = chance.choice((0, 1, 2, 2, 3))
+        return message, changed(rows, at, which, chance.below(20) if which == 0 else random_number(rows[at][which]))
     if kind == 3:
         return message, rows[:at] + rows[at + 1 :]
     if kind == 4:
-        return message, rows[:at] + [choice(rows)] + rows[at:]
+        return message, rows[:at] + [chance.choice(rows)] + rows[at:]
     if kind == 5:
-        other = chance(len(rows))
+        other = chance.below(len(rows))
         swapped = list(rows)
         swapped[at], swapped[other] = rows[other], rows[at]
         return message, swapped
     if kind == 6:
-        return message[: chance(len(message))], rows
-    at = chance(len(message))
-    return message[:at] + reader.some_byte() + message[at + 1 :], rows
+        return message[: chance.below(len(message))], rows
+    at = chance.below(len(message))
+    return message[:at] + chance.byte() + message[at + 1 :], rows
 
 
 made = 0
 while made < 110:
-    maker = reader.Maker(2 + chance(20))
-    maker.value(DEEPEST)
+    maker = Maker(chance, 2 + chance.below(20))
+    maker.value(MOST_OPEN)
     message, rows = maker.data, [tuple(n % WORD for n in row) for row in maker.rows]
     if len(message) > 160:
         continue
@@ -1034,20 +708,14 @@ while made < 110:
     shortens(message)
     rows = unplaced(rows)
     found = written(message, ended(rows), len(rows))
-    case(message, rows, lent=len(found) - choice((0, 1, 1, 2, len(found))))
+    case(message, rows, lent=len(found) - chance.choice((0, 1, 1, 2, len(found))))
     case(*damaged(message, rows))
-    if chance(3):
+    if chance.below(3):
         case(*damaged(message, rows))
     else:
         # a fifth number changed; now and then it stays right
-        at, right = chance(len(rows)), ended(rows)
-        case_of(message, with_fifth(right, at, choice((random_number(right[at][4]), choice(right)[4]))))
+        at, right = chance.below(len(rows)), ended(rows)
+        case_of(message, with_fifth(right, at, chance.choice((random_number(right[at][4]), chance.choice(right)[4]))))
 
-if __name__ == "__main__":
-    stdin = "".join(line + "\n" for line in CASES)
-    assert len(stdin) <= MOST_INPUT, len(stdin)
-    with open(os.path.join(HERE, "stdin"), "w") as f:
-        f.write(stdin)
-    with open(os.path.join(HERE, "stdout"), "w") as f:
-        f.write("".join(line + "\n" for line in CASES.values()))
-    print(len(CASES), "cases,", len(stdin), "bytes")
+assert sum(len(line) + 1 for line in CASES) <= MOST_INPUT
+write_files(arguments(__file__).to, [*CASES.items()])

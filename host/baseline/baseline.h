@@ -1,6 +1,6 @@
 /*
- * A plain C reader and writer of Hessian 2.0 messages, independent of the library: to measure its speed and check its
- * answers.
+ * A plain C reader and writer of Hessian 2.0 messages, and a copier of their texts and byte strings, independent of the
+ * library: to measure its speed and check its answers.
  */
 #ifndef BASELINE_H
 #define BASELINE_H
@@ -29,5 +29,20 @@ uint64_t baseline_read(const uint8_t *message, size_t message_len, uint8_t *tabl
  */
 uint64_t baseline_write(const uint8_t *source, size_t source_len, const uint8_t *table, size_t table_len, uint64_t rows,
                         uint8_t *output, size_t output_len);
+
+struct baseline_answer {
+    uint64_t number, count, place;
+};
+
+/*
+ * Copies the content of the text (kinds 7, 16, 17, 18) or byte string (kind 8) that opens at this place of the source,
+ * its chunks joined, and each pair of halves as its character. The answer's place is 0:
+ *   accepted:            number 0, count the bytes copied
+ *   refused 10:          no complete string of this kind opens there, or the kind is another one; count 0
+ *   refused 9:           the output is too small; count the bytes needed
+ * A refusal leaves the output as it was; so do bytes past those copied.
+ */
+struct baseline_answer baseline_content(const uint8_t *source, size_t source_len, uint64_t kind, uint64_t place,
+                                        uint8_t *output, size_t output_len);
 
 #endif

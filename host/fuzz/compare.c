@@ -12,7 +12,13 @@
 #include "hessian.h"
 #include "packed.h"
 
-enum { LONGEST = HESSIAN_LONGEST, MOST_MESSAGE = 300000, MOST_ALTERED = 4 };
+enum {
+    LONGEST = HESSIAN_LONGEST,
+    MOST_MESSAGE = 300000,
+    MOST_ALTERED = 4,
+    SOME_PLACES = 8,  /* whose contents are copied, whatever opens there */
+    PACKED_NAMES = 64 /* rows of a packed input whose contents are copied */
+};
 
 /* What the library is lent. The plain functions have blocks of their own, which AddressSanitizer watches. */
 static struct fence message_fence, table_fence, output_fence;
@@ -33,7 +39,7 @@ static void start(const uint8_t *data, size_t size)
     if (message_fence.start == NULL) {
         message_fence = new_fence(MOST_MESSAGE);
         table_fence = new_fence((size_t)(LONGEST + 2) * ROW_SIZE);
-        output_fence = new_fence(LONGEST + 64);
+        output_fence = new_fence(MOST_MESSAGE + 64);
     }
     state = size;
     for (i = 0; i < size; i++)
@@ -115,25 +121,48 @@ static bool agree(const char *what, const struct lent *l, uint64_t library, uint
     return true;
 }
 
+/* What both are given to read: for the library at a fence, for the plain functions in a block. */
+struct given {
+    const struct fence *fence;
+    bool at_end;
+    const uint8_t *original;
+    size_t len;
+    uint8_t *library, *plain;
+};
+
+static struct given give(const struct fence *f, const uint8_t *original, size_t len)
+{
+    struct given g = {f, pick(4) != 0, original, len, NULL, copy_of(original, len)};
+
+    g.library = fenced(f, len, g.at_end);
+    memcpy(g.library, original, len);
+    return g;
+}
+
+/* Takes it back: whether the library left it as it was. */
+static bool take_back(struct given *g)
+{
+    free(g->plain);
+    return memcmp(g->library, g->original, g->len) == 0 && guarded(g->fence, g->len, g->at_end);
+}
+
 /* ---- the reader */
 
 /* Reads with both, into a table of so many bytes. Its rows are copied to `rows`, unless that is NULL. */
 static bool compare_read(const uint8_t *data, size_t size, size_t table_len, uint8_t **rows, uint64_t *answer)
 {
     struct lent l = lend(&table_fence, table_len);
-    bool at_end = pick(4) != 0, same;
-    uint8_t *message = fenced(&message_fence, size, at_end), *copy = copy_of(data, size);
+    struct given message = give(&message_fence, data, size);
     size_t stored;
+    bool same;
 
-    memcpy(message, data, size);
-    *answer = hessian_read(message, size, l.library, table_len);
+    *answer = hessian_read(message.library, size, l.library, table_len);
     stored = HESSIAN_NUMBER(*answer) == 0 ? HESSIAN_COUNT(*answer) * ROW_SIZE : 0;
-    same = agree("read", &l, *answer, baseline_read(copy, size, l.plain, table_len), stored);
-    if (memcmp(message, data, size) != 0 || !guarded(&message_fence, size, at_end))
+    same = agree("read", &l, *answer, baseline_read(message.plain, size, l.plain, table_len), stored);
+    if (!take_back(&message))
         same = differ("the message is changed", *answer, 0);
     if (rows != NULL)
         *rows = copy_of(l.library, stored);
-    free(copy);
     free(l.plain);
     return same;
 }
@@ -176,25 +205,22 @@ struct input {
 static bool compare_write(const struct input *in, size_t output_len, uint8_t **written, uint64_t *answer)
 {
     struct lent l = lend(&output_fence, output_len);
-    bool at_end = pick(4) != 0, same;
-    uint8_t *source = fenced(&message_fence, in->source_len, at_end), *source_copy = copy_of(in->source, in->source_len);
-    uint8_t *table = fenced(&table_fence, in->table_len, at_end), *table_copy = copy_of(in->table, in->table_len);
+    struct given source = give(&message_fence, in->source, in->source_len);
+    struct given table = give(&table_fence, in->table, in->table_len);
     uint64_t plain;
     size_t stored;
+    bool same, source_kept, table_kept;
 
-    memcpy(source, in->source, in->source_len);
-    memcpy(table, in->table, in->table_len);
-    *answer = hessian_write(source, in->source_len, table, in->table_len, in->rows, l.library, output_len);
+    *answer = hessian_write(source.library, source.len, table.library, table.len, in->rows, l.library, output_len);
     stored = HESSIAN_NUMBER(*answer) == 0 ? HESSIAN_COUNT(*answer) : 0;
-    plain = baseline_write(source_copy, in->source_len, table_copy, in->table_len, in->rows, l.plain, output_len);
+    plain = baseline_write(source.plain, source.len, table.plain, table.len, in->rows, l.plain, output_len);
     same = agree("write", &l, *answer, plain, stored);
-    if (memcmp(source, in->source, in->source_len) != 0 || memcmp(table, in->table, in->table_len) != 0 ||
-        !guarded(&message_fence, in->source_len, at_end) || !guarded(&table_fence, in->table_len, at_end))
+    source_kept = take_back(&source);
+    table_kept = take_back(&table);
+    if (!source_kept || !table_kept)
         same = differ("the source or the table is changed", *answer, 0);
     if (written != NULL)
         *written = copy_of(l.library, stored);
-    free(source_copy);
-    free(table_copy);
     free(l.plain);
     return same;
 }
@@ -206,6 +232,90 @@ static bool compare_writes(const struct input *in, uint8_t **written, uint64_t *
 
     return compare_write(in, 0, NULL, &needed) && compare_write(in, some_room(HESSIAN_COUNT(needed)), NULL, answer) &&
            compare_write(in, HESSIAN_COUNT(needed), written, answer);
+}
+
+/* ---- contents */
+
+/* An answer of three numbers as the other calls pack it, or one that no call gives. */
+static uint64_t packed_answer(uint64_t number, uint64_t count, uint64_t place)
+{
+    if (number > UINT16_MAX || count > MOST_MESSAGE || place > MOST_MESSAGE)
+        return UINT64_MAX;
+    return number << 48 | count << 24 | place;
+}
+
+/* Copies content with both, into an output of so many bytes. */
+static bool compare_copy(const struct given *source, uint64_t kind, uint64_t place, size_t output_len, uint64_t *answer)
+{
+    struct lent l = lend(&output_fence, output_len);
+    hessian_answer library = hessian_content(source->library, source->len, kind, place, l.library, output_len);
+    struct baseline_answer plain = baseline_content(source->plain, source->len, kind, place, l.plain, output_len);
+    size_t stored = plain.number == HESSIAN_ACCEPTED ? (size_t)plain.count : 0;
+    bool same;
+
+    *answer = packed_answer(library.number, library.count, library.place);
+    same = agree("content", &l, *answer, packed_answer(plain.number, plain.count, plain.place), stored);
+    free(l.plain);
+    return same;
+}
+
+/* Copies into no room, into some, and into as much as is needed: the last answer. */
+static bool compare_copies(const struct given *source, uint64_t kind, uint64_t place, uint64_t *answer)
+{
+    uint64_t needed;
+
+    return compare_copy(source, kind, place, 0, &needed) &&
+           compare_copy(source, kind, place, some_room(HESSIAN_COUNT(needed)), answer) &&
+           compare_copy(source, kind, place, HESSIAN_COUNT(needed), answer);
+}
+
+/* What a row names; where it is a row of the source, it says how many bytes that has. */
+static bool compare_named(const struct given *source, hessian_row row, bool of_source)
+{
+    uint64_t answer, size = row.kind == HESSIAN_BYTES ? row.first : row.second;
+
+    if (!compare_copies(source, row.kind, row.place, &answer))
+        return false;
+    if (of_source && answer != packed_answer(HESSIAN_ACCEPTED, size, 0))
+        return differ("a row says another size than its content has", answer, size);
+    return true;
+}
+
+static bool has_content(uint64_t kind)
+{
+    return kind == HESSIAN_TEXT || kind == HESSIAN_BYTES || (kind >= HESSIAN_CLASS_NAME && kind <= HESSIAN_TYPE_NAME);
+}
+
+/* A place of the source or just behind it, and mostly a kind that has content; now and then numbers far from any. */
+static bool compare_somewhere(const struct given *source)
+{
+    uint64_t kind = pick(2) == 0 ? HESSIAN_TEXT : HESSIAN_BYTES, place = pick(source->len + 2), answer;
+
+    if (pick(4) == 0)
+        kind = pick(HESSIAN_TYPE_NUMBER + 2);
+    if (pick(32) == 0)
+        kind = UINT64_MAX - pick(2);
+    if (pick(32) == 0)
+        place = UINT64_MAX - pick(3);
+    return compare_copies(source, kind, place, &answer);
+}
+
+/* Contents of the first `rows` rows that have some, which are those of the source or not, and of some places. */
+static bool compare_contents(const struct input *in, size_t rows, bool of_source)
+{
+    struct given source = give(&message_fence, in->source, in->source_len);
+    bool same = true;
+    size_t i;
+
+    for (i = 0; same && i < rows; i++) {
+        hessian_row row = hessian_row_at(in->table, i);
+
+        if (has_content(row.kind))
+            same = compare_named(&source, row, of_source);
+    }
+    for (i = 0; same && i < SOME_PLACES; i++)
+        same = compare_somewhere(&source);
+    return take_back(&source) ? same : differ("the source is changed", 0, 0);
 }
 
 /* ---- messages */
@@ -316,7 +426,8 @@ static bool compare_message(const uint8_t *data, size_t size)
     if (!same || !compare_read(data, size, rows * ROW_SIZE, &table, &answer))
         return false;
     in.table = table;
-    if (HESSIAN_NUMBER(answer) == 0)
+    same = compare_contents(&in, HESSIAN_NUMBER(answer) == 0 ? rows : 0, true);
+    if (same && HESSIAN_NUMBER(answer) == 0)
         same = compare_writes(&in, &shortest, &written) && check_shortest(&in, shortest, HESSIAN_COUNT(written)) &&
                compare_after(&in) && compare_altered(&in);
     free(shortest);
@@ -332,7 +443,8 @@ static bool compare_packed(const struct packed *p)
     bool same;
 
     unpack_rows(p, table);
-    same = compare_writes(&in, NULL, &answer);
+    same = compare_writes(&in, NULL, &answer) &&
+           compare_contents(&in, p->rows < PACKED_NAMES ? p->rows : PACKED_NAMES, false);
     free(table);
     return same;
 }

@@ -7,7 +7,7 @@
 #include <stdlib.h>
 #include <string.h>
 
-#include "../record.h"
+#include "../hessian/record.h"
 #include "packed.h"
 
 enum { MOST = 60000 };

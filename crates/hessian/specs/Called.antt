@@ -5,7 +5,9 @@ use Prim.Native.Nat.{ℕ, _+_, _*_, _/_, _%_, _^_, _≤_}
 use native.Mathlib.Omega.{arith}
 use lib.ListN.{length}
 use Rattle.flow.specs.Flow.{Report}
-use Rattle.record.specs.Model.Claims.{contentAt}
+use Rattle.record.specs.Model.Claims.{contentOf, contentAt}
+use Rattle.record.specs.Laws.NamedContents.{named-content}
+use Rattle.scalar.specs.AnswerLaws.{report-stored, output-some}
 use Rattle.record.specs.Model.Answers.{base, baseOpenFrom, asNumbers, asBytes, lentRows, readReport, writeReport}
 use Rattle.record.specs.Model.Calls.{ReadCall, WriteCall}
 use Rattle.record.specs.Laws.Bounds.{answer-small, written-small, written-place}
@@ -86,3 +88,10 @@ hessian-copies s₁ t₁ n₁ o₁ a₁ o₁′ g₁ z₁ s₂ t₂ n₂ o₂ a�
 
 pub hessian-skips : demands.HessianSkips
 hessian-skips = of-bytes .skipping
+
+pub hessian-contents : demands.HessianContents
+hessian-contents s x i claims names o r o′ g l =
+    let e = named-content s (x .kind) (x .place) names ∙ claims .content in (
+      g .report ∙ rw e (report-stored (length o) 0 (contentOf i) (omega arith)),
+      g .output ∙ rw e (output-some o 0 (contentOf i)),
+    )

@@ -1,9 +1,13 @@
 -- The demands, of each public function that reads or writes whole messages: instances of record's theorem
 -- (Theorems/Demands.antt), for 01's limits and threshold. A call is what its function promises: ReadCall and WriteCall
 -- of the answer's report, and for C ReadGives and WriteGives (Packed.antt). The proofs are in Called.antt.
-use mathlib.Core.{Path._≡_, Logic._↔_, List.List}
+use mathlib.Core.{Path._≡_, Logic._↔_, Bool.true, List.List}
 use Prim.Native.Nat.{ℕ, _≤_}
 use lib.ListN.{length, take}
+use Rattle.flow.specs.Flow.{stored}
+use Rattle.record.specs.Model.Items.{Item}
+use Rattle.record.specs.Model.Rows.{Row}
+use Rattle.record.specs.Model.Claims.{contentOf, contentAt, namesContent, Claims}
 use Rattle.record.specs.Model.Answers.{base, baseOpenFrom, asNumbers, asBytes, lentRows, rowsOf}
 use Rattle.record.specs.Model.Same.{SameRecord}
 use Rattle.record.specs.Model.Hops.{Skippable}
@@ -13,7 +17,8 @@ use Rattle.reader.specs.declared.ReadAnswer.{ReadAnswer}
 use Rattle.reader.specs.Answers as reader
 use Rattle.writer.specs.declared.WriteAnswer.{WriteAnswer}
 use Rattle.writer.specs.Answers as writer
-use Rattle.hessian.specs.Packed.{unpacked, ReadGives, WriteGives}
+use Rattle.hessian.specs.declared.HessianAnswer.{HessianAnswer}
+use Rattle.hessian.specs.Packed.{unpacked, answer, told, ReadGives, WriteGives, ContentGives}
 
 -- ---- reader::read and writer::write, on tables of numbers
 abbrev pub OfReaderRead : Type 0
@@ -79,3 +84,10 @@ HessianCopies = (s₁ t₁ : List ℕ) (n₁ : ℕ) (o₁ : List ℕ) (a₁ : �
 abbrev pub HessianSkips : Type 0
 HessianSkips = (s t : List ℕ) (n : ℕ) (m : List ℕ) (x : RecordOf base asBytes s t n m)
     → Skippable (rowsOf asBytes n t) (x .record-of)
+
+-- ---- hessian_content: where a row claims an item and names a content, it is that item's, whole
+abbrev pub HessianContents : Type 0
+HessianContents = (s : List ℕ) (x : Row) (i : Item) → Claims (contentAt s) x i → namesContent (x .kind) ≡ true
+    → (o : List ℕ) (r : HessianAnswer) (o′ : List ℕ) → ContentGives s (x .kind) (x .place) o r o′
+    → length (contentOf i) ≤ length o
+    → (told r ≡ answer 0 (length (contentOf i)) 0) × (o′ ≡ stored o 0 (contentOf i))

@@ -2,9 +2,13 @@
 use mathlib.Core.Path.{_≡_}
 use mathlib.Core.List.{List}
 use Prim.Native.Nat.{ℕ, _+_, _*_, _/_, _%_, _^_}
+use lib.ListN.{length}
 use Rattle.flow.specs.Flow.{Report}
+use Rattle.scalar.specs.Answers.{reportOf, outputOf}
+use Rattle.record.specs.Model.Claims.{namedContent}
 use Rattle.record.specs.Model.Answers.{base, baseOpenFrom, asBytes}
 use Rattle.record.specs.Model.Calls.{ReadCall, WriteCall}
+use Rattle.hessian.specs.declared.HessianAnswer.{HessianAnswer}
 
 abbrev pub answer : ℕ → ℕ → ℕ → Report
 answer number count place = record { number = number; count = count; place = place }
@@ -28,3 +32,13 @@ pub record WriteGives (s t : List ℕ) (n : ℕ) (o : List ℕ) (a : ℕ) (o′ 
   pub report : Report
   pub call : WriteCall base baseOpenFrom asBytes s t n o report o′
   pub as-one : a ≡ packed report
+
+-- ---- the functions that answer number, count and place as a struct
+abbrev pub told : HessianAnswer → Report
+told r = answer (r .number) (r .count) (r .place)
+
+-- hessian_content of the source s, a row's kind k and place p and the output o answers r and leaves the output o′:
+-- accepted are 0, the bytes of the content, 0; 9 counts the bytes needed; 10 where the row names no content
+pub record ContentGives (s : List ℕ) (k p : ℕ) (o : List ℕ) (r : HessianAnswer) (o′ : List ℕ) : Type 0 where
+  pub report : told r ≡ reportOf (namedContent s k p) (length o) 0
+  pub output : o′ ≡ outputOf (namedContent s k p) o 0

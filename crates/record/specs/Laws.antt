@@ -9,6 +9,7 @@ pub mod HopLaws
 pub mod KnownArray
 pub mod Meaning
 pub mod Nesting
+pub mod NamedContents
 pub mod Numbering
 pub mod Parses
 pub mod Places

@@ -47,6 +47,11 @@ sizes k cs = sized (units k cs) (length cs)
 unfoldable pub measuredAt : Encoding → List ℕ → ℕ → Answer Sizes
 measuredAt k m p = renamed (sizes k) (stringAt k m p)
 
+-- ---- the content of a text or byte string, if one was read
+abbrev pub contentRead : Answer (List ℕ) → Option (List ℕ)
+contentRead (Done n cs es c) = some cs
+contentRead (Fault x o) = none
+
 -- ---- the shortest form of the text or byte string at the place p of the message m, if one stands there
 abbrev pub formOf : Encoding → Answer (List ℕ) → Option (List ℕ)
 formOf k (Done n cs es c) = shortestString k cs

@@ -1,4 +1,5 @@
 // The shortest form of a text or byte string at a place of a source: its length, and the form stored in a lent slice.
+// Its content, stored in a lent slice.
 use scalar::Encoding;
 use scalar::Written;
 use texts::ChunkRead;
@@ -9,9 +10,9 @@ ghost use Prim.Native.Nat.{_+_, _^_, _≤_, _<_, min};
 ghost use lib.ListN.{length, getD, take, drop};
 ghost use Rattle.flow.specs.Flow.{stored};
 ghost use Rattle.scalar.specs.declared.Encoding.the-variants as Encoding;
-ghost use Rattle.scalar.specs.Scalars.{weight as weightOf, partHead, lastHeads, shortestHead};
+ghost use Rattle.scalar.specs.Scalars.{weight as weightOf, partHead, lastHeads, shortestHead, stringAt};
 ghost use Rattle.scalar.specs.Decoded.{pairIn};
-ghost use Rattle.scalar.specs.Answers.{report, reportOf, outputOf, lengthOf, itemForm, sizedForm};
+ghost use Rattle.scalar.specs.Answers.{report, reportOf, outputOf, lengthOf, contentRead, itemForm, sizedForm};
 ghost use Rattle.texts.specs.Answers.{Joining};
 ghost use Rattle.text_writer.specs.Writing.{window, bytesLeft, Opens, Going, singlesAt, pairAt, NextMet};
 ghost use Rattle.text_writer.specs.Writing.{Copyable, CopyMet, HeadsOf, laid as laidOf, Item, FoundMet, Lays};
@@ -678,7 +679,30 @@ pub fn write_string(kind: Encoding, source: &[u8], at: usize, out: &mut [u8], to
     }
 }
 
-// The same, if the string has so many units and bytes.
+// The content of the string at the place `at` of the source, its chunks joined, in `out`: stored whole or not at all.
+pub fn write_content(kind: Encoding, source: &[u8], at: usize, out: &mut [u8]) -> Written
+    ensures { λ r. ⌜
+        (report r ≡ reportOf (contentRead (stringAt kind (now (source .entry)) at)) (length (now (out .entry))) 0)
+        × (now (out .exit) ≡ outputOf (contentRead (stringAt kind (now (source .entry)) at)) (now (out .entry)) 0)
+        ⌝ }
+{
+    match find(kind, source, at) {
+        Found::Nothing => Written::NoSuchForm,
+        Found::There {
+            first,
+            units,
+            bytes,
+        } => {
+            if out.len() < bytes {
+                return Written::NoRoom { needed: bytes };
+            }
+            copy(kind, source, first, units, out, 0);
+            Written::Stored { size: bytes }
+        }
+    }
+}
+
+// The shortest form, if the string has so many units and bytes.
 pub fn write_sized(
     kind: Encoding,
     source: &[u8],

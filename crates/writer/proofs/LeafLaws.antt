@@ -18,7 +18,7 @@ use Rattle.scalar.specs.ScalarLaws.{number-shortest, string-shortest}
 use Rattle.record.specs.Model.Items.{Value, Leaf, UntypedList, TypedList, UntypedMap, TypedMap, Object, Reference, Item}
 use Rattle.record.specs.Model.Items.{Val, Definition, ClassName, FieldName, TypeName, TypeNumber}
 use Rattle.record.specs.Model.Rows.{Row, itemRow}
-use Rattle.record.specs.Model.Claims.{contentRead}
+use Rattle.scalar.specs.Answers.{contentRead}
 use Rattle.record.specs.Model.Shortest.{value?}
 use Rattle.record.specs.Model.Answers.{base}
 use Rattle.record.specs.Laws.Claimed.{itemAt, claims-back}

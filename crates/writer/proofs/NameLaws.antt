@@ -12,9 +12,8 @@ use Rattle.flow.specs.Flow.{Done, Fault}
 use Rattle.flow.specs.Tests.{by-cases}
 use Rattle.scalar.specs.declared.Encoding.{Encoding}
 use Rattle.scalar.specs.Scalars.{units, stringAt, shortestString}
-use Rattle.scalar.specs.Answers.{sizedForm}
+use Rattle.scalar.specs.Answers.{contentRead, sizedForm}
 use Rattle.scalar.specs.AnswerLaws.{sized-fault, sized-both, sized-other-units, sized-other-bytes}
-use Rattle.record.specs.Model.Claims.{contentRead}
 use Rattle.writer.specs.declared.puts.Put.{Put}
 use Rattle.writer.specs.declared.puts.Put.the-variants as put
 use Rattle.writer.specs.Contracts.{PutMet, ContentAt, StringMet}

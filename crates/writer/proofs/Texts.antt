@@ -10,7 +10,7 @@ use Rattle.flow.specs.Tests.{by-cases}
 use Rattle.scalar.specs.declared.Encoding.the-variants.{Utf8}
 use Rattle.scalar.specs.Scalars.{units, stringAt, shortestText}
 use Rattle.record.specs.Model.Items.{Item}
-use Rattle.record.specs.Model.Claims.{contentRead}
+use Rattle.scalar.specs.Answers.{contentRead}
 use Rattle.record.specs.Laws.Claimed.{itemAt}
 use Rattle.record.specs.ForWriter.RowItems.{OfText, text-lost, text-item, text-other-units, text-other-length}
 use Rattle.record.specs.declared.Row as code

@@ -21,7 +21,7 @@ use Rattle.record.specs.Model.Kinds.{bytes-kind, list-kind, map-kind, object-ki
 use Rattle.record.specs.Model.Kinds.{class-name-kind, field-name-kind}
 use Rattle.record.specs.Model.Items.{Value, Item, Val, Definition, Known}
 use Rattle.record.specs.Model.Rows.{Row, row, span}
-use Rattle.record.specs.Model.Claims.{contentRead}
+use Rattle.scalar.specs.Answers.{contentRead}
 use Rattle.record.specs.Model.Shortest.{putThen, putMany, putBytes, putIf, className?, fieldName?, putName, putOpen}
 use Rattle.record.specs.Model.Shortest.{putList}
 use Rattle.record.specs.Model.Shortest.{objectCode, putType, putDefinition, putValue}

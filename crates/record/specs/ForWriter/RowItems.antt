@@ -18,11 +18,11 @@ use Rattle.scalar.specs.declared.Encoding.{Encoding}
 use Rattle.scalar.specs.declared.Encoding.the-variants.{Utf8, Binary}
 use Rattle.scalar.specs.Scalars.{units, stringAt, shortestString, Num, Str, sortKind}
 use Rattle.scalar.specs.Answers.{Sizes, sized, sizes, measuredAt}
-use Rattle.scalar.specs.Answers.{itemForm, formOf}
+use Rattle.scalar.specs.Answers.{contentRead, itemForm, formOf}
 use Rattle.record.specs.Model.Items.{Leaf, UntypedList, TypedList, UntypedMap, TypedMap, Object, Reference, Item}
 use Rattle.record.specs.Model.Items.{Val, Definition, ClassName, FieldName, TypeName, TypeNumber}
 use Rattle.record.specs.Model.Rows.{Row, row, itemRow}
-use Rattle.record.specs.Model.Claims.{contentRead, contentAt}
+use Rattle.record.specs.Model.Claims.{contentAt}
 use Rattle.record.specs.Laws.Claimed.{ofKind, itemAt, claims-back}
 use Rattle.flow.specs.Flow.{onSome}
 

@@ -1,10 +1,11 @@
 -- What the rows of a table claim: the items whose rows they are, with the contents that their places open.
-use mathlib.Core.{Path._≡_, Bool._||_, List.List, List.[], List._∷_, List.map, Option.Option, Option.none, Option.some}
+use mathlib.Core.{Path._≡_, Bool.Bool, Bool._||_, List.List, List.[], List._∷_, List.map, Option.Option, Option.none, Option.some}
 use Prim.Native.Nat.{ℕ}
 use lib.Dec.{eqb}
-use Rattle.flow.specs.Flow.{pick, within, Outcome, Done, Fault, One}
+use Rattle.flow.specs.Flow.{pick, within}
 use Rattle.scalar.specs.declared.Encoding.the-variants.{Utf8, Binary}
 use Rattle.scalar.specs.Scalars.{stringAt, Num, Str}
+use Rattle.scalar.specs.Answers.{contentRead}
 use Rattle.record.specs.Model.Kinds.{text-kind, bytes-kind, class-name-kind, type-number-kind}
 use Rattle.record.specs.Model.Items.{Value, Leaf, UntypedList, TypedList, UntypedMap, TypedMap, Object, Reference}
 use Rattle.record.specs.Model.Items.{Item, Val, Definition, ClassName, FieldName, TypeName, TypeNumber}
@@ -33,17 +34,24 @@ contentOf (TypeNumber k) = []
 abbrev pub ContentMap : Type 0
 ContentMap = ℕ → ℕ → Option (List ℕ)
 
-abbrev pub contentRead : Outcome One One (List ℕ) → Option (List ℕ)
-contentRead a = elim a [ Done n cs es c ↦ some cs | Fault x o ↦ none ]
+-- the rows of a text and of names (the kinds from a class name's to below a type number's)
+abbrev pub isTextKind : ℕ → Bool
+isTextKind k = eqb k text-kind || within class-name-kind type-number-kind k
 
--- in a source of messages: a text or a name (the kinds from a class name's to below a type number's) has the text that
--- its place opens, a byte string its bytes, the others an empty content; none where no complete text or byte string is
--- opened there
+-- in a source of messages: a text or a name has the text that its place opens, a byte string its bytes, the others an
+-- empty content; none where no complete text or byte string is opened there
 unfoldable pub contentAt : List ℕ → ContentMap
 contentAt source k p =
     pick (eqb k bytes-kind) (contentRead (stringAt Binary source p))
-    (pick (eqb k text-kind || within class-name-kind type-number-kind k) (contentRead (stringAt Utf8 source p))
+    (pick (isTextKind k) (contentRead (stringAt Utf8 source p))
     (some []))
+
+-- the text or byte string that a row names: none where its kind is another's
+abbrev pub namesContent : ℕ → Bool
+namesContent k = eqb k bytes-kind || isTextKind k
+
+unfoldable pub namedContent : List ℕ → ContentMap
+namedContent source k p = pick (namesContent k) (contentAt source k p) none
 
 -- a row claims an item: it is the item's row at its own place, which has the item's content
 abbrev pub Claims : ContentMap → Row → Item → Type 0

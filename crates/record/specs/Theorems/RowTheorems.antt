@@ -15,6 +15,7 @@ use Rattle.scalar.specs.declared.Sort.the-variants as sort
 use Rattle.scalar.specs.declared.Encoding.{Encoding}
 use Rattle.scalar.specs.declared.Encoding.the-variants.{Utf8, Binary}
 use Rattle.scalar.specs.Scalars.{stringFrom, stringAt, Num, Str}
+use Rattle.scalar.specs.Answers.{contentRead}
 use Rattle.scalar.specs.Grammar.{String, Spelt, a-string}
 use Rattle.scalar.specs.TextLaws.{string-makes}
 use Rattle.record.specs.Model.Items.{Leaf, UntypedList, TypedList, UntypedMap, TypedMap, Object, Reference, Item}
@@ -22,7 +23,7 @@ use Rattle.record.specs.Model.Items.{Val, Definition, ClassName, FieldNa
 use Rattle.record.specs.Model.Items.{Limits}
 use Rattle.record.specs.Model.Reading.{message}
 use Rattle.record.specs.Model.Rows.{Row, itemRow, rowsFrom, rows}
-use Rattle.record.specs.Model.Claims.{contentOf, contentRead, contentAt, ClaimItems, no-rows, a-row, ClaimAll}
+use Rattle.record.specs.Model.Claims.{contentOf, contentAt, ClaimItems, no-rows, a-row, ClaimAll}
 use Rattle.record.specs.Laws.RowLaws.{item-moved}
 use Rattle.record.specs.Model.Shortest.{spell}
 use Rattle.record.specs.Model.Answers.{judged, shortestOf, Wrote}

@@ -1,0 +1,185 @@
+/* copies: says which record files are true copies, by their shortest forms. Nothing is changed or deleted. */
+#include <stdio.h>
+#include <string.h>
+#include <time.h>
+
+#include "command.h"
+#include "files.h"
+#include "interrupt.h"
+#include "lines.h"
+#include "list.h"
+#include "options.h"
+#include "sums.h"
+#include "verdicts.h"
+
+enum { BY_SIGNAL = 128 }; /* a status from here on says which signal ended the run, as a shell does */
+
+static const char help[] =
+    "usage: hessian copies [OPTION]... NAME...\n"
+    "\n"
+    "Says which Hessian 2.0 records are true copies of another: those whose shortest forms are the same,\n"
+    "byte for byte. NAME is a record file, a folder (every regular file in it and its folders, by name;\n"
+    "links are passed over), or - for names on standard input, one a line. Nothing is changed or deleted.\n"
+    "\n"
+    "One line a file, in the order given:\n"
+    "    kept NAME SHORTEST_BYTES             the first of its kind\n"
+    "    copy NAME OF                         the same record as the file OF, which was kept\n"
+    "    refused NAME NUMBER PLACE REASON     no record: hessian.h has the numbers; PLACE is a byte of the file\n"
+    "A name with spaces, quotes, backslashes or unseen characters is in double quotes, with \\\" \\\\ \\n \\r \\t,\n"
+    "\\u{HEX} for a character and \\xHH for a byte that is not UTF-8.\n"
+    "The last lines have the sums. Bytes in: of all records. Bytes gained by removing copies: those of their\n"
+    "files. Bytes gained by rewriting: if each kept record is stored in its shortest form. Bytes saved: both.\n"
+    "Failed: what could not be read, or changed while it was compared. Repeated: names of files met before,\n"
+    "by this or another name, such as hard links; a file is no copy of itself. Links: symbolic links that\n"
+    "were named; they are passed over and never called a copy, but a link to a folder is looked into.\n"
+    "\n"
+    "    --only=STATE[,STATE]...  of the lines only those that begin with kept, copy or refused\n"
+    "    --print0          names alone, each with a zero byte after it, and no sums: for xargs -0; needs --only\n"
+    "    --pairs           after each name that of the kept file; needs --print0 and --only=copy\n"
+    "    -q, --summary     the sums alone\n"
+    "    --json            a JSON object a line: state is kept, copy, refused, total, or repeated, link, failed,\n"
+    "                      changed (while we ran); a byte of a name that is not UTF-8 is \\udcHH\n"
+    "    --include=GLOB    only files that match this, or another such, glob\n"
+    "    --exclude=GLOB    no files that match this glob, nor what is in folders that do, but for those named.\n"
+    "                      Both hold for files in folders, in lists and named. A glob is matched with what\n"
+    "                      follows the last slash of a name, or with the whole where it has a slash itself;\n"
+    "                      * stands for slashes too\n"
+    "    -0                names on standard input end with a zero byte, as those of find -print0\n"
+    "    --time            say on standard error how long it took, and how much of it in the library\n"
+    "    -h, --help        this page\n"
+    "    --                what follows is no option\n"
+    "\n"
+    "SIGINT and SIGTERM end it after a whole line. The sums are then those of the lines so far, which a line\n"
+    "`interrupted: partial sums` says, or \"partial\":true.\n"
+    "\n"
+    "Status: 0 all were read, 1 some were refused, 2 wrong usage, or a file could not be read or changed, or\n"
+    "the lines could not be written; 130 after SIGINT, 143 after SIGTERM.\n";
+
+/* ---- names, and what they stand for */
+
+/* What the visits of names and of files need. */
+struct errand {
+    struct run *run;
+    struct visitor visitor;
+    const struct filter *filter;
+};
+
+static void hand_file(void *context, const struct place *place)
+{
+    struct errand *e = context;
+
+    hand_over(&e->run->workers, place, false, NULL);
+}
+
+static void hand_link(void *context, const char *name)
+{
+    struct errand *e = context;
+    struct place place = {name, 0, NULL};
+
+    hand_over(&e->run->workers, &place, true, NULL);
+}
+
+static void hand_failure(void *context, const char *name, const char *why)
+{
+    struct errand *e = context;
+    struct place place = {name, 0, NULL};
+
+    hand_over(&e->run->workers, &place, false, why);
+}
+
+static bool ended(void *context)
+{
+    (void)context;
+    return stopped();
+}
+
+static void take_name(void *context, const char *name)
+{
+    struct errand *e = context;
+
+    each_file(name, e->filter, &e->visitor);
+}
+
+/* Who gives names one by one sees what came of each before giving the next. */
+static void take_stock(void *context)
+{
+    struct errand *e = context;
+
+    hand_all_back(&e->run->workers);
+    fflush(stdout);
+}
+
+static void take_names(struct run *run, const struct options *o, char **names)
+{
+    struct errand e = {run, {hand_file, hand_link, hand_failure, ended, NULL}, &o->filter};
+    struct list_reader reader = {take_name, hand_failure, take_stock, ended, &e};
+
+    e.visitor.context = &e;
+    for (; *names != NULL && !stopped(); names++)
+        if (strcmp(*names, "-") == 0)
+            each_listed(o->end, &reader);
+        else
+            take_name(&e, *names);
+    if (!stopped())
+        hand_all_back(&run->workers);
+}
+
+/* ---- the run */
+
+static double now(void)
+{
+    struct timespec t;
+
+    clock_gettime(CLOCK_MONOTONIC, &t);
+    return (double)t.tv_sec + (double)t.tv_nsec * 1e-9;
+}
+
+static int status(const struct totals *t)
+{
+    if (t->partial)
+        return BY_SIGNAL + signal_met();
+    if (t->failed > 0)
+        return TROUBLE;
+    return t->refused > 0 ? REFUSED : DONE;
+}
+
+static void print_time(struct run *run, double start)
+{
+    fprintf(stderr, "hessian copies: %.3f s, %.3f s of work in the library, %llu earlier files read again\n",
+            now() - start, library_seconds(&run->workers) + run->earlier.seconds, (unsigned long long)run->read_again);
+}
+
+static int copies_of_names(const struct command *self, const struct options *o, char **names)
+{
+    double start = now();
+    struct run run;
+    int answer;
+
+    begin_lines(&o->layout);
+    watch_signals();
+    start_run(&run);
+    take_names(&run, o, names);
+    run.totals.partial = signal_met() != 0;
+    end_progress();
+    if (!o->layout.names)
+        print_totals(&run.totals, o->layout.json);
+    print_passed_over(&run.totals);
+    if (o->time)
+        print_time(&run, start);
+    answer = finished(self, status(&run.totals));
+    end_run(&run);
+    return answer;
+}
+
+static int run_copies(const struct command *self, int argc, char **argv)
+{
+    struct options o;
+    int answer = parse_options(&o, self, argc, argv);
+
+    if (answer == DONE)
+        answer = o.help ? print_help(self) : copies_of_names(self, &o, argv + o.names);
+    free_options(&o);
+    return answer;
+}
+
+const struct command copies_command = {"copies", "which record files are copies of another", help, run_copies};

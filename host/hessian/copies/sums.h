@@ -1,0 +1,34 @@
+/* The sums of a run, and progress for a person who waits. */
+#ifndef SUMS_H
+#define SUMS_H
+
+#include <stdbool.h>
+#include <stdint.h>
+
+struct totals {
+    uint64_t records; /* distinct, copies and refused */
+    uint64_t distinct;
+    uint64_t copies;
+    uint64_t refused;
+    uint64_t bytes_in;
+    uint64_t bytes_of_copies;    /* gained by removing them */
+    uint64_t bytes_by_rewriting; /* gained, of records kept */
+    uint64_t repeated;           /* names of files met before */
+    uint64_t links;              /* names of symbolic links */
+    uint64_t failed;             /* names that could not be used, and records that changed meanwhile */
+    bool partial;                /* the run was ended before it was done */
+};
+
+/* The last lines of standard output. */
+void print_totals(const struct totals *t, bool json);
+
+/* What was passed over, on standard error: one line for all names of a kind. */
+void print_passed_over(const struct totals *t);
+
+/* On standard error, where that is a terminal, from the thousandth file on. */
+void show_progress(const struct totals *t);
+
+/* Takes it off the terminal. */
+void end_progress(void);
+
+#endif

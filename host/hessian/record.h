@@ -1,0 +1,64 @@
+/* A record file: its bytes, its rows, and its shortest form, all by the library. */
+#ifndef RECORD_H
+#define RECORD_H
+
+#include <stdbool.h>
+#include <stddef.h>
+#include <stdint.h>
+
+/* Which file it is, whatever its name, and when it last changed, in nanoseconds since 1970. */
+struct stamp {
+    uint64_t device, inode;
+    int64_t modified; /* its bytes */
+    int64_t changed;  /* anything about it */
+};
+
+/* Buffers are allocated once, and hold one file after another. */
+struct record {
+    uint8_t *message;   /* the file's bytes; one past HESSIAN_LONGEST tells that it is too long */
+    size_t len;         /* bytes read */
+    uint64_t size;      /* bytes of the file, also where it is too long */
+    struct stamp stamp; /* its inode is 0 where it is no regular file */
+    unsigned number;    /* of the refusal; 0 if it was accepted */
+    size_t place;       /* of the refusal */
+    bool by_writer;     /* the refusal is the writer's, which cannot be */
+    uint8_t *table;     /* HESSIAN_LONGEST rows */
+    size_t rows;
+    uint8_t *shortest;  /* HESSIAN_LONGEST bytes */
+    size_t shortest_len;
+    double seconds;     /* spent in the library, for all files so far */
+};
+
+/* False where there is no memory. */
+bool new_record(struct record *r);
+
+/* The same with no table, which is to be lent before each rewrite and taken back after it. */
+bool new_record_lent_table(struct record *r);
+
+/* A table of HESSIAN_LONGEST rows to lend, or NULL. */
+uint8_t *new_table(void);
+
+void free_record(struct record *r);
+
+/* Reads a file. NULL, or why it cannot be read. */
+const char *load_file(struct record *r, const char *name);
+
+/* The same by its name in an open folder, or AT_FDCWD; a link is not followed, and only a regular file is read. */
+const char *load_at(struct record *r, int folder, const char *name);
+
+/* The same from an open file; nothing is known of its device and inode where it is no regular file. */
+const char *load_descriptor(struct record *r, int descriptor);
+
+/* Reads the message into rows and rewrites it; number, place, rows and the shortest form say what came of it. */
+void rewrite(struct record *r);
+
+/* The stamp of the regular file that a name, not a link, stands for; false where there is none. */
+bool stamp_now(const char *name, struct stamp *stamp);
+
+/* Why a pipe, a device or the like is not read. */
+extern const char not_regular[];
+
+/* Why a file or folder cannot be used, from errno. */
+const char *why_not(int error);
+
+#endif
