@@ -247,24 +247,6 @@ static void check_message(const uint8_t *message, size_t len)
     end_source(&s);
 }
 
-static void check_vectors(const char *name)
-{
-    char *text = read_file(name), *rest = text, *line;
-    uint8_t *message = allocate(MOST_MESSAGE);
-    size_t len;
-
-    while ((line = next_line(&rest)) != NULL) {
-        const char *end = line;
-        uint64_t lent;
-
-        if (!decimal(&end, UINT64_MAX, &lent) || !groups(&end, message, &len) || *end != '\0')
-            give_up("no case:", line);
-        check_message(message, len);
-    }
-    free(text);
-    free(message);
-}
-
 static void check_random(unsigned long count)
 {
     struct maker m;
@@ -654,7 +636,7 @@ int main(int argc, char **argv)
     check_all_pairs();
     check_characters();
     check_pieces();
-    check_vectors(argv[1]);
+    each_message(argv[1], check_message);
     check_random(argc > 2 ? strtoul(argv[2], NULL, 10) : 4000);
     printf("check_content: %lu cases, %lu differences\n", cases, differences);
     return differences == 0 ? 0 : 1;

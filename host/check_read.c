@@ -1,17 +1,18 @@
 /*
- * Checks hessian_read from C.
+ * Checks hessian_read and hessian_read_thousandths from C.
  *
  *     check_read CASES EXPECTED [COUNT [SEED]]
  *
  * CASES and EXPECTED are stdin and stdout of record_vectors; crates/record_vectors/vectors.py says what their lines
- * mean. After them come COUNT random messages, valid and damaged, from SEED. In each case hessian_read and baseline_read
- * get the same message and the same table between guard bytes, at any alignment. Checked is that
+ * mean. After them come COUNT random messages, valid and damaged, from SEED. Each is read by both rules of 5f: library
+ * and baseline get the same message and the same table between guard bytes, at any alignment. Checked is that
  *   - answer and checksum are those of EXPECTED;
  *   - both readers give the same answer and leave the same bytes;
+ *   - both rules give the same answer and the same rows, but for the bits of doubles at a 5f;
  *   - the fifth numbers of accepted rows are those that kinds and counts give, and lead through the record;
  *   - the guards, the message, the bytes past the rows accepted and, after a refusal, the whole table are unchanged.
  *
- * Compiled with SELF, baseline_read stands in for the library.
+ * Compiled with SELF, the baseline stands in for the library.
  */
 #include <inttypes.h>
 #include <stdbool.h>
@@ -27,6 +28,7 @@
 
 #ifdef SELF
 #define hessian_read baseline_read
+#define hessian_read_thousandths baseline_read_thousandths
 #endif
 
 enum {
@@ -37,6 +39,14 @@ enum {
 const char *const check_name = "check_read";
 
 static unsigned long cases, differences;
+
+/* The rules of 5f. */
+enum { FLOAT, THOUSANDTHS, RULES };
+
+typedef uint64_t reading(const uint8_t *message, size_t message_len, uint8_t *table, size_t table_len);
+
+static reading *const library[RULES] = {hessian_read, hessian_read_thousandths};
+static reading *const baseline[RULES] = {baseline_read, baseline_read_thousandths};
 
 /* Byte i of a table before a call. Number k is 0xb1a0000000000000 + k; part of one may stand at the end. */
 static uint8_t table_byte(size_t i)
@@ -89,49 +99,99 @@ static bool ends_right(const uint8_t *table, size_t rows)
     return right;
 }
 
-/*
- * Reads a message with both readers. `expected` is the line of EXPECTED, or NULL; its checksum is over the first `lent`
- * numbers of the table.
- */
-static uint64_t try_message(const uint8_t *source, size_t len, size_t table_len, size_t lent, const char *expected)
+/* What a reading left. */
+struct result {
+    uint64_t answer;
+    struct lent table;
+};
+
+/* Reads a message with both readers by one rule: what the library left. */
+static struct result try_rule(unsigned rule, const uint8_t *source, size_t len, size_t table_len)
 {
     size_t shift = cases % 8;
-    struct lent one = new_lent(table_len, shift, table_byte), two = new_lent(table_len, shift, table_byte);
+    struct result r = {0, new_lent(table_len, shift, table_byte)};
+    struct lent two = new_lent(table_len, shift, table_byte);
     /* a block that ends with the message, so that a memory checker sees any read past its end */
     uint8_t *block = allocate(len + cases % 3), *message = block + cases % 3;
-    uint64_t answer, other;
+    uint64_t other;
     char what[300];
 
     memcpy(message, source, len);
-    answer = hessian_read(message, len, lent_bytes(&one), table_len);
+    r.answer = library[rule](message, len, lent_bytes(&r.table), table_len);
     if (memcmp(message, source, len) != 0)
         show_difference("the message is changed", source, len, table_len);
-    other = baseline_read(message, len, lent_bytes(&two), table_len);
-    if (answer != other) {
-        snprintf(what, sizeof what, "library %u %zu %zu, baseline %u %zu %zu", number_of(answer), count_of(answer),
-                 place_of(answer), number_of(other), count_of(other), place_of(other));
+    other = baseline[rule](message, len, lent_bytes(&two), table_len);
+    if (r.answer != other) {
+        snprintf(what, sizeof what, "library %u %zu %zu, baseline %u %zu %zu", number_of(r.answer), count_of(r.answer),
+                 place_of(r.answer), number_of(other), count_of(other), place_of(other));
         show_difference(what, source, len, table_len);
-    } else if (!alike(&one, &two)) {
+    } else if (!alike(&r.table, &two)) {
         show_difference("library and baseline leave different bytes", source, len, table_len);
     }
-    if (!kept(&one, number_of(answer) == 0 ? count_of(answer) * ROW_SIZE : 0))
+    if (!kept(&r.table, number_of(r.answer) == 0 ? count_of(r.answer) * ROW_SIZE : 0))
         show_difference("the library changes bytes that must stay", source, len, table_len);
-    if (number_of(answer) == 0 && !ends_right(lent_bytes(&one), count_of(answer)))
-        show_difference("a fifth number is wrong", source, len, table_len);
-    if (expected != NULL) {
-        char line[120];
-
-        snprintf(line, sizeof line, "%u %zu %zu %" PRIu64 " ok", number_of(answer), count_of(answer), place_of(answer),
-                 checksum(lent_bytes(&one), lent));
-        if (strcmp(line, expected) != 0) {
-            snprintf(what, sizeof what, "library %s, expected %.100s", line, expected);
-            show_difference(what, source, len, table_len);
-        }
-    }
     cases++;
     free(block);
-    free(one.block);
     free(two.block);
+    return r;
+}
+
+/* Whether rows are the same by both rules, but for the bits of doubles at a 5f. */
+static bool same_but_doubles(const uint8_t *source, const uint8_t *one, const uint8_t *two, size_t rows)
+{
+    size_t i;
+    unsigned which;
+
+    for (i = 0; i < rows; i++)
+        for (which = 0; which < ROW_NUMBERS; which++)
+            if (get_number(one, i, which) != get_number(two, i, which) &&
+                !(which == FIRST && get_number(one, i, KIND) == HESSIAN_DOUBLE &&
+                  source[get_number(one, i, PLACE)] == 0x5f))
+                return false;
+    return true;
+}
+
+/* The line of EXPECTED as it is by these results. */
+static void line_of(const struct result *results, size_t lent, char *line, size_t size)
+{
+    size_t used = 0;
+    unsigned rule;
+
+    for (rule = 0; rule < RULES; rule++) {
+        const struct result *r = &results[rule];
+
+        used += (size_t)snprintf(line + used, size - used, "%s%u %zu %zu %" PRIu64 " ok", rule > 0 ? "; " : "",
+                                 number_of(r->answer), count_of(r->answer), place_of(r->answer),
+                                 checksum(lent_bytes(&r->table), lent));
+    }
+}
+
+/*
+ * Reads a message with both readers by both rules. `expected` is the line of EXPECTED, or NULL; its checksums are over
+ * the first `lent` numbers of the table.
+ */
+static uint64_t try_message(const uint8_t *source, size_t len, size_t table_len, size_t lent, const char *expected)
+{
+    struct result results[RULES] = {try_rule(FLOAT, source, len, table_len),
+                                    try_rule(THOUSANDTHS, source, len, table_len)};
+    const uint8_t *one = lent_bytes(&results[FLOAT].table), *two = lent_bytes(&results[THOUSANDTHS].table);
+    uint64_t answer = results[FLOAT].answer;
+    size_t rows = number_of(answer) == 0 ? count_of(answer) : 0;
+    char line[200], what[500];
+
+    if (answer != results[THOUSANDTHS].answer)
+        show_difference("the rules give different answers", source, len, table_len);
+    else if (!same_but_doubles(source, one, two, rows))
+        show_difference("the rules give different rows", source, len, table_len);
+    if (rows > 0 && !ends_right(one, rows))
+        show_difference("a fifth number is wrong", source, len, table_len);
+    line_of(results, lent, line, sizeof line);
+    if (expected != NULL && strcmp(line, expected) != 0) {
+        snprintf(what, sizeof what, "library %s, expected %.200s", line, expected);
+        show_difference(what, source, len, table_len);
+    }
+    free(results[FLOAT].table.block);
+    free(results[THOUSANDTHS].table.block);
     return answer;
 }
 

@@ -14,8 +14,8 @@ PARTS = {"list": "elements", "typed list": "elements", "map": "pairs", "typed ma
 class Reading:
     """The document of a message, by rows and contents that hessian_format reads."""
 
-    def __init__(self, message):
-        self.message, self.rows = message, numbered_rows(message)
+    def __init__(self, message, thousandths=False):
+        self.message, self.rows, self.thousandths = message, numbered_rows(message, thousandths), thousandths
         kinds = [row[0] for row in self.rows]
         self.holders = [i for i, kind in enumerate(kinds) if hessian_format.LIST <= kind <= hessian_format.OBJECT]
         self.classes = [i for i, kind in enumerate(kinds) if kind == hessian_format.CLASS]
@@ -80,8 +80,10 @@ class Reading:
         return {**({"defines": defines} if defines else {}), **members}, self.rows[i][4]
 
     def document(self, name):
+        form = shortest(self.message, self.thousandths)
         return {"state": "accepted", "name": name, "bytes": len(self.message), "rows": len(self.rows),
-                "shortest": len(shortest(self.message)), "record": self.value(0)[0]}
+                "shortest": None if form is None else len(form), "record": self.value(0)[0],
+                **({"thousandths": True} if self.thousandths else {})}
 
 
 def worth(bits):
@@ -132,9 +134,11 @@ def build_holder(value):
     return start + b"".join(build(pair["key"]) + build(pair["value"]) for pair in value["pairs"]) + b"\x5a"
 
 
-def shortest(message):
-    rows = numbered_rows(message)
-    return hessian_format.written(message, rows, len(rows))
+def shortest(message, thousandths=False):
+    """The shortest form of a record, by the main rule; None where it is too long."""
+    rows = numbered_rows(message, thousandths)
+    form = hessian_format.written(message, rows, len(rows))
+    return None if form == hessian_format.LENGTH else form
 
 
 def without_dates(value):

@@ -4,12 +4,14 @@ BUILD names the folder of the programs, host/build if it is not given. All cases
 AddressSanitizer and UndefinedBehaviorSanitizer (BUILD/sanitized/hessian).
 """
 import os
+import random
 import shutil
 import signal
 import subprocess
 import sys
 import tempfile
 import time
+from fractions import Fraction
 from pathlib import Path
 
 HOST = Path(__file__).resolve().parent
@@ -69,26 +71,71 @@ def cut(value):
 
 # ---- messages
 
-def numbered_rows(message):
+def numbered_rows(message, thousandths=False):
     """The rows of a message with five numbers each; or a refusal's number and place."""
     rows = hessian_format.judged(message)
     if isinstance(rows, tuple):
         return rows
-    return [(*(n % hessian_format.WORD for n in row), end) for row, end in zip(rows, hessian_format.ends(rows))]
+    rows = [(*(n % hessian_format.WORD for n in row), end) for row, end in zip(rows, hessian_format.ends(rows))]
+    return [counted_row(message, row) for row in rows] if thousandths else rows
 
 
-def vectors():
-    """The messages of record_vectors, each once."""
+def vectors(most=None):
+    """The messages of record_vectors, each once; those of at most so many bytes."""
     found = {}
     for line in (ROOT / "crates/record_vectors/stdin").read_text().splitlines():
         groups = (group.partition("*") for group in line.split()[1:])
         found[b"".join(bytes.fromhex(digits) * int(times or 1) for digits, _, times in groups)] = True
-    return list(found)
+    return [m for m in found if most is None or len(m) <= most]
 
 
 def longest(size=hessian_format.LONGEST):
     """A record of so many bytes that has no shorter form: ints in an open list."""
     return b"\x57" + b"\x90" * (size - 2) + b"\x5a"
+
+
+# ---- messages of loggers that count thousandths
+
+THOUSANDTH = Fraction(0.001)  # the double nearest to 0.001, exactly
+
+
+def count_form(m):
+    return b"\x5f" + m.to_bytes(4, "big", signed=True)
+
+
+def bits_of_count(m):
+    """The bits of m times that double: the exact product, rounded once to nearest, ties to even."""
+    product = float(m * THOUSANDTH)
+    assert product == m * 0.001
+    return hessian_format.bits(product)
+
+
+def counted_row(message, row):
+    """A row of the main rule as it is by that of thousandths: of a 5f the bits are others."""
+    kind, place, _, *rest = row
+    if kind != hessian_format.DOUBLE or message[place] != 0x5F:
+        return row
+    return (kind, place, bits_of_count(int.from_bytes(message[place + 1:place + 5], "big", signed=True)), *rest)
+
+
+def counts():
+    """Small ones, whole numbers, powers of two and the edges of 32 bits with their neighbours, and some by chance."""
+    choose = random.Random(11)
+    some = [n + d for n in (0, 1000, 1500, 127000, 128000, 32767000, 32768000, *(2**k for k in range(5, 32)))
+            for d in (-1, 0, 1)] + list(range(100))
+    some += [choose.getrandbits(31) for _ in range(200)]
+    return sorted({m for n in some for m in (n, -n) if hessian_format.fits(m, 32)})
+
+
+def all_counts():
+    """A list of them."""
+    return samples.open_list(*map(count_form, counts()))
+
+
+def growing(size):
+    """A record in thousandths whose shortest form has so many bytes: doubles, nine for five, and ints in a list."""
+    doubles, ints = divmod(size - 2, 9)
+    return b"\x57" + count_form(9) * doubles + b"\x90" * ints + b"\x5a"
 
 
 # ---- processes
@@ -194,9 +241,24 @@ def check_options(check, folder):
     check.expect("a name like an option", check.run("--", "-h", cwd=folder)[::2], (0, b""))
 
 
+def check_thousandths_option(check, folder):
+    """--thousandths anywhere, by its beginning, twice; and what is not that option."""
+    (folder / "count").write_bytes(count_form(1500))
+    (folder / "--thousandths").write_bytes(count_form(1500))
+    by_main_rule, seen = (check.run(*options, stdin=count_form(1500)) for options in ([], ["--thousandths"]))
+    check.expect("another rule", (seen[::2], seen[1] == by_main_rule[1]), ((0, b""), False))
+    for words in (["-", "--thousandths"], ["--thou"], ["--thousandths", "--thousandths", "-"]):
+        check.expect(f"{words}", check.run(*words, stdin=count_form(1500)), seen)
+    named = check.run("count", cwd=folder)[1].replace(b"count", b"--thousandths")
+    check.expect("a file of this name", check.run("--", "--thousandths", cwd=folder), (0, named, b""))
+    check.expect("a value", check.run("--thousandths=1"), check.wrong("option --thousandths=1 takes no value"))
+    check.expect("no letter", check.run("-t"), check.wrong("there is no option -t"))
+
+
 def edges(check):
     """The checks above, for one subcommand."""
     def bound(function):
         return lambda folder: function(check, folder)
 
-    return [bound(function) for function in (check_unread, check_unwritten, check_interrupted, check_options)]
+    return [bound(function) for function in (check_unread, check_unwritten, check_interrupted, check_options,
+                                               check_thousandths_option)]

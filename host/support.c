@@ -190,3 +190,21 @@ bool groups(const char **text, uint8_t *bytes, size_t *len)
     *text = p;
     return true;
 }
+
+void each_message(const char *name, void (*use)(const uint8_t *message, size_t len))
+{
+    char *text = read_file(name), *rest = text, *line;
+    uint8_t *message = allocate(MOST_MESSAGE);
+    size_t len;
+
+    while ((line = next_line(&rest)) != NULL) {
+        const char *end = line;
+        uint64_t lent;
+
+        if (!decimal(&end, UINT64_MAX, &lent) || !groups(&end, message, &len) || *end != '\0')
+            give_up("no case:", line);
+        use(message, len);
+    }
+    free(text);
+    free(message);
+}

@@ -63,4 +63,7 @@ bool decimal(const char **text, uint64_t most, uint64_t *value);
  */
 bool groups(const char **text, uint8_t *bytes, size_t *len);
 
+/* Hands each message of a file of cases of record_vectors to `use`. */
+void each_message(const char *name, void (*use)(const uint8_t *message, size_t len));
+
 #endif

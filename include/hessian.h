@@ -18,7 +18,7 @@
 extern "C" {
 #endif
 
-#define HESSIAN_VERSION "1.1"
+#define HESSIAN_VERSION "1.2"
 
 /* The longest message, in bytes. A message has no more rows than bytes, so a table of so many rows is always enough. */
 #define HESSIAN_LONGEST 262144u
@@ -37,8 +37,8 @@ enum hessian_refusal {
     HESSIAN_UNGIVEN = 6,   /* no such class, type or reference number is given yet */
     HESSIAN_CEILING = 7,   /* more than 32 containers open, or 256 classes, types, or fields of one class */
     HESSIAN_AFTER = 8,     /* bytes after the record */
-    HESSIAN_ROOM = 9,      /* fewer rows (writer: bytes) are lent than needed; the count says how many */
-    HESSIAN_NO_RECORD = 10 /* writer: the rows are no record, or their fifth numbers are wrong */
+    HESSIAN_ROOM = 9,      /* fewer rows (writer, content: bytes) are lent than needed; the count says how many */
+    HESSIAN_NO_RECORD = 10 /* writer: the rows are no record, or fifth numbers are wrong; content: a row names none */
 };
 
 /*
@@ -98,15 +98,26 @@ enum hessian_kind {
 uint64_t hessian_read(const uint8_t *message, size_t message_len, uint8_t *table, size_t table_len);
 
 /*
+ * The same for messages of loggers that count thousandths: 5f and four bytes are not a 32-bit float, but a signed whole
+ * number m, and stand for m times 0.001 (m as a double, times the double nearest to 0.001, rounded once). Answers, rows
+ * and places are those of hessian_read, but for the bits of such doubles. The caller has to know which messages these
+ * are: nothing in them tells. hessian_write writes every table by the main rule, so that what it writes is read by
+ * hessian_read; a double that took five bytes may then take nine, and a long message may become too long
+ * (HESSIAN_LENGTH).
+ */
+uint64_t hessian_read_thousandths(const uint8_t *message, size_t message_len, uint8_t *table, size_t table_len);
+
+/*
  * Writes the shortest message of the first `rows` rows of a table, as hessian_read fills it. The source is the message
  * in which the texts and byte strings of the rows lie: a row's place is an index into it. Accepted: the count is the
  * bytes written, the place 0; bytes of the output past them stay as they were. HESSIAN_ROOM: the count is the bytes
- * needed. An output of the source's length is enough for the rows that hessian_read stored of it.
+ * needed. An output of the source's length is enough for the rows that hessian_read stored of it; of those that
+ * hessian_read_thousandths stored, one of HESSIAN_LONGEST bytes.
  */
 uint64_t hessian_write(const uint8_t *source, size_t source_len, const uint8_t *table, size_t table_len, uint64_t rows,
                        uint8_t *output, size_t output_len);
 
-/* The parts of an answer of hessian_read and hessian_write. */
+/* The parts of an answer of hessian_read, hessian_read_thousandths and hessian_write. */
 #define HESSIAN_NUMBER(answer) ((unsigned)((uint64_t)(answer) >> 48))
 #define HESSIAN_COUNT(answer) ((size_t)((uint64_t)(answer) >> 24 & 0xffffffu))
 #define HESSIAN_PLACE(answer) ((size_t)((uint64_t)(answer) & 0xffffffu))

@@ -6,9 +6,10 @@ A case is a line: how many numbers are lent, in decimal, and the message in grou
 bytes, two hexadecimal digits each; `*` and a number after them say how often they stand there.
 
 What is printed for it is a line: number, count and place of the answer; the checksum of the whole lent table after
-the call; and `ok`, where the numbers past the accepted rows, or after a refusal the whole table, are unchanged. Before
-the call number i of the table is 0xb1a0000000000000 + i. The checksum starts at 7, and the high and then the low 32
-bits of each number of the table, h, take it from s to s * 1000003 + h, modulo 2^31 - 1.
+the call; and `ok`, where the numbers past the accepted rows, or after a refusal the whole table, are unchanged; and
+behind `; ` the same of a second call, by the rule of thousandths (2026-11). Before a call number i of the table is
+0xb1a0000000000000 + i. The checksum starts at 7, and the high and then the low 32 bits of each number of the table, h,
+take it from s to s * 1000003 + h, modulo 2^31 - 1.
 
 The reader is that of ../vectors/hessian_format.py. Most cases are given with their answers, and each random message is
 made together with its rows. A row has four numbers here; `ends` gives the fifth ones.
@@ -23,8 +24,8 @@ from hessian_cases import (  # noqa: E402
     Maker, arguments, checksum, chunked, class_of, data_of, each, groups, raw, some, text_of, write_files,
 )
 from hessian_format import (  # noqa: E402
-    BYTES, COLLECTIONS, LONGEST, MOST_OPEN, OBJECTS, TEXT, WORD, bits, bytes_heads, ends, halves, int_form, int_forms,
-    judged, long_forms, text_heads,
+    BYTES, COLLECTIONS, DOUBLE, LONGEST, MOST_OPEN, OBJECTS, TEXT, THOUSANDTHS, WORD, bits, bytes_heads, ends, fits,
+    halves, int_form, int_forms, judged, long_forms, text_heads, wide,
 )
 
 LENT = 8000
@@ -45,7 +46,7 @@ for t in PATTERN:
 
 
 def answer(read, size, lent):
-    """The line to be printed, by what is read, the message's size, and the numbers lent."""
+    """What is to be printed of a call, by what is read, the message's size, and the numbers lent."""
     if isinstance(read, tuple):
         return f"{read[0]} 0 {read[1]} {UNTOUCHED[lent]} ok"
     if lent // ROW < len(read):
@@ -64,7 +65,9 @@ def case(data, lent=None):
         rows = 7 if isinstance(read, tuple) else len(read)
         lent = ROW * rows + len(CASES) % 13
     lent = min(lent, LENT)
-    CASES.setdefault(" ".join([str(lent), *groups(data)]), answer(read, len(data), lent))
+    # the rules are the same without a 5f
+    both = read, judged(data, THOUSANDTHS) if b"\x5f" in data else read
+    CASES.setdefault(" ".join([str(lent), *groups(data)]), "; ".join(answer(r, len(data), lent) for r in both))
     return read
 
 
@@ -553,6 +556,88 @@ DUE = "D | 57 | 79 | 48 | 48 90 | F 60 | 55 | 56 | 70 | 4d | 58 | 56 00 | 43 | 4
 for before in each(DUE + "| 52 0001 'a' | 41 0001 ff"):
     for code in CODES:
         case(before + bytes([code]) + b"\x00" * 9)
+
+
+# ---- 2026-11: 5f by the rule of thousandths
+def counting(message, *doubles):
+    """A message that is accepted, and its doubles by the rule of thousandths; all else is as by the main rule."""
+    data = data_of(message)
+    main, read = case(data), judged(data, THOUSANDTHS)
+    assert [row for row in main if row[0] != DOUBLE] == [row for row in read if row[0] != DOUBLE], (message, read)
+    assert [row[:2] for row in main] == [row[:2] for row in read], (message, read)
+    assert [row[2] for row in read if row[0] == DOUBLE] == [bits(x) for x in doubles], (message, read)
+
+
+# 9 is the first that is not the same divided by 1000
+assert all(n * 0.001 == n / 1000 for n in range(9)) and 9 * 0.001 == 0.009000000000000001 != 9 / 1000
+EXAMPLES = {"00000000": 0.0, "00000001": 0.001, "ffffffff": -0.001, "00000009": 0.009000000000000001, "000003e8": 1.0}
+EXAMPLES.update({"fffffc18": -1.0, "41440000": 1094975.4880000001, "7fffffff": 2147483.647, "80000000": -2147483.648})
+EXAMPLES.update({"7f800001": 2139095.041, "7fc00000": 2143289.344, "ff800000": -8388.608, "3f800000": 1065353.216})
+for four, double in EXAMPLES.items():
+    counting("5f" + four, double)
+# beside the other doubles, and in all that holds a value
+counting("7f 5b 5c 5d ff 5e 0100 5f 00000100 44 4028800000000000 5f 0000007b", 0, 1, -1, 256, 0.256, 12.25, 0.123)
+counting("58 98 5f 00000009 5f 0000000a 5d 09 5e 0009 44 0000000000000001 90 e9 5f fffffff7",
+         0.009000000000000001, 0.01, 9, 9, 5e-324, -0.009000000000000001)
+counting("57 5f 000007d0 57 5f 00000bb8 5a 5f 00000fa0 5a", 2, 3, 4)
+counting("48 5f 00000001 5f 00000002 48 5f 00000003 5f 00000005 5a 5f 00000004 5a", 0.001, 0.002, 0.003, 0.005, 0.004)
+for message in each("72 01 't' | 56 01 't' 92"):
+    counting(message + raw("5f 00000001 5f 00002710"), 0.001, 10)
+counting("55 01 't' 5f 00000001 5f 00002710 5a", 0.001, 10)
+counting("4d 01 't' 01 'a' 5f 0000007b 5f 0000007b 01 'b' 5a", 0.123, 0.123)
+counting("43 03 'Log' 92 01 't' 01 'v' 7a 60 4b 00e3838f 5f 000186a0 4f 90 5f 00000000 5f fffe7960", 100, 0, -100)
+counting("7b F 60 5f 0000000b 60 79 5f 0000000d 51 90", 0.011, 0.013000000000000001)
+# its four bytes are no codes, and 5f elsewhere opens no double
+counting("7b 5f 5f5f5f5f 5f 5a5a5a5a 5f 40404040", 1600085.855, 1515870.81, 1077952.5760000001)
+counting("7f 01 '_' 21 5f 49 5f00005f 59 5f00005f 4c 5f00000000000009 4a 5f00000000000009 4b 5f000009")
+# cut, followed, or where none may stand
+for message in each("5f | 79 5f | 57 5f | 48 5f | 48 90 5f | F 60 5f | 72 00 90 5f | 7a 5f 00000009 5f"):
+    for size in range(4):
+        refused(message + b"\x00" * size, 2, len(message) + size)
+for message in each("5f 00000009 90 | 5f 00000009 5f 00000009"):
+    refused(message, 8, 5)
+for message in each("58 | D 4f | 70 | 43 | 79 51"):
+    refused(message + raw("5f 00000009"), 3, len(message))
+for lent in (0, 4, 5, 9, 10, 14, 15, 16, LENT):
+    case(raw("5f 00000009"), lent)
+    case(raw("7a 5f 00000009 5f fffffff7"), lent)
+accepted(b"\x57" + raw("5f 00000009") * 52428 + raw("90 90 5a"))
+refused(b"\x57" + raw("5f 00000009") * 52428 + raw("90 90 90 5a"), 1, 0)
+
+
+def near_halves():
+    """Counts whose product lies halfway between two doubles, or as near to that as there are of their length."""
+    significand = bits(0.001) % 2**52 + 2**52
+    odd = significand // 4
+    assert odd % 2
+    yield from (n << k for n in (9, 11, 13, 15) for k in range(28))
+    # so many bits of the product are lost; they are a multiple of 4, as the significand is
+    for lost in range(4, 32):
+        step = 2 ** (lost - 2)
+        for distance in (-1, 1, -3, 3):
+            n = pow(odd, -1, step) * (step // 2 + distance) % step
+            found = [m for m in range(n, 8 * step, step) if (m * significand).bit_length() == 53 + lost]
+            assert all(m * significand % 2**lost == (2 ** (lost - 1) + 4 * distance) % 2**lost for m in found)
+            yield found[lost % len(found)]
+
+
+def counts():
+    """2,000 counts: the edges, those near halves, where the product passes a power of two, and random ones."""
+    sizes = [*range(40), *near_halves(), *(1000 << k for k in range(22))]
+    sizes += [b**k for b in (2, 10) for k in range(32)]
+    sizes += [0x7F800000, 0x7F800001, 0x7FC00000, 0x3F800000, 0x41440000, 0x00800000, 0x007FFFFF]
+    found = dict.fromkeys(n * sign for size in sizes for n in (size - 1, size, size + 1) for sign in (1, -1))
+    found = [n for n in found if fits(n, 32)]
+    chance = Chance(2)
+    while len(found) < 2000:
+        n = chance.number(33)
+        found += [n] if fits(n, 32) and n not in found else []
+    assert {0, 9, 2**31 - 1, -(2**31), -(2**31) + 1} <= set(found) and len(found) == len(set(found)) == 2000
+    return found
+
+
+for n in counts():
+    case(wide(0x5F, n, 4), ROW)
 
 # ---- random messages
 chance = Chance(1)

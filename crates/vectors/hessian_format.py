@@ -1,9 +1,9 @@
 """The format of Hessian 2.0 records: what each form stands for, the rows of a message, the shortest message of rows.
 
-The generators of vectors, crates/*_vectors/vectors.py, take it from here. It is written from 01, 2026-04, 2026-07 and
-docs/DECISIONS.md, and shares nothing with the code that is tested. UTF-8, UTF-16 and doubles are Python's own. What
-is said here is held to other computations by the generators: number_vectors seeks the shortest of all forms of a
-number, text_vectors goes by Unicode's table and by the least length of any cut into chunks, record_vectors makes
+The generators of vectors, crates/*_vectors/vectors.py, take it from here. It is written from 01, 2026-04, 2026-07,
+2026-11 and docs/DECISIONS.md, and shares nothing with the code that is tested. UTF-8, UTF-16 and doubles are Python's
+own. What is said here is held to other computations by the generators: number_vectors seeks the shortest of all forms
+of a number, text_vectors goes by Unicode's table and by the least length of any cut into chunks, record_vectors makes
 random messages together with their rows, and write_vectors reads back what is written.
 
 A row has four numbers here, kind, place, first and second; `ends` gives the fifth ones.
@@ -12,6 +12,7 @@ import functools
 import math
 import re
 import struct
+from fractions import Fraction
 
 # ---- limits: bytes of a message, units of a chunk, open containers, and classes, types, or fields of one class
 LONGEST = 262144
@@ -64,7 +65,10 @@ def wide(code, n, size):
     return bytes([code]) + (n % 256**size).to_bytes(size, "big")
 
 
-# ---- 5f: four bytes that stand for a double
+# ---- 5f: four bytes that stand for a double, by the main rule, or of a logger that counts thousandths (2026-11)
+FLOAT, THOUSANDTHS = range(2)
+
+
 def widened(data):
     """The bits of the double that a 32-bit float stands for. A NaN goes by its bits."""
     whole = int.from_bytes(data, "big")
@@ -86,6 +90,32 @@ def narrowed(double):
     except OverflowError:
         return None
     return int.from_bytes(single, "big") if struct.pack(">d", *struct.unpack(">f", single)) == eight else None
+
+
+def rounded(x):
+    """The bits of the double nearest to a rational, of two the even one. It is 0, or not too small for 53 bits."""
+    size, exponent = abs(x), 0
+    while size >= 2**53:
+        size, exponent = size / 2, exponent + 1
+    while 0 < size < 2**52:
+        size, exponent = size * 2, exponent - 1
+    # a fraction is rounded exactly, halves to even
+    size = math.ldexp(round(size), exponent)
+    return bits(-size if x < 0 else size)
+
+
+# the double nearest to a thousandth
+THOUSANDTH = 0.001
+assert rounded(Fraction(1, 1000)) == bits(THOUSANDTH) == 0x3F50624DD2F1A9FC
+
+
+@functools.lru_cache(maxsize=4096)
+def counted(data):
+    """The bits of the double that a count of thousandths stands for: the count times THOUSANDTH, rounded once."""
+    n = signed(data)
+    double = rounded(n * Fraction(THOUSANDTH))
+    assert double == bits(n * THOUSANDTH)
+    return double
 
 
 # ---- single numbers
@@ -127,6 +157,8 @@ NUMBER_FORMS = [
 # by code: the kind, how many bytes follow, and the worth
 NUMBERS = {c: (kind, more, worth) for kind, first, last, more, worth in NUMBER_FORMS for c in range(first, last + 1)}
 INTS = {code: form for code, form in NUMBERS.items() if form[0] == INT}
+# the same by each rule of 5f
+BY_RULE = {FLOAT: NUMBERS, THOUSANDTHS: {**NUMBERS, 0x5F: (DOUBLE, 4, lambda code, b: counted(b))}}
 
 
 # of each compact form: the least number, the one after the greatest, its bytes for 0, and how many they are
@@ -328,10 +360,10 @@ FIRST_BYTES = {
 
 # ---- reading
 class Message:
-    """A message, how far it is read, and what it has given so far."""
+    """A message, how far it is read, its numbers by a rule of 5f, and what it has given so far."""
 
-    def __init__(self, data, at=0):
-        self.data, self.at = data, at
+    def __init__(self, data, at=0, rule=FLOAT):
+        self.data, self.at, self.numbers = data, at, BY_RULE[rule]
         self.references, self.types, self.fields = 0, 0, []
 
     def take(self, n):
@@ -488,8 +520,8 @@ def value(m, allowance):
     while m.next() == 0x43:
         rows += definition(m)
     place, code = m.at, m.next()
-    if code in NUMBERS:
-        return rows + [number(m, NUMBERS)]
+    if code in m.numbers:
+        return rows + [number(m, m.numbers)]
     if code in CHUNKS[TEXT]:
         return rows + [text(m, TEXT)]
     if code in CHUNKS[BYTES]:
@@ -506,11 +538,11 @@ def value(m, allowance):
 
 
 @functools.lru_cache(maxsize=16)
-def judged(data):
-    """The rows of a message; or a refusal's number and place."""
+def judged(data, rule=FLOAT):
+    """The rows of a message by a rule of 5f; or a refusal's number and place."""
     if not 1 <= len(data) <= LONGEST:
         return LENGTH, 0
-    m = Message(data)
+    m = Message(data, 0, rule)
     try:
         rows = value(m, MOST_OPEN)
         if m.at < len(data):

@@ -19,6 +19,9 @@
  */
 uint64_t baseline_read(const uint8_t *message, size_t message_len, uint8_t *table, size_t table_len);
 
+/* The same where 5f and four bytes are a count of thousandths: m times the double nearest to 0.001, rounded once. */
+uint64_t baseline_read_thousandths(const uint8_t *message, size_t message_len, uint8_t *table, size_t table_len);
+
 /*
  * Writes the shortest message of the first `rows` rows of a table, whose texts and bytes lie in the source. The answer:
  *   accepted:            number 0, count the bytes written, place 0

@@ -58,7 +58,8 @@ struct reader {
     const uint8_t *message;
     size_t len;
     size_t at;
-    uint8_t *table; /* NULL in the first pass */
+    bool thousandths; /* the rule of 5f */
+    uint8_t *table;   /* NULL in the first pass */
     size_t rows;
     unsigned references;
     unsigned types;
@@ -210,6 +211,31 @@ static bool read_date(struct reader *r, int64_t *value)
     return true;
 }
 
+/* 2026-11: the double nearest to 0.001 is THOUSANDTH * 2^-62. A product with a count has up to 84 bits. */
+#define THOUSANDTH UINT64_C(0x10624dd2f1a9fc)
+
+__extension__ typedef unsigned __int128 product;
+
+/* The bits of the double m * 0.001, in whole numbers: 53 bits are kept, and half of their last goes to the even one. */
+static uint64_t count_thousandths(int64_t m)
+{
+    const uint64_t hidden = UINT64_C(1) << 52;
+    product whole = (product)(m < 0 ? -m : m) * THOUSANDTH, twice_lost;
+    uint64_t kept;
+    unsigned shift = 0;
+
+    if (m == 0)
+        return 0;
+    while (whole >> shift >= 2 * hidden)
+        shift++;
+    kept = (uint64_t)(whole >> shift);
+    twice_lost = 2 * (whole - ((product)kept << shift));
+    if (twice_lost > (product)1 << shift || (twice_lost == (product)1 << shift && kept % 2 != 0))
+        kept++;
+    /* what is rounded up to a power of two carries into the exponent */
+    return (m < 0 ? UINT64_C(1) << 63 : 0) + (uint64_t)(1023 + 52 - 62 + shift) * hidden + (kept - hidden);
+}
+
 static bool read_double(struct reader *r, uint64_t *bits)
 {
     const uint8_t *p = r->message + r->at;
@@ -238,7 +264,7 @@ static bool read_double(struct reader *r, uint64_t *bits)
     case 0x5f:
         if (!need(r, 5))
             return false;
-        *bits = widen(get_u32(p + 1));
+        *bits = r->thousandths ? count_thousandths(get_i32(p + 1)) : widen(get_u32(p + 1));
         r->at += 5;
         return true;
     default:
@@ -579,7 +605,8 @@ static bool read_record(struct reader *r, uint8_t *table)
     return true;
 }
 
-uint64_t baseline_read(const uint8_t *message, size_t message_len, uint8_t *table, size_t table_len)
+static uint64_t read_message(const uint8_t *message, size_t message_len, uint8_t *table, size_t table_len,
+                             bool thousandths)
 {
     struct reader r;
 
@@ -587,10 +614,21 @@ uint64_t baseline_read(const uint8_t *message, size_t message_len, uint8_t *tabl
         return answer(BAD_LENGTH, 0, 0);
     r.message = message;
     r.len = message_len;
+    r.thousandths = thousandths;
     if (!read_record(&r, NULL))
         return answer(r.number, 0, r.place);
     if (table_len / ROW_SIZE < r.rows)
         return answer(TOO_LITTLE_ROOM, r.rows, 0);
     read_record(&r, table);
     return answer(ACCEPTED, r.rows, message_len);
+}
+
+uint64_t baseline_read(const uint8_t *message, size_t message_len, uint8_t *table, size_t table_len)
+{
+    return read_message(message, message_len, table, table_len, false);
+}
+
+uint64_t baseline_read_thousandths(const uint8_t *message, size_t message_len, uint8_t *table, size_t table_len)
+{
+    return read_message(message, message_len, table, table_len, true);
 }

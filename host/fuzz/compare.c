@@ -148,17 +148,27 @@ static bool take_back(struct given *g)
 
 /* ---- the reader */
 
+/* A rule of 5f: the library's reader and the plain one. */
+struct rule {
+    uint64_t (*library)(const uint8_t *message, size_t message_len, uint8_t *table, size_t table_len);
+    uint64_t (*plain)(const uint8_t *message, size_t message_len, uint8_t *table, size_t table_len);
+};
+
+static const struct rule float_rule = {hessian_read, baseline_read};
+static const struct rule thousandths_rule = {hessian_read_thousandths, baseline_read_thousandths};
+
 /* Reads with both, into a table of so many bytes. Its rows are copied to `rows`, unless that is NULL. */
-static bool compare_read(const uint8_t *data, size_t size, size_t table_len, uint8_t **rows, uint64_t *answer)
+static bool compare_read(const struct rule *rule, const uint8_t *data, size_t size, size_t table_len, uint8_t **rows,
+                         uint64_t *answer)
 {
     struct lent l = lend(&table_fence, table_len);
     struct given message = give(&message_fence, data, size);
     size_t stored;
     bool same;
 
-    *answer = hessian_read(message.library, size, l.library, table_len);
+    *answer = rule->library(message.library, size, l.library, table_len);
     stored = HESSIAN_NUMBER(*answer) == 0 ? HESSIAN_COUNT(*answer) * ROW_SIZE : 0;
-    same = agree("read", &l, *answer, baseline_read(message.plain, size, l.plain, table_len), stored);
+    same = agree("read", &l, *answer, rule->plain(message.plain, size, l.plain, table_len), stored);
     if (!take_back(&message))
         same = differ("the message is changed", *answer, 0);
     if (rows != NULL)
@@ -333,7 +343,7 @@ static bool same_rows(const uint8_t *one, const uint8_t *two, size_t rows)
     return true;
 }
 
-/* What is written is no longer, reads back as the same rows, and is written from them again. */
+/* What is written reads back, by the main rule, as the same rows, and is written from them again. */
 static bool check_shortest(const struct input *in, const uint8_t *shortest, size_t len)
 {
     uint8_t *rows = NULL, *again = NULL;
@@ -341,9 +351,7 @@ static bool check_shortest(const struct input *in, const uint8_t *shortest, size
     struct input back = {shortest, len, NULL, in->table_len, in->rows};
     bool good;
 
-    if (len > in->source_len)
-        return differ("the shortest form is longer", len, in->source_len);
-    good = compare_read(shortest, len, in->table_len, &rows, &read);
+    good = compare_read(&float_rule, shortest, len, in->table_len, &rows, &read);
     if (good && (HESSIAN_NUMBER(read) != 0 || HESSIAN_COUNT(read) != in->rows || !same_rows(rows, in->table, in->rows)))
         good = differ("the shortest form reads otherwise", read, in->rows);
     back.table = rows;
@@ -415,22 +423,75 @@ static bool compare_altered(const struct input *in)
     return same;
 }
 
+/* Writes the rows of a message. What the main rule reads becomes no longer; by the other rule it may, and too long. */
+static bool compare_rewriting(const struct input *in, const struct rule *rule)
+{
+    uint8_t *shortest = NULL;
+    uint64_t written;
+    bool same = compare_writes(in, &shortest, &written);
+
+    if (same && HESSIAN_NUMBER(written) == HESSIAN_ACCEPTED)
+        same = check_shortest(in, shortest, HESSIAN_COUNT(written));
+    else if (same && (rule == &float_rule || HESSIAN_NUMBER(written) != HESSIAN_LENGTH))
+        same = differ("rows of a message are not written", written, 0);
+    if (same && rule == &float_rule && HESSIAN_COUNT(written) > in->source_len)
+        same = differ("the shortest form is longer", HESSIAN_COUNT(written), in->source_len);
+    free(shortest);
+    return same;
+}
+
+/* Whether rows by the two rules agree in all but the bits of doubles at a 5f. */
+static bool same_but_doubles(const struct input *in, const uint8_t *other)
+{
+    size_t i;
+    unsigned which;
+
+    for (i = 0; i < in->rows; i++) {
+        hessian_row row = hessian_row_at(in->table, i);
+
+        for (which = 0; which < ROW_NUMBERS; which++)
+            if (get_number(in->table, i, which) != get_number(other, i, which) &&
+                !(which == FIRST && row.kind == HESSIAN_DOUBLE && in->source[row.place] == 0x5f))
+                return false;
+    }
+    return true;
+}
+
+/* The same message by the rule of thousandths, which differs in doubles alone; and its rows written. */
+static bool compare_thousandths(const struct input *in, uint64_t expected)
+{
+    struct input counted = *in;
+    uint8_t *table;
+    uint64_t answer;
+    size_t room = some_room(in->table_len);
+    bool same = compare_read(&thousandths_rule, in->source, in->source_len, room, NULL, &answer);
+
+    if (!same || !compare_read(&thousandths_rule, in->source, in->source_len, in->table_len, &table, &answer))
+        return false;
+    counted.table = table;
+    if (answer != expected)
+        same = differ("the rules answer differently", answer, expected);
+    else if (HESSIAN_NUMBER(answer) == HESSIAN_ACCEPTED)
+        same = same_but_doubles(in, table) ? compare_rewriting(&counted, &thousandths_rule)
+                                           : differ("the rules give different rows", answer, expected);
+    free(table);
+    return same;
+}
+
 static bool compare_message(const uint8_t *data, size_t size)
 {
     size_t rows = rows_needed(data, size);
-    uint8_t *table, *shortest = NULL;
-    uint64_t answer, written;
+    uint8_t *table;
+    uint64_t answer;
     struct input in = {data, size, NULL, rows * ROW_SIZE, rows};
-    bool same = compare_read(data, size, some_room(rows * ROW_SIZE), NULL, &answer);
+    bool same = compare_read(&float_rule, data, size, some_room(rows * ROW_SIZE), NULL, &answer);
 
-    if (!same || !compare_read(data, size, rows * ROW_SIZE, &table, &answer))
+    if (!same || !compare_read(&float_rule, data, size, rows * ROW_SIZE, &table, &answer))
         return false;
     in.table = table;
-    same = compare_contents(&in, HESSIAN_NUMBER(answer) == 0 ? rows : 0, true);
+    same = compare_thousandths(&in, answer) && compare_contents(&in, HESSIAN_NUMBER(answer) == 0 ? rows : 0, true);
     if (same && HESSIAN_NUMBER(answer) == 0)
-        same = compare_writes(&in, &shortest, &written) && check_shortest(&in, shortest, HESSIAN_COUNT(written)) &&
-               compare_after(&in) && compare_altered(&in);
-    free(shortest);
+        same = compare_rewriting(&in, &float_rule) && compare_after(&in) && compare_altered(&in);
     free(table);
     return same;
 }

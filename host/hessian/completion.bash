@@ -47,11 +47,12 @@ _hessian() {
     _hessian_argument "$command" "$before" "$word" && return 0
     case $command$word in
     copies-*)
-        _hessian_words "$word" --only= --print0 --pairs -q --summary --json --include= --exclude= -0 --time -h --help
+        _hessian_words "$word" --only= --print0 --pairs -q --summary --json --include= --exclude= -0 --time \
+            --thousandths -h --help
         ;;
-    show-*) _hessian_words "$word" --limit= --elements= --no-places --color --json -h --help ;;
-    shorten-*) _hessian_words "$word" -o --output= -h --help ;;
-    rows-*) _hessian_words "$word" -h --help ;;
+    show-*) _hessian_words "$word" --limit= --elements= --no-places --color --json --thousandths -h --help ;;
+    shorten-*) _hessian_words "$word" -o --output= --thousandths -h --help ;;
+    rows-*) _hessian_words "$word" --thousandths -h --help ;;
     help*) [ "$COMP_CWORD" -gt 2 ] || _hessian_words "$word" "$commands" ;;
     *) _hessian_files "$word" ;;
     esac

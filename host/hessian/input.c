@@ -48,11 +48,11 @@ static int use_input(struct input *in, use_record *use, const void *how)
     return use(in, how);
 }
 
-int each_record(const struct command *self, int count, char **names, use_record *use, const void *how)
+int each_record(const struct command *self, struct named named, use_record *use, const void *how)
 {
     static char *standard[] = {"-"};
     struct record r;
-    struct input in = {self, NULL, false, count > 1, &r};
+    struct input in = {self, NULL, false, named.count > 1, &r};
     int worst = DONE, i;
 
     if (!new_record(&r)) {
@@ -60,14 +60,15 @@ int each_record(const struct command *self, int count, char **names, use_record 
         free_record(&r);
         return TROUBLE;
     }
-    if (count == 0) {
-        names = standard;
-        count = 1;
+    r.thousandths = named.thousandths;
+    if (named.count == 0) {
+        named.names = standard;
+        named.count = 1;
     }
-    for (i = 0; i < count && !output_failed(); i++) {
+    for (i = 0; i < named.count && !output_failed(); i++) {
         int status;
 
-        in.name = names[i];
+        in.name = named.names[i];
         status = use_input(&in, use, how);
         worst = status > worst ? status : worst;
     }

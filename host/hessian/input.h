@@ -19,11 +19,18 @@ struct input {
 /* Does with a record what the subcommand is for; the status. */
 typedef int use_record(const struct input *in, const void *how);
 
+/* What a command line names, and whether 5f counts thousandths in all of it. */
+struct named {
+    int count;
+    char **names;
+    bool thousandths;
+};
+
 /*
  * Hands the named records to `use`, or standard input where no name is given, until standard output fails. The worst
  * status: TROUBLE where a record cannot be read, which is said.
  */
-int each_record(const struct command *self, int count, char **names, use_record *use, const void *how);
+int each_record(const struct command *self, struct named named, use_record *use, const void *how);
 
 /* Whether there was more on standard input than was read, since it is too long for a record. */
 bool has_more(const struct input *in);

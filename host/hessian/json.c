@@ -29,6 +29,12 @@ void json_close(struct json *j, char bracket)
     j->begun = true;
 }
 
+void json_null(struct json *j, const char *key)
+{
+    json_key(j, key);
+    fputs("null", j->out);
+}
+
 void json_number(struct json *j, const char *key, uint64_t n)
 {
     json_key(j, key);

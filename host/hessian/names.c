@@ -24,6 +24,8 @@ const char *refusal_name(unsigned number)
 
 const char *reason(const struct record *r)
 {
+    if (too_long_shortest(r))
+        return "its shortest form is longer than 262144 bytes";
     if (r->by_writer)
         return "the writer refused what the reader had accepted: a fault of this library, please report it";
     if (r->number == HESSIAN_LENGTH)

@@ -14,7 +14,7 @@ const char *kind_name(uint64_t kind);
 /* The name of a refusal in hessian.h. */
 const char *refusal_name(unsigned number);
 
-/* Why a record was refused: the library's words, and of the length what holds for a file. */
+/* Why a record was refused: the library's words, and of the length what holds for a file or its shortest form. */
 const char *reason(const struct record *r);
 
 /* "refused NUMBER NAME at PLACE: REASON"; the place may be left out. */

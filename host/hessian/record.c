@@ -176,7 +176,8 @@ static bool accepted(struct record *r, uint64_t answer)
 void rewrite(struct record *r)
 {
     double start = now();
-    uint64_t answer = hessian_read(r->message, r->len, r->table, TABLE_LEN);
+    uint64_t answer =
+        (r->thousandths ? hessian_read_thousandths : hessian_read)(r->message, r->len, r->table, TABLE_LEN);
 
     r->by_writer = false;
     r->rows = r->shortest_len = 0;
@@ -188,4 +189,14 @@ void rewrite(struct record *r)
         r->place = 0;
     }
     r->seconds += now() - start;
+}
+
+bool too_long_shortest(const struct record *r)
+{
+    return r->thousandths && r->by_writer && r->number == HESSIAN_LENGTH;
+}
+
+bool has_rows(const struct record *r)
+{
+    return r->number == HESSIAN_ACCEPTED || too_long_shortest(r);
 }

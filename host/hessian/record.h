@@ -15,13 +15,14 @@ struct stamp {
 
 /* Buffers are allocated once, and hold one file after another. */
 struct record {
+    bool thousandths;   /* 5f counts thousandths in all of these files; set before the first, or false */
     uint8_t *message;   /* the file's bytes; one past HESSIAN_LONGEST tells that it is too long */
     size_t len;         /* bytes read */
     uint64_t size;      /* bytes of the file, also where it is too long */
     struct stamp stamp; /* its inode is 0 where it is no regular file */
     unsigned number;    /* of the refusal; 0 if it was accepted */
     size_t place;       /* of the refusal */
-    bool by_writer;     /* the refusal is the writer's, which cannot be */
+    bool by_writer;     /* the refusal is the writer's: it has no short enough form, or else this cannot be */
     uint8_t *table;     /* HESSIAN_LONGEST rows */
     size_t rows;
     uint8_t *shortest;  /* HESSIAN_LONGEST bytes */
@@ -49,8 +50,20 @@ const char *load_at(struct record *r, int folder, const char *name);
 /* The same from an open file; nothing is known of its device and inode where it is no regular file. */
 const char *load_descriptor(struct record *r, int descriptor);
 
-/* Reads the message into rows and rewrites it; number, place, rows and the shortest form say what came of it. */
+/*
+ * Reads the message into rows and rewrites it; number, place, rows and the shortest form say what came of it. The
+ * shortest form is by the main rule, whichever the message is read by.
+ */
 void rewrite(struct record *r);
+
+/*
+ * Whether it was read, and only its shortest form was refused, as longer than HESSIAN_LONGEST: five bytes of
+ * thousandths may become nine. By the main rule no record is such.
+ */
+bool too_long_shortest(const struct record *r);
+
+/* Whether it was read into rows, whether or not it has a shortest form. */
+bool has_rows(const struct record *r);
 
 /* The stamp of the regular file that a name, not a link, stands for; false where there is none. */
 bool stamp_now(const char *name, struct stamp *stamp);

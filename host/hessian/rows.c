@@ -8,7 +8,7 @@
 #include "input.h"
 
 static const char help[] =
-    "usage: hessian rows [NAME]...\n"
+    "usage: hessian rows [--thousandths] [NAME]...\n"
     "\n"
     "Prints the rows of Hessian 2.0 records. NAME is a record file; - or no name is standard input.\n"
     "\n"
@@ -18,8 +18,10 @@ static const char help[] =
     "refusal's number, its place. Where several are named, a line with the name and a colon comes before\n"
     "each; a name with spaces or anything that is not to be seen is quoted.\n"
     "\n"
-    "    -h, --help   this page\n"
-    "    --           what follows is no option\n"
+    "    --thousandths   5f and four bytes are no float but a whole number m, and stand for m times 0.001, in\n"
+    "                    all that is named; of the rows only the bits of such doubles are others\n"
+    "    -h, --help      this page\n"
+    "    --              what follows is no option\n"
     "\n"
     "Status: 0 all were read, 1 some were refused, 2 wrong usage, or a file could not be read.\n";
 
@@ -33,7 +35,7 @@ static int print_rows(const struct input *in, const void *how)
         put_input_name(stdout, in);
         fputs(":\n", stdout);
     }
-    if (r->number != HESSIAN_ACCEPTED) {
+    if (!has_rows(r)) {
         printf("refused %u %zu\n", r->number, r->place);
         return REFUSED;
     }
@@ -48,14 +50,21 @@ static int print_rows(const struct input *in, const void *how)
 
 static int run_rows(const struct command *self, int argc, char **argv)
 {
-    static const struct option options[] = {{"help", no_argument, NULL, 'h'}, {NULL, 0, NULL, 0}};
-    int option = next_option(argc, argv, ":h", options);
+    static const struct option options[] = {
+        {"thousandths", no_argument, NULL, 't'}, {"help", no_argument, NULL, 'h'}, {NULL, 0, NULL, 0}
+    };
+    bool thousandths = false;
+    int option;
 
-    if (option == 'h')
-        return print_help(self);
-    if (option != -1)
-        return wrong_option(self, option, argv);
-    return finished(self, each_record(self, argc - optind, argv + optind, print_rows, NULL));
+    while ((option = next_option(argc, argv, ":h", options)) != -1) {
+        if (option == 'h')
+            return print_help(self);
+        if (option != 't')
+            return wrong_option(self, option, argv);
+        thousandths = true;
+    }
+    return finished(self, each_record(self, (struct named){argc - optind, argv + optind, thousandths}, print_rows,
+                                      NULL));
 }
 
 const struct command rows_command = {"rows", "the rows of a record, a line each", help, run_rows};

@@ -12,11 +12,15 @@
 #include "replace.h"
 
 static const char help[] =
-    "usage: hessian shorten [FILE] [-o OUT]\n"
+    "usage: hessian shorten [--thousandths] [FILE] [-o OUT]\n"
     "\n"
     "Writes the shortest form of a Hessian 2.0 record. FILE is a record file; - or no name is standard input.\n"
     "\n"
     "    -o, --output OUT   write to OUT instead of standard output; - is standard output\n"
+    "    --thousandths      5f and four bytes of FILE are no float but a whole number m, and stand for m times\n"
+    "                       0.001. What is written is by the main rule, where 5f is a float: it is no longer\n"
+    "                       to be read by --thousandths, and nothing in it tells. It may be longer than FILE,\n"
+    "                       and FILE is refused, number 1, where it would be longer than 262144 bytes\n"
     "    -h, --help         this page\n"
     "    --                 what follows is no option\n"
     "\n"
@@ -57,17 +61,22 @@ static int write_shortest(const struct input *in, const void *how)
 static int run_shorten(const struct command *self, int argc, char **argv)
 {
     static const struct option options[] = {
-        {"output", required_argument, NULL, 'o'}, {"help", no_argument, NULL, 'h'}, {NULL, 0, NULL, 0}
+        {"output", required_argument, NULL, 'o'}, {"thousandths", no_argument, NULL, 't'},
+        {"help", no_argument, NULL, 'h'},         {NULL, 0, NULL, 0}
     };
     const char *output = NULL;
+    bool thousandths = false;
     int option;
 
     while ((option = next_option(argc, argv, ":ho:", options)) != -1) {
         if (option == 'h')
             return print_help(self);
-        if (option != 'o')
+        if (option == 't')
+            thousandths = true;
+        else if (option == 'o')
+            output = optarg;
+        else
             return wrong_option(self, option, argv);
-        output = optarg;
     }
     if (argc - optind > 1)
         return wrong_usage(self, "more than one FILE is named");
@@ -77,7 +86,8 @@ static int run_shorten(const struct command *self, int argc, char **argv)
         output = NULL;
     /* a file that may grow no further is trouble to be told, and to be cleared away */
     signal(SIGXFSZ, SIG_IGN);
-    return finished(self, each_record(self, argc - optind, argv + optind, write_shortest, output));
+    return finished(self, each_record(self, (struct named){argc - optind, argv + optind, thousandths}, write_shortest,
+                                      output));
 }
 
 const struct command shorten_command = {"shorten", "the shortest form of a record", help, run_shorten};

@@ -5,5 +5,6 @@ pub mod Grammar
 pub mod Tests
 pub mod Laws
 pub mod Lifts
+pub mod Retellings
 pub mod Refusals
 pub mod OverlayLaws

@@ -128,6 +128,10 @@ module _ {A : Type 0} (width : ℕ) (encode : A → List ℕ) (sized : (x : A) �
   unfolding overlay
   overlay-cons t i x xs = let e : i + 1 ≡ suc i = omega arith in rw e (sym (overlay-put t i (suc i) x xs (omega arith)))
 
+  pub overlay-one : (t : List ℕ) (k : ℕ) (x : A) → overlay width encode t k (x ∷ []) ≡ put width encode t k x
+  unfolding overlay
+  overlay-one t k x = refl
+
   pub overlay-append : (t : List ℕ) (i : ℕ) (a b : List A) → overlay width encode (overlay width encode t i a)
       (i + length a) b ≡ overlay width encode t i (a ++ b)
   unfolding overlay

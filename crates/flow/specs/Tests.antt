@@ -85,6 +85,12 @@ pub pick-true : {A : Type 0} {b : Bool} (x y : A) → b ≡ true → pick b x y 
 unfolding pick
 pick-true {b} x y h = ap (λ (t : Bool). pick t x y) h
 
+-- a function of either
+pub pick-through : {A B : Type 0} (φ : A → B) (b : Bool) (x y : A) → φ (pick b x y) ≡ pick b (φ x) (φ y)
+unfolding pick
+pick-through φ true x y = refl
+pick-through φ false x y = refl
+
 pub pick-false : {A : Type 0} {b : Bool} (x y : A) → b ≡ false → pick b x y ≡ y
 unfolding pick
 pick-false {b} x y h = ap (λ (t : Bool). pick t x y) h

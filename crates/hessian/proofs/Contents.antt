@@ -16,7 +16,7 @@ use Rattle.record.specs.Model.Kinds.{bytes-kind}
 use Rattle.record.specs.Model.Claims.{isTextKind, namedContent}
 use Rattle.record.specs.Laws.NamedContents.{named-bytes, named-text, named-other}
 use Rattle.hessian.specs.declared.HessianAnswer.{HessianAnswer}
-use Rattle.hessian.specs.Packed.{answer, told, ContentGives}
+use Rattle.hessian.specs.Packed.{answer, answerReport, ContentGives}
 
 -- ---- a content at a place, by what storing it came to
 module _ (w : Option (List ℕ)) (o o′ : List ℕ) (x : Written)
@@ -38,20 +38,20 @@ module _ (w : Option (List ℕ)) (o o′ : List ℕ) (x : Written)
 -- ---- what a row names, by its kind
 module _ (s : List ℕ) (k p : ℕ) (o : List ℕ) (r : HessianAnswer) (o′ : List ℕ) where
   gives-as : (w : Option (List ℕ)) → namedContent s k p ≡ w
-      → (told r ≡ reportOf w (length o) 0) × (o′ ≡ outputOf w o 0) → ContentGives s k p o r o′
+      → (answerReport r ≡ reportOf w (length o) 0) × (o′ ≡ outputOf w o 0) → ContentGives s k p o r o′
   gives-as w e g = record { report = rw e (g .0); output = rw e (g .1) }
 
   pub gives-bytes : k ≡ bytes-kind
-      → (told r ≡ reportOf (contentRead (stringAt Binary s p)) (length o) 0)
+      → (answerReport r ≡ reportOf (contentRead (stringAt Binary s p)) (length o) 0)
       × (o′ ≡ outputOf (contentRead (stringAt Binary s p)) o 0) → ContentGives s k p o r o′
   gives-bytes e g = gives-as _ (named-bytes s k p e) g
 
   module _ (e : k ≡ bytes-kind → ⊥) where
     pub gives-text : true ≡ isTextKind k
-        → (told r ≡ reportOf (contentRead (stringAt Utf8 s p)) (length o) 0)
+        → (answerReport r ≡ reportOf (contentRead (stringAt Utf8 s p)) (length o) 0)
         × (o′ ≡ outputOf (contentRead (stringAt Utf8 s p)) o 0) → ContentGives s k p o r o′
     gives-text f g = gives-as _ (named-text s k p e f) g
 
-    pub gives-none : false ≡ isTextKind k → told r ≡ answer 10 0 0 → o′ ≡ o → ContentGives s k p o r o′
+    pub gives-none : false ≡ isTextKind k → answerReport r ≡ answer 10 0 0 → o′ ≡ o → ContentGives s k p o r o′
     gives-none f q g =
         gives-as none (named-other s k p e f) (q ∙ sym (report-none (length o) 0), g ∙ sym (output-none o 0))

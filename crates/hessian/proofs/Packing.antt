@@ -5,6 +5,7 @@ use mathlib.Core.List.{List}
 use Prim.Native.Nat.{ℕ, _≤_}
 use native.Mathlib.Omega.{arith}
 use lib.ListN.{length}
+use Rattle.scalar.specs.Scalars.{DoubleRule}
 use Rattle.flow.specs.Flow.{Report}
 use Rattle.record.specs.Model.Claims.{contentAt}
 use Rattle.record.specs.Model.Answers.{base, baseOpenFrom, asBytes, lentRows}
@@ -19,10 +20,10 @@ use Rattle.writer.specs.Answers as writes
 use Rattle.hessian.specs.Packed.{packed, answer, ReadGives, WriteGives}
 
 -- ---- reading
-module _ (m t : List ℕ) (r : ReadAnswer) (t′ : List ℕ) (g : ReadCall base asBytes m t (report r) t′) where
+module _ (ρ : DoubleRule) (m t : List ℕ) (r : ReadAnswer) (t′ : List ℕ) (g : ReadCall ρ base asBytes m t (report r) t′) where
   small : (r′ : ReadAnswer) → r ≡ r′ → (report r′ .count ≤ base .longest) × (report r′ .place ≤ base .longest)
   small r′ h =
-      let s = answer-small base (lentRows asBytes t) m (g .bytes) in
+      let s = answer-small ρ base (lentRows asBytes t) m (g .bytes) in
       let f = ap report (sym h) ∙ g .report in
       let c = ap (λ (x : Report). x .count) f in
       let p = ap (λ (x : Report). x .place) f in
@@ -40,16 +41,16 @@ module _ (m t : List ℕ) (r : ReadAnswer) (t′ : List ℕ) (g : ReadCall base 
   pub needed-small : (n : ℕ) → r ≡ TooFew n → n ≤ base .longest
   needed-small n h = small (TooFew n) h .0
 
-  packed-as : (r′ : ReadAnswer) → r ≡ r′ → (v : ℕ) → v ≡ packed (report r′) → ReadGives m t v t′
+  packed-as : (r′ : ReadAnswer) → r ≡ r′ → (v : ℕ) → v ≡ packed (report r′) → ReadGives ρ m t v t′
   packed-as r′ h v q = record { report = report r; call = g; as-one = q ∙ ap packed (ap report (sym h)) }
 
-  pub packed-accepted : (n k v : ℕ) → r ≡ Accepted n k → v ≡ packed (answer 0 n k) → ReadGives m t v t′
+  pub packed-accepted : (n k v : ℕ) → r ≡ Accepted n k → v ≡ packed (answer 0 n k) → ReadGives ρ m t v t′
   packed-accepted n k v h q = packed-as (Accepted n k) h v q
 
-  pub packed-refused : (x o v : ℕ) → r ≡ Refused x o → v ≡ packed (answer x 0 o) → ReadGives m t v t′
+  pub packed-refused : (x o v : ℕ) → r ≡ Refused x o → v ≡ packed (answer x 0 o) → ReadGives ρ m t v t′
   packed-refused x o v h q = packed-as (Refused x o) h v q
 
-  pub packed-few : (n v : ℕ) → r ≡ TooFew n → v ≡ packed (answer 9 n 0) → ReadGives m t v t′
+  pub packed-few : (n v : ℕ) → r ≡ TooFew n → v ≡ packed (answer 9 n 0) → ReadGives ρ m t v t′
   packed-few n v h q = packed-as (TooFew n) h v q
 
 -- ---- writing

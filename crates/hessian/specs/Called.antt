@@ -4,6 +4,7 @@ use mathlib.Core.List.{List}
 use Prim.Native.Nat.{ℕ, _+_, _*_, _/_, _%_, _^_, _≤_}
 use native.Mathlib.Omega.{arith}
 use lib.ListN.{length}
+use Rattle.scalar.specs.Scalars.{DoubleRule, Floats, Thousandths}
 use Rattle.flow.specs.Flow.{Report}
 use Rattle.record.specs.Model.Claims.{contentOf, contentAt}
 use Rattle.record.specs.Laws.NamedContents.{named-content}
@@ -23,13 +24,13 @@ pub of-bytes : demands.OfBytes
 of-bytes = theorem base (omega arith) baseOpenFrom (omega arith) asBytes bytes-keep
 
 pub of-reader-read : demands.OfReaderRead
-of-reader-read m t r t′ g = of-numbers .reading m t _ t′ g
+of-reader-read ρ m t r t′ g = of-numbers .reading ρ m t _ t′ g
 
 pub of-writer-write : demands.OfWriterWrite
 of-writer-write s t n o r o′ g = of-numbers .writing s t n o _ o′ g
 
 pub of-reader-read-bytes : demands.OfReaderReadBytes
-of-reader-read-bytes m t r t′ g = of-bytes .reading m t _ t′ g
+of-reader-read-bytes ρ m t r t′ g = of-bytes .reading ρ m t _ t′ g
 
 pub of-writer-write-bytes : demands.OfWriterWriteBytes
 of-writer-write-bytes s t n o r o′ g = of-bytes .writing s t n o _ o′ g
@@ -43,13 +44,14 @@ back r c p =
     let z : packed r % 2 ^ 24 ≡ r .place = omega arith in
     λ i. answer (x i) (y i) (z i)
 
-read-call : (m t : List ℕ) (a : ℕ) (t′ : List ℕ) → ReadGives m t a t′ → ReadCall base asBytes m t (unpacked a) t′
-read-call m t a t′ g =
-    let s = answer-small base (lentRows asBytes t) m (g .call .bytes) in
+read-call : (ρ : DoubleRule) (m t : List ℕ) (a : ℕ) (t′ : List ℕ) → ReadGives ρ m t a t′
+    → ReadCall ρ base asBytes m t (unpacked a) t′
+read-call ρ m t a t′ g =
+    let s = answer-small ρ base (lentRows asBytes t) m (g .call .bytes) in
     let e = g .call .report in
     let c : g .report .count ≤ base .longest = subst (λ (r : Report). r .count ≤ base .longest) (sym e) (s .0) in
     let p : g .report .place ≤ base .longest = subst (λ (r : Report). r .place ≤ base .longest) (sym e) (s .1) in
-    subst (λ (r : Report). ReadCall base asBytes m t r t′) (sym (ap unpacked (g .as-one) ∙ back (g .report) c p))
+    subst (λ (r : Report). ReadCall ρ base asBytes m t r t′) (sym (ap unpacked (g .as-one) ∙ back (g .report) c p))
     (g .call)
 
 write-call : (s t : List ℕ) (n : ℕ) (o : List ℕ) (a : ℕ) (o′ : List ℕ) → WriteGives s t n o a o′
@@ -64,7 +66,7 @@ write-call s t n o a o′ g =
     (sym (ap unpacked (g .as-one) ∙ back (g .report) c p)) (g .call)
 
 pub of-hessian-read : demands.OfHessianRead
-of-hessian-read m t a t′ g = of-bytes .reading m t _ t′ (read-call m t a t′ g)
+of-hessian-read ρ m t a t′ g = of-bytes .reading ρ m t _ t′ (read-call ρ m t a t′ g)
 
 pub of-hessian-write : demands.OfHessianWrite
 of-hessian-write s t n o a o′ g = of-bytes .writing s t n o _ o′ (write-call s t n o a o′ g)
@@ -73,13 +75,13 @@ pub hessian-shortest : demands.HessianShortest
 hessian-shortest s t n w x =
     let y = of-bytes .shortening s t n w x in
     record {
-      written-reads = λ t₂ a₂ t₂′ g. y .written-reads t₂ _ t₂′ (read-call w t₂ a₂ t₂′ g);
-      no-shorter = λ m tm am tm′ g. y .no-shorter m tm _ tm′ (read-call m tm am tm′ g);
+      written-reads = λ t₂ a₂ t₂′ g. y .written-reads t₂ _ t₂′ (read-call Floats w t₂ a₂ t₂′ g);
+      no-shorter = λ m tm am tm′ g. y .no-shorter m tm _ tm′ (read-call Floats m tm am tm′ g);
     }
 
 pub hessian-rewritten : demands.HessianRewritten
 hessian-rewritten m t a t′ g z o c o′ h l =
-    of-bytes .rewriting m t _ t′ (read-call m t a t′ g) z o _ o′ (write-call m t′ (unpacked a .count) o c o′ h) l
+    of-bytes .rewriting m t _ t′ (read-call Floats m t a t′ g) z o _ o′ (write-call m t′ (unpacked a .count) o c o′ h) l
 
 pub hessian-copies : demands.HessianCopies
 hessian-copies s₁ t₁ n₁ o₁ a₁ o₁′ g₁ z₁ s₂ t₂ n₂ o₂ a₂ o₂′ g₂ z₂ =
@@ -88,6 +90,16 @@ hessian-copies s₁ t₁ n₁ o₁ a₁ o₁′ g₁ z₁ s₂ t₂ n₂ o₂ a�
 
 pub hessian-skips : demands.HessianSkips
 hessian-skips = of-bytes .skipping
+
+pub hessian-rewritten-under : demands.HessianRewrittenUnder
+hessian-rewritten-under ρ m t a t′ g z o c o′ h =
+    let y = of-bytes .rewriting-under ρ m t _ t′ (read-call ρ m t a t′ g) z o _ o′
+    (write-call m t′ (unpacked a .count) o c o′ h) in
+    (y .0, λ d t₂ a₂ t₂′ r. y .1 d t₂ _ t₂′ (read-call Floats _ t₂ a₂ t₂′ r))
+
+pub hessian-told : demands.HessianTold
+hessian-told m t a t′ g b t″ h =
+    of-bytes .telling m t _ t′ (read-call Floats m t a t′ g) _ t″ (read-call Thousandths m t b t″ h)
 
 pub hessian-contents : demands.HessianContents
 hessian-contents s x i claims names o r o′ g l =

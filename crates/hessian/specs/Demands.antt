@@ -1,14 +1,18 @@
 -- The demands, of each public function that reads or writes whole messages: instances of record's theorem
 -- (Theorems/Demands.antt), for 01's limits and threshold. A call is what its function promises: ReadCall and WriteCall
--- of the answer's report, and for C ReadGives and WriteGives (Packed.antt). The proofs are in Called.antt.
-use mathlib.Core.{Path._≡_, Logic._↔_, Bool.true, List.List}
+-- of the answer's report, and for C ReadGives, WriteGives and ContentGives (Packed.antt). The proofs are in
+-- Called.antt.
+use mathlib.Core.{Path._≡_, Logic._↔_, Bool.true, List.List, List.map}
 use Prim.Native.Nat.{ℕ, _≤_}
 use lib.ListN.{length, take}
+use Rattle.flow.specs.RefusalNumbers.{no-record}
 use Rattle.flow.specs.Flow.{stored}
+use Rattle.scalar.specs.Scalars.{DoubleRule, Floats, Thousandths}
 use Rattle.record.specs.Model.Items.{Item}
 use Rattle.record.specs.Model.Rows.{Row}
 use Rattle.record.specs.Model.Claims.{contentOf, contentAt, namesContent, Claims}
 use Rattle.record.specs.Model.Answers.{base, baseOpenFrom, asNumbers, asBytes, lentRows, rowsOf}
+use Rattle.record.specs.Model.Terms.{rowInThousandths}
 use Rattle.record.specs.Model.Same.{SameRecord}
 use Rattle.record.specs.Model.Hops.{Skippable}
 use Rattle.record.specs.Model.Calls.{ReadCall, WriteCall, RecordOf, ShortestOf}
@@ -18,12 +22,12 @@ use Rattle.reader.specs.Answers as reader
 use Rattle.writer.specs.declared.WriteAnswer.{WriteAnswer}
 use Rattle.writer.specs.Answers as writer
 use Rattle.hessian.specs.declared.HessianAnswer.{HessianAnswer}
-use Rattle.hessian.specs.Packed.{unpacked, answer, told, ReadGives, WriteGives, ContentGives}
+use Rattle.hessian.specs.Packed.{unpacked, answer, answerReport, ReadGives, WriteGives, ContentGives}
 
--- ---- reader::read and writer::write, on tables of numbers
+-- ---- reader::read and read_thousandths, each by its rule of 5f, and writer::write, on tables of numbers
 abbrev pub OfReaderRead : Type 0
-OfReaderRead = (m t : List ℕ) (r : ReadAnswer) (t′ : List ℕ) → ReadCall base asNumbers m t (reader.report r) t′
-    → OfRead base asNumbers m t (reader.report r) t′
+OfReaderRead = (ρ : DoubleRule) (m t : List ℕ) (r : ReadAnswer) (t′ : List ℕ)
+    → ReadCall ρ base asNumbers m t (reader.report r) t′ → OfRead ρ base asNumbers m t (reader.report r) t′
 
 abbrev pub OfWriterWrite : Type 0
 OfWriterWrite = (s t : List ℕ) (n : ℕ) (o : List ℕ) (r : WriteAnswer) (o′ : List ℕ)
@@ -34,10 +38,10 @@ OfWriterWrite = (s t : List ℕ) (n : ℕ) (o : List ℕ) (r : WriteAnswer) (o�
 abbrev pub OfNumbers : Type 0
 OfNumbers = Demanded base baseOpenFrom asNumbers
 
--- ---- reader::read_bytes and writer::write_bytes, on C's tables
+-- ---- reader::read_bytes and read_bytes_thousandths, and writer::write_bytes, on C's tables
 abbrev pub OfReaderReadBytes : Type 0
-OfReaderReadBytes = (m t : List ℕ) (r : ReadAnswer) (t′ : List ℕ) → ReadCall base asBytes m t (reader.report r) t′
-    → OfRead base asBytes m t (reader.report r) t′
+OfReaderReadBytes = (ρ : DoubleRule) (m t : List ℕ) (r : ReadAnswer) (t′ : List ℕ)
+    → ReadCall ρ base asBytes m t (reader.report r) t′ → OfRead ρ base asBytes m t (reader.report r) t′
 
 abbrev pub OfWriterWriteBytes : Type 0
 OfWriterWriteBytes = (s t : List ℕ) (n : ℕ) (o : List ℕ) (r : WriteAnswer) (o′ : List ℕ)
@@ -47,9 +51,10 @@ OfWriterWriteBytes = (s t : List ℕ) (n : ℕ) (o : List ℕ) (r : WriteAnswer)
 abbrev pub OfBytes : Type 0
 OfBytes = Demanded base baseOpenFrom asBytes
 
--- ---- hessian_read and hessian_write
+-- ---- hessian_read, hessian_read_thousandths and hessian_write
 abbrev pub OfHessianRead : Type 0
-OfHessianRead = (m t : List ℕ) (a : ℕ) (t′ : List ℕ) → ReadGives m t a t′ → OfRead base asBytes m t (unpacked a) t′
+OfHessianRead = (ρ : DoubleRule) (m t : List ℕ) (a : ℕ) (t′ : List ℕ) → ReadGives ρ m t a t′
+    → OfRead ρ base asBytes m t (unpacked a) t′
 
 abbrev pub OfHessianWrite : Type 0
 OfHessianWrite = (s t : List ℕ) (n : ℕ) (o : List ℕ) (a : ℕ) (o′ : List ℕ) → WriteGives s t n o a o′
@@ -57,9 +62,9 @@ OfHessianWrite = (s t : List ℕ) (n : ℕ) (o : List ℕ) (a : ℕ) (o′ : Lis
 
 -- a shortest message is accepted and reads as the same record, and no accepted message that does is shorter
 pub record OfHessianShortest (s t : List ℕ) (n : ℕ) (w : List ℕ) : Type 0 where
-  pub written-reads : (t₂ : List ℕ) (a₂ : ℕ) (t₂′ : List ℕ) → ReadGives w t₂ a₂ t₂′ → n ≤ lentRows asBytes t₂
+  pub written-reads : (t₂ : List ℕ) (a₂ : ℕ) (t₂′ : List ℕ) → ReadGives Floats w t₂ a₂ t₂′ → n ≤ lentRows asBytes t₂
       → (unpacked a₂ .number ≡ 0) × SameRecord s w (rowsOf asBytes n t) (rowsOf asBytes (unpacked a₂ .count) t₂′)
-  pub no-shorter : (m tm : List ℕ) (am : ℕ) (tm′ : List ℕ) → ReadGives m tm am tm′ → unpacked am .number ≡ 0
+  pub no-shorter : (m tm : List ℕ) (am : ℕ) (tm′ : List ℕ) → ReadGives Floats m tm am tm′ → unpacked am .number ≡ 0
       → SameRecord s m (rowsOf asBytes n t) (rowsOf asBytes (unpacked am .count) tm′) → length w ≤ length m
 
 abbrev pub HessianShortest : Type 0
@@ -67,9 +72,29 @@ HessianShortest = (s t : List ℕ) (n : ℕ) (w : List ℕ) → ShortestOf base 
 
 -- what was read is written in no more bytes
 abbrev pub HessianRewritten : Type 0
-HessianRewritten = (m t : List ℕ) (a : ℕ) (t′ : List ℕ) → ReadGives m t a t′ → unpacked a .number ≡ 0
+HessianRewritten = (m t : List ℕ) (a : ℕ) (t′ : List ℕ) → ReadGives Floats m t a t′ → unpacked a .number ≡ 0
     → (o : List ℕ) (c : ℕ) (o′ : List ℕ) → WriteGives m t′ (unpacked a .count) o c o′ → length m ≤ length o
     → (unpacked c .number ≡ 0) × (unpacked c .count ≤ length m)
+
+-- request 2026-11: what was read by either rule of 5f is a record, and what is written of it reads back, by the main
+-- rule, as the same one
+abbrev pub HessianRewrittenUnder : Type 0
+HessianRewrittenUnder = (ρ : DoubleRule) (m t : List ℕ) (a : ℕ) (t′ : List ℕ) → ReadGives ρ m t a t′
+    → unpacked a .number ≡ 0
+    → (o : List ℕ) (c : ℕ) (o′ : List ℕ) → WriteGives m t′ (unpacked a .count) o c o′
+    → (unpacked c .number ≡ no-record → ⊥)
+    × (unpacked c .number ≡ 0 → (t₂ : List ℕ) (a₂ : ℕ) (t₂′ : List ℕ)
+    → ReadGives Floats (take (unpacked c .count) o′) t₂ a₂ t₂′ → unpacked a .count ≤ lentRows asBytes t₂
+    → (unpacked a₂ .number ≡ 0) × SameRecord m (take (unpacked c .count) o′)
+    (rowsOf asBytes (unpacked a .count) t′) (rowsOf asBytes (unpacked a₂ .count) t₂′))
+
+-- request 2026-11: both rules give one answer, and an accepted message the same rows, but for the bits of doubles at 5f
+abbrev pub HessianTold : Type 0
+HessianTold = (m t : List ℕ) (a : ℕ) (t′ : List ℕ) → ReadGives Floats m t a t′
+    → (b : ℕ) (t″ : List ℕ) → ReadGives Thousandths m t b t″
+    → (unpacked a ≡ unpacked b)
+    × (unpacked a .number ≡ 0
+    → rowsOf asBytes (unpacked a .count) t″ ≡ map (rowInThousandths m) (rowsOf asBytes (unpacked a .count) t′))
 
 -- true copies: two tables hold the same record exactly when the messages written are the same bytes
 abbrev pub HessianCopies : Type 0
@@ -90,4 +115,4 @@ abbrev pub HessianContents : Type 0
 HessianContents = (s : List ℕ) (x : Row) (i : Item) → Claims (contentAt s) x i → namesContent (x .kind) ≡ true
     → (o : List ℕ) (r : HessianAnswer) (o′ : List ℕ) → ContentGives s (x .kind) (x .place) o r o′
     → length (contentOf i) ≤ length o
-    → (told r ≡ answer 0 (length (contentOf i)) 0) × (o′ ≡ stored o 0 (contentOf i))
+    → (answerReport r ≡ answer 0 (length (contentOf i)) 0) × (o′ ≡ stored o 0 (contentOf i))

@@ -17,9 +17,9 @@ ghost use Prim.Native.Nat.{_≤_};
 ghost use Rattle.record.specs.Model.Answers.{base};
 ghost use Rattle.record.specs.Model.Claims.{isTextKind};
 ghost use lib.ListN.{length};
-ghost use Rattle.scalar.specs.Scalars.{stringAt};
+ghost use Rattle.scalar.specs.Scalars.{Floats, Thousandths, stringAt};
 ghost use Rattle.scalar.specs.Answers.{contentRead, reportOf, outputOf};
-ghost use Rattle.hessian.specs.Packed.{packed, answer, told, ReadGives, WriteGives, ContentGives};
+ghost use Rattle.hessian.specs.Packed.{packed, answer, answerReport, ReadGives, WriteGives, ContentGives};
 
 // Number, count and place of an answer.
 #[repr(C)]
@@ -40,12 +40,24 @@ fn pack(number: u8, count: usize, place: usize) -> u64
 // Reads the message into the table.
 #[no_mangle]
 pub extern "C" fn hessian_read(message: &[u8], table: &mut [u8]) -> u64
-    ensures { λ r. ⌜ ReadGives (now (message .entry)) (now (table .entry)) r (now (table .exit)) ⌝ }
+    ensures { λ r. ⌜ ReadGives Floats (now (message .entry)) (now (table .entry)) r (now (table .exit)) ⌝ }
 {
     match reader::read_bytes(message, table) {
         ReadAnswer::Accepted { rows, length } => pack(0, rows, length),
         ReadAnswer::Refused { number, place } => pack(number, 0, place),
         ReadAnswer::TooFew { needed } => pack(ROOM, needed, 0),
+    }
+}
+
+// The same, where 5f counts thousandths.
+#[no_mangle]
+pub extern "C" fn hessian_read_thousandths(message: &[u8], table: &mut [u8]) -> u64
+    ensures { λ r. ⌜ ReadGives Thousandths (now (message .entry)) (now (table .entry)) r (now (table .exit)) ⌝ }
+{
+    match reader::read_bytes_thousandths(message, table) {
+        ReadAnswer::Accepted { rows, length } => pack(0, rows, length),
+        ReadAnswer::Refused { number, place: at } => pack(number, 0, at),
+        ReadAnswer::TooFew { needed: rows } => pack(ROOM, rows, 0),
     }
 }
 
@@ -81,8 +93,10 @@ fn is_text_kind(kind: u64) -> bool
 // The content of the text or byte string at the place, copied to the output.
 fn copy_content(kind: Encoding, source: &[u8], place: usize, output: &mut [u8]) -> HessianAnswer
     ensures { λ r. ⌜
-        (told r ≡ reportOf (contentRead (stringAt kind (now (source .entry)) place)) (length (now (output .entry))) 0)
-        × (now (output .exit) ≡ outputOf (contentRead (stringAt kind (now (source .entry)) place)) (now (output .entry)) 0)
+        (answerReport r
+        ≡ reportOf (contentRead (stringAt kind (now (source .entry)) place)) (length (now (output .entry))) 0)
+        × (now (output .exit)
+        ≡ outputOf (contentRead (stringAt kind (now (source .entry)) place)) (now (output .entry)) 0)
         ⌝ }
 {
     match text_writer::write_content(kind, source, place, output) {

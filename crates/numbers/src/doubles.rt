@@ -1,9 +1,10 @@
 // Doubles by their bits. The definitions are in scalar's specs/Scalars.antt.
 ghost use mathlib.Core.Path.{_≡_};
 ghost use Prim.Native.Nat.{_+_, _^_, _≤_, _<_};
-ghost use mir.Syntax.{w8, w16};
+ghost use mir.Syntax.{w8, w16, w32};
 ghost use mir.Val.{toZ};
 ghost use Rattle.scalar.specs.Scalars.{scaled as scaledOf, whole as wholeOf, widened as widenedOf};
+ghost use Rattle.scalar.specs.Scalars.{thousandths as thousandthsOf};
 ghost use Rattle.scalar.specs.Guesses.{narrowMagnitude, narrowed as narrowedOf, wholeSize, wholeGuess};
 
 // The bits of the double m * 2 ^ (c - 1074).
@@ -32,6 +33,25 @@ pub(crate) fn widened(u: u32) -> u64
         return s;
     }
     s + scaled(925, t)
+}
+
+// The bits of the double that m thousandths are: m as a double, which is exact, times the double nearest to 0.001,
+// rounded once.
+fn thousandths_of(m: i32) -> u64
+    ensures { λ r. ⌜ r ≡ thousandthsOf m ⌝ }
+{
+    f64::to_bits((m as f64) * 0.001)
+}
+
+// The same of a whole number of 32 bits, by its two's complement.
+pub fn thousandths(u: u32) -> u64
+    ensures { λ r. ⌜ r ≡ thousandthsOf (toZ w32 u) ⌝ }
+{
+    if u < 0x8000_0000 {
+        thousandths_of(u as i32)
+    } else {
+        thousandths_of((u as i64 - 0x1_0000_0000) as i32)
+    }
 }
 
 // The bits of the double that is the whole number n.

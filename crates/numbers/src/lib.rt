@@ -2,7 +2,7 @@
 // specs/Scalars.antt.
 pub mod chart;
 pub mod direct;
-pub(crate) mod doubles;
+pub mod doubles;
 pub(crate) mod signed;
 mod stores;
 

@@ -10,6 +10,7 @@ use lib.Seq.{getD-set-same, getD-set-other, take-set-le, take-suc-set, length-ta
 use mir.Syntax.{w64}
 use mir.Val.{Fits}
 use borrow.Author.Tests.{eq-eqb}
+use Rattle.scalar.specs.Scalars.{Floats}
 use Rattle.flow.specs.Flow.{Done, One, byteAt}
 use Rattle.scalar.specs.declared.Lead.the-variants as lead
 use Rattle.scalar.specs.declared.Encoding.the-variants.{Utf8}
@@ -309,8 +310,8 @@ pub record ReadingDefinitions (m t₀ b₀ ks₀ : List ℕ) (s₀ : Spot) (t b 
   pub some : List Row
   pub says :
       (d : ℕ)
-      → front some (run (byteAt (valueFrom base d)) (knownIn ks) m (s .at))
-      ≡ run (byteAt (valueFrom base d)) (knownIn ks₀) m (s₀ .at)
+      → front some (run (byteAt (valueFrom Floats base d)) (knownIn ks) m (s .at))
+      ≡ run (byteAt (valueFrom Floats base d)) (knownIn ks₀) m (s₀ .at)
   pub reads : ReadsRows m t₀ b₀ s₀ s t b ks some
   pub same-numbers : length t ≡ length t₀
   pub same-bytes : length b ≡ length b₀
@@ -318,7 +319,7 @@ pub record ReadingDefinitions (m t₀ b₀ ks₀ : List ℕ) (s₀ : Spot) (t b 
 pub definitions-start : (m t b ks : List ℕ) (s : Spot) → ReadyAt m ks s → ReadingDefinitions m t b ks s t b ks s
 definitions-start m t b ks s w = record {
   some = [];
-  says = λ d. front-none (run (byteAt (valueFrom base d)) (knownIn ks) m (s .at));
+  says = λ d. front-none (run (byteAt (valueFrom Floats base d)) (knownIn ks) m (s .at));
   reads = reads-none m t b ks s w;
   same-numbers = refl;
   same-bytes = refl;
@@ -331,7 +332,7 @@ module _ {m t₀ b₀ ks₀ : List ℕ} {s₀ : Spot} {t b ks : List ℕ} {s : S
     (R : ReadingDefinitions m t₀ b₀ ks₀ s₀ t b ks s) (l : LeadAt m (s .at) lead.Definition)
     {x : DefinitionRead} {t′ b′ ks′ : List ℕ} (h : DefinitionReadMet m t b ks s x t′ b′ ks′) where
   pub definitions-refused : (y o : ℕ) → x ≡ definition-read.Refused y o
-      → (d : ℕ) → run (byteAt (valueFrom base d)) (knownIn ks₀) m (s₀ .at) ≡ RefusedAt y o
+      → (d : ℕ) → run (byteAt (valueFrom Floats base d)) (knownIn ks₀) m (s₀ .at) ≡ RefusedAt y o
   definitions-refused y o g d =
       let code = eq-eqb (getD m (s .at) 0) 0x43 (definition-code m (s .at) l) in
       sym (R .says d)
@@ -348,7 +349,7 @@ module _ {m t₀ b₀ ks₀ : List ℕ} {s₀ : Spot} {t b ks : List ℕ} {s : S
       record {
         some = R .some ++ v .rows;
         says = λ d.
-            sym (front-front (R .some) (v .rows) (run (byteAt (valueFrom base d)) (knownIn ks′) m (s′ .at)))
+            sym (front-front (R .some) (v .rows) (run (byteAt (valueFrom Floats base d)) (knownIn ks′) m (s′ .at)))
             ∙ ap (front (R .some))
             (sym
             (value-defined base d (knownIn ks) m (s .at) (l .inside) code (s′ .at) (v .rows) (knownIn ks′) (v .says)))

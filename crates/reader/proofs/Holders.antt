@@ -11,6 +11,7 @@ use lib.Seq.{length-take-le, getD-take}
 use borrow.Author.Tests.{eq-eqb, ne-eqb, eqb-true, eqb-false, ltb-true, ltb-false}
 use mir.Syntax.{w64}
 use mir.Val.{Fits}
+use Rattle.scalar.specs.Scalars.{Floats}
 use Rattle.flow.specs.Flow.{pick, Done, Fault, One, byteAt}
 use Rattle.flow.specs.Tests.{pick-true, pick-false, pick-either, by-cases}
 use Rattle.scalar.specs.declared.Sort.the-variants.{Int}
@@ -117,13 +118,13 @@ module _ (m : List ℕ) (p : ℕ) where
 -- ---- a value that holds others, where one more may open
 -- what is read of it, where u reads the values in it
 abbrev Here : List ℕ → Known → ℕ → Option (Opening One) → ReadingAt One
-Here m c p u = run (plainFrom base u p (getD m p 0)) c m (p + 1)
+Here m c p u = run (plainFrom Floats base u p (getD m p 0)) c m (p + 1)
 
 module _ (m : List ℕ) (c : Known) (p : ℕ) (x : Lead) (h : LeadAt m p x) where
   lost : (y o : ℕ) → ((u : Option (Opening One)) (f : Opening One) → u ≡ some f → Here m c p u ≡ RefusedAt y o)
       → HolderHeadMet m c p (head.Refused y o)
   lost y o s = record {
-    heads = λ d l. lead-at-lost m p x h d c y o (s (below base d) (valueFrom base (d - 1))
+    heads = λ d l. lead-at-lost m p x h d c y o (s (below base d) (valueFrom Floats base (d - 1))
         (below-some base d l));
   }
 
@@ -135,9 +136,9 @@ module _ (m : List ℕ) (c : Known) (p : ℕ) (x : Lead) (h : LeadAt m p x) wher
     heads = λ d l. record {
       says =
           lead-at-run m p x h d c
-          ∙ s (below base d) (valueFrom base (d - 1)) (below-some base d l)
+          ∙ s (below base d) (valueFrom Floats base (d - 1)) (below-some base d l)
           ∙ ap (topped p (heading (groupOf g) none))
-          (sym (front-none (run (rest (valueFrom base (d - 1)) (groupOf g) 0) (opened c) m q)));
+          (sym (front-none (run (rest (valueFrom Floats base (d - 1)) (groupOf g) 0) (opened c) m q)));
       goes = (l, tt, omega arith, w);
     };
   }
@@ -153,9 +154,9 @@ module _ (m : List ℕ) (c : Known) (p : ℕ) (x : Lead) (h : LeadAt m p x) wher
     heads = λ d l. record {
       says =
           lead-at-run m p x h d c
-          ∙ s (below base d) (valueFrom base (d - 1)) (below-some base d l)
+          ∙ s (below base d) (valueFrom Floats base (d - 1)) (below-some base d l)
           ∙ ap (λ (n : Option ℕ). topped p (heading (groupOf g) n) (front (typeRows (p + 1) of)
-          (run (rest (valueFrom base (d - 1)) (groupOf g) 0) (typedBy of (opened c)) m q))) (sym (t .numbered));
+          (run (rest (valueFrom Floats base (d - 1)) (groupOf g) 0) (typedBy of (opened c)) m q))) (sym (t .numbered));
       goes = (l, t .room, omega (arith, t .longer), w);
     };
   }

@@ -7,6 +7,7 @@ use native.Mathlib.Omega.{arith}
 use lib.ListN.{length, getD}
 use mir.Syntax.{w64}
 use mir.Val.{Fits}
+use Rattle.scalar.specs.Scalars.{Floats}
 use Rattle.flow.specs.Flow.{Bytes, Done, Fault, byteAt}
 use Rattle.scalar.specs.declared.Sort.{Sort}
 use Rattle.scalar.specs.declared.Sort.the-variants.{Int}
@@ -104,17 +105,17 @@ module _ (m : List ℕ) (p : ℕ) (x : Lead) (h : LeadAt m p x) where
   lead-at-form = form-lead (getD m p 0) (byte-small m p (h .bytes)) x (h .lead)
 
   pub lead-at-run : (d : ℕ) (c : Known)
-      → run (byteAt (plain base d)) c m p ≡ run (plainFrom base (below base d) p (getD m p 0)) c m (p + 1)
+      → run (byteAt (plain base d)) c m p ≡ run (plainFrom Floats base (below base d) p (getD m p 0)) c m (p + 1)
   lead-at-run d c = run-byte (plain base d) c m p (h .inside)
 
   -- refused; a row
   pub lead-at-lost : (d : ℕ) (c : Known) (y o : ℕ)
-      → run (plainFrom base (below base d) p (getD m p 0)) c m (p + 1) ≡ RefusedAt y o
+      → run (plainFrom Floats base (below base d) p (getD m p 0)) c m (p + 1) ≡ RefusedAt y o
       → HeadIs m c p d (head.Refused y o)
   lead-at-lost d c y o e = record { says = lead-at-run d c ∙ e; goes = tt }
 
   pub lead-at-got : (d : ℕ) (c : Known) (k v w n : ℕ) → (0 < n) × (p + n ≤ length m)
-      → run (plainFrom base (below base d) p (getD m p 0)) c m (p + 1) ≡ ReadTo (p + n) tt (row k p v w 1 ∷ []) c
+      → run (plainFrom Floats base (below base d) p (getD m p 0)) c m (p + 1) ≡ ReadTo (p + n) tt (row k p v w 1 ∷ []) c
       → HeadIs m c p d (head.Leaf k v w (p + n))
   lead-at-got d c k v w n i e = record { says = lead-at-run d c ∙ e; goes = (omega (arith, i .0), i .1) }
 

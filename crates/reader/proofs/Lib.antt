@@ -8,4 +8,5 @@ pub mod ValueHeads
 pub mod ClassDefinitions
 pub mod Containers
 pub mod ReadValues
+pub mod ThousandthLaws
 pub mod Message

@@ -6,6 +6,7 @@ use native.Mathlib.Omega.{arith}
 use lib.ListN.{length, getD, replicate}
 use mir.Syntax.{w8}
 use mir.Val.{Fits}
+use Rattle.scalar.specs.Scalars.{Floats}
 use Rattle.flow.specs.Tests.{bytes-all}
 use Rattle.flow.specs.Flow.{One, byteAt, overlay}
 use Rattle.record.specs.declared.Group.the-variants.{Counted}
@@ -77,12 +78,12 @@ one-met m t b r t′ b′ ks′ a = record { after = ks′; met = a }
 -- what reading says, where it answered r
 abbrev SaysOf : List ℕ → List ℕ → List ℕ → ValuesRead → List ℕ → List ℕ → List ℕ → Type 0
 SaysOf m t b r t′ b′ ks′ =
-    ValuesReadSays (run (rest (valueFrom base (base .containers)) (Counted 1) 0) start m 0)
+    ValuesReadSays (run (rest (valueFrom Floats base (base .containers)) (Counted 1) 0) start m 0)
     m t b messageStart (Counted 1) r t′ b′ ks′
 
 -- ---- judge
 -- z: a refusal
-refuses : (m : List ℕ) (z : Judged) (x y : ℕ) → z ≡ judged.Refused x y → ((lent : ℕ) → read base lent m ≡ Refuse x 0 y)
+refuses : (m : List ℕ) (z : Judged) (x y : ℕ) → z ≡ judged.Refused x y → ((lent : ℕ) → read Floats base lent m ≡ Refuse x 0 y)
     → JudgedMet m z
 refuses m z x y i h = subst (JudgedMet m) (sym i) (record { says = h })
 
@@ -104,15 +105,15 @@ module _ (m : List ℕ) (z : Judged) where
 
       pub judge-refused : (x y : ℕ) → r ≡ values-read.Refused x y → z ≡ judged.Refused x y → JudgedMet m z
       judge-refused x y e i =
-          let lost = single-lost (valueFrom base (base .containers)) start m 0 x y (said (values-read.Refused x y) e) in
+          let lost = single-lost (valueFrom Floats base (base .containers)) start m 0 x y (said (values-read.Refused x y) e) in
           refuses m z x y i (λ lent. read-lost base lent m (omega arith) short x y lost)
 
       module _ (s : Spot) (i : ℕ) (e : r ≡ values-read.Done s i) where
-        read-as : run (byteAt (valueFrom base (base .containers))) start m 0
+        read-as : run (byteAt (valueFrom Floats base (base .containers))) start m 0
             ≡ ReadTo (s .at) tt (said (values-read.Done s i) e .rows) (knownIn ks′)
         read-as =
             let w = said (values-read.Done s i) e in
-            single-got (valueFrom base (base .containers)) start m 0 (s .at) i (w .rows) (knownIn ks′) (w .says)
+            single-got (valueFrom Floats base (base .containers)) start m 0 (s .at) i (w .rows) (knownIn ks′) (w .says)
 
         pub judge-over : s .at < length m → z ≡ judged.Refused 8 (s .at) → JudgedMet m z
         judge-over l j =
@@ -139,7 +140,7 @@ module _ (m : List ℕ) (z : Judged) where
 module _ (m t b : List ℕ) (lent : ℕ) (r : Judged) (a : JudgedMet m r) where
   pub into-refused : (x o : ℕ) → r ≡ judged.Refused x o → ReadIntoMet m t b lent (answer.Refused x o) t b
   into-refused x o e =
-      let h : read base lent m ≡ Refuse x 0 o = subst (λ (z : Judged). JudgedSays m z) e (a .says) lent in
+      let h : read Floats base lent m ≡ Refuse x 0 o = subst (λ (z : Judged). JudgedSays m z) e (a .says) lent in
       record {
         says = sym (ap readNumbers h);
         numbers = sym (ap (λ (z : ReadResult). filled asNumbers t z) h);
@@ -153,7 +154,7 @@ module _ (m t b : List ℕ) (lent : ℕ) (r : Judged) (a : JudgedMet m r) where
     pub into-few : lent < n → ReadIntoMet m t b lent (answer.TooFew n) t b
     into-few l =
         let w = record-of in
-        let h : read base lent m ≡ Refuse 9 n 0 =
+        let h : read Floats base lent m ≡ Refuse 9 n 0 =
         read-small base lent m (w .some) (w .short) (length m) (w .rows) (w .after) (w .says)
         (omega arith) (omega (arith, w .counted))
         ∙ ap (λ (z : ℕ). Refuse 9 z 0) (w .counted) in
@@ -167,7 +168,7 @@ module _ (m t b : List ℕ) (lent : ℕ) (r : Judged) (a : JudgedMet m r) where
         → ReadIntoMet m t b lent (answer.Accepted n (length m)) t′ b′
     into-record l v t′ b′ x = go v (x .met .says)
       where
-        h : read base lent m ≡ Accept (numbered 0 (record-of .rows)) (length m)
+        h : read Floats base lent m ≡ Accept (numbered 0 (record-of .rows)) (length m)
         h =
             let w = record-of in
             read-got base lent m (w .some) (w .short) (length m) (w .rows) (w .after) (w .says)
@@ -176,14 +177,14 @@ module _ (m t b : List ℕ) (lent : ℕ) (r : Judged) (a : JudgedMet m r) where
         go : (v : ValuesRead) → SaysOf m t b v t′ b′ (x .after)
             → ReadIntoMet m t b lent (answer.Accepted n (length m)) t′ b′
         go (values-read.Refused y o) s =
-            let i = single-lost (valueFrom base (base .containers)) start m 0 y o s in
+            let i = single-lost (valueFrom Floats base (base .containers)) start m 0 y o s in
             let j = record-of .says in
             let z : _≡_ {A = ℕ} 0 1 = cc in
             absurd (omega arith)
         go (values-read.Done q i) s =
             let w = record-of in
             let g =
-            single-got (valueFrom base (base .containers)) start m 0 (q .at) i
+            single-got (valueFrom Floats base (base .containers)) start m 0 (q .at) i
             (s .rows) (knownIn (x .after)) (s .says) in
             let y = w .says in
             let same : s .rows ≡ w .rows = cc in
@@ -205,8 +206,8 @@ module _ (m t b : List ℕ) (lent : ℕ) (r : Judged) (a : JudgedMet m r) where
 -- ---- read, read_bytes
 -- one table, with as many rows lent as it has
 module _ (m : List ℕ) (bytes : (i : ℕ) → Fits w8 (getD m i 0)) (t b : List ℕ) (r : ReadAnswer) (t′ b′ : List ℕ) where
-  pub read-numbers : ReadIntoMet m t b (lentRows asNumbers t) r t′ b′ → ReadCall base asNumbers m t (report r) t′
+  pub read-numbers : ReadIntoMet m t b (lentRows asNumbers t) r t′ b′ → ReadCall Floats base asNumbers m t (report r) t′
   read-numbers x = record { bytes = bytes-all m (λ i. bytes i .fits); report = x .says; table = x .numbers }
 
-  pub read-table : ReadIntoMet m t b (lentRows asBytes b) r t′ b′ → ReadCall base asBytes m b (report r) b′
+  pub read-table : ReadIntoMet m t b (lentRows asBytes b) r t′ b′ → ReadCall Floats base asBytes m b (report r) b′
   read-table x = record { bytes = bytes-all m (λ i. bytes i .fits); report = x .says; table = x .bytes }

@@ -7,6 +7,7 @@ use native.Mathlib.Omega.{arith}
 use lib.ListN.{length, getD, length-append}
 use types.Run.{OneOf, miss}
 use denote.Enum.Declared.{tagOf}
+use Rattle.scalar.specs.Scalars.{Floats}
 use Rattle.flow.specs.Flow.{One, byteAt}
 use Rattle.record.specs.declared.Group.{Group}
 use Rattle.record.specs.Model.Items.{Known}
@@ -52,7 +53,7 @@ module _ {m t₀ b₀ ks₀ : List ℕ} {s₀ : Spot} {t b ks : List ℕ} {s : S
     (R : ReadingDefinitions m t₀ b₀ ks₀ s₀ t b ks s) {d : ℕ} where
   -- by the head of the value there
   by-head : (h : Head) → HeadIs m (knownIn ks) (s .at) d h → NoDefinition m (s .at)
-      → run (byteAt (valueFrom base d)) (knownIn ks₀) m (s₀ .at)
+      → run (byteAt (valueFrom Floats base d)) (knownIn ks₀) m (s₀ .at)
       ≡ front (R .some) (readByHead m (knownIn ks) (s .at) d h)
   by-head h z u = sym (R .says d) ∙ ap (front (R .some)) (value-plain base d (knownIn ks) m (s .at) u ∙ z .says)
 
@@ -175,7 +176,7 @@ module _ {o : ReadingAt One} {m t b : List ℕ} {s : Spot} {d : ℕ}
     (x : ReadsToValues o m t b s d y g of given s₁ t₁ b₁ ks₁) where
   -- what the values inside read as
   abbrev ValuesInside : ReadingAt ℕ
-  ValuesInside = run (rest (valueFrom base (d - 1)) (groupOf g) 0) (knownIn ks₁) m (s₁ .at)
+  ValuesInside = run (rest (valueFrom Floats base (d - 1)) (groupOf g) 0) (knownIn ks₁) m (s₁ .at)
 
   -- what the whole reads as, by them
   abbrev outside : ReadingAt ℕ → ReadingAt One
@@ -233,8 +234,8 @@ pub record ReadingValues
   pub rows : List Row
   pub reads : ReadsRows m t₀ b₀ s₀ s t b ks rows
   pub left :
-      front rows (run (rest (valueFrom base d) g i) (knownIn ks) m (s .at))
-      ≡ run (rest (valueFrom base d) g 0) (knownIn ks₀) m (s₀ .at)
+      front rows (run (rest (valueFrom Floats base d) g i) (knownIn ks) m (s .at))
+      ≡ run (rest (valueFrom Floats base d) g 0) (knownIn ks₀) m (s₀ .at)
 
 pub values-start : (m t b ks : List ℕ) (s : Spot) (g : Group) (d : ℕ) → ReadyAt m ks s
     → ReadingValues m t b ks s g d t b ks s 0
@@ -245,7 +246,7 @@ values-start m t b ks s g d w = record {
   same-bytes = refl;
   rows = [];
   reads = reads-none m t b ks s w;
-  left = front-none (run (rest (valueFrom base d) g 0) (knownIn ks) m (s .at));
+  left = front-none (run (rest (valueFrom Floats base d) g 0) (knownIn ks) m (s .at));
 }
 
 module _ {m t₀ b₀ ks₀ : List ℕ} {s₀ : Spot} {g : Group} {d : ℕ} {t b ks : List ℕ} {s : Spot} {i : ℕ}
@@ -253,10 +254,10 @@ module _ {m t₀ b₀ ks₀ : List ℕ} {s₀ : Spot} {g : Group} {d : ℕ} {t b
     {z : Bool} (is : z ≡ stops m g i (s .at)) where
   -- what all of them read as, and the next one
   abbrev Whole : ReadingAt ℕ
-  Whole = run (rest (valueFrom base d) g 0) (knownIn ks₀) m (s₀ .at)
+  Whole = run (rest (valueFrom Floats base d) g 0) (knownIn ks₀) m (s₀ .at)
 
   abbrev Next : ReadingAt One
-  Next = run (byteAt (valueFrom base d)) (knownIn ks) m (s .at)
+  Next = run (byteAt (valueFrom Floats base d)) (knownIn ks) m (s .at)
 
   -- none is left
   pub values-stop : z ≡ true → (q : ℕ) → q ≡ past g (s .at)
@@ -270,7 +271,7 @@ module _ {m t₀ b₀ ks₀ : List ℕ} {s₀ : Spot} {g : Group} {d : ℕ} {t b
           says =
               sym (R .left)
               ∙ ap (λ (x : ReadingAt ℕ). front (R .rows) x)
-              (rest-stop (valueFrom base d) m (knownIn ks) g i (s .at) (sym is ∙ y))
+              (rest-stop (valueFrom Floats base d) m (knownIn ks) g i (s .at) (sym is ∙ y))
               ∙ ap₂ (λ (x : ℕ) (rs : List Row). ReadTo x (parts g i) rs (knownIn ks)) (sym e) (append-nil (R .rows));
           reads = record {
             counted = R .reads .counted;
@@ -289,12 +290,12 @@ module _ {m t₀ b₀ ks₀ : List ℕ} {s₀ : Spot} {g : Group} {d : ℕ} {t b
   module _ (no : z ≡ false) where
     -- one more value, as it was read
     step : (o : ReadingAt One) → Next ≡ o
-        → front (R .rows) (on o (λ e u c. run (rest (valueFrom base d) g (i + 1)) c m e)) ≡ Whole
+        → front (R .rows) (on o (λ e u c. run (rest (valueFrom Floats base d) g (i + 1)) c m e)) ≡ Whole
     step o q =
-        ap (λ (x : ReadingAt One). front (R .rows) (on x (λ e u c. run (rest (valueFrom base d) g (i + 1)) c m e)))
+        ap (λ (x : ReadingAt One). front (R .rows) (on x (λ e u c. run (rest (valueFrom Floats base d) g (i + 1)) c m e)))
         (sym q)
         ∙ ap (λ (x : ReadingAt ℕ). front (R .rows) x)
-        (sym (rest-step (valueFrom base d) m (knownIn ks) g i (s .at) (sym is ∙ no) (R .room)))
+        (sym (rest-step (valueFrom Floats base d) m (knownIn ks) g i (s .at) (sym is ∙ no) (R .room)))
         ∙ R .left
 
     values-lost : (x y : ℕ) → Next ≡ RefusedAt x y
@@ -305,7 +306,7 @@ module _ {m t₀ b₀ ks₀ : List ℕ} {s₀ : Spot} {g : Group} {d : ℕ} {t b
         → ReadingValues m t₀ b₀ ks₀ s₀ g d t′ b′ ks′ s′ (i + 1)
     values-next {s′} {ks′ = ks′} w =
         let both = reads-on (R .reads) (w .reads) in
-        let then = run (rest (valueFrom base d) g (i + 1)) (knownIn ks′) m (s′ .at) in
+        let then = run (rest (valueFrom Floats base d) g (i + 1)) (knownIn ks′) m (s′ .at) in
         record {
           steps = omega (arith, w .forward, R .steps);
           room = room-next m g i (s .at) (sym is ∙ no) (R .room);

@@ -6,11 +6,12 @@
 use mathlib.Core.Path.{_≡_}
 use mathlib.Core.Bool.{false}
 use mathlib.Core.Logic.{_⊎_}
-use mathlib.Core.List.{List, [], _∷_}
+use mathlib.Core.List.{List, [], _∷_, map}
 use mathlib.Core.Option.{Option, none, some}
 use Prim.Native.Nat.{ℕ, zero, suc, _+_, _-_, _^_, _≤_, _<_}
 use lib.Dec.{ltb, eqb}
 use lib.ListN.{length, take, getD, replicate}
+use Rattle.scalar.specs.Scalars.{Floats}
 use Rattle.flow.specs.RefusalNumbers.{negative, ungiven, over-ceiling}
 use Rattle.flow.specs.Flow.{pick, Bytes, Done, Fault, One, byteAt, put, overlay}
 use Rattle.scalar.specs.declared.Lead.{Lead}
@@ -25,9 +26,11 @@ use Rattle.record.specs.Model.Kinds.{class-name-kind, type-name-kind, type-numb
 use Rattle.record.specs.Model.Items.{Definition, Known, start, opened, typed, defined}
 use Rattle.record.specs.Model.Reading.{typeFrom, definition, valueFrom}
 use Rattle.record.specs.Model.Rows.{Row, row, itemRow}
-use Rattle.record.specs.Model.Answers.{Refuse, read, base, asNumbers, asBytes, readNumbers}
+use Rattle.record.specs.Model.Answers.{Layout, Refuse, read, base, asNumbers, asBytes, readNumbers}
 use Rattle.record.specs.Model.Answers.{filled}
 use Rattle.record.specs.ForReader.ReadingAt.{ReadingAt, ReadTo, RefusedAt, run, front, on, topped, numbered}
+use Rattle.record.specs.Model.Terms.{rowInThousandths}
+use Rattle.record.specs.ForReader.Retelling.{HeldRows}
 use Rattle.record.specs.ForReader.ReadLoops.{rest, parts}
 use Rattle.record.specs.ForReader.ReadValues.{heading}
 use Rattle.record.specs.ForReader.ReadDefinitions.{namesLeft, plain}
@@ -227,7 +230,7 @@ pub record EntersHolder (ks : List ℕ) (of : TypeItem) (n : ℕ) (ks′ : List 
 abbrev pub holderRead : List ℕ → Known → ℕ → ℕ → GroupNumbers → ℕ → TypeItem → Option ℕ → ReadingAt One
 holderRead m c p d g q of number =
     topped p (heading (groupOf g) number)
-    (front (typeRows (p + 1) of) (run (rest (valueFrom base d) (groupOf g) 0) c m q))
+    (front (typeRows (p + 1) of) (run (rest (valueFrom Floats base d) (groupOf g) 0) c m q))
 
 -- the value at p, with no definitions before it, by its head, where c is known; d: how many containers may open
 abbrev pub readByHead : List ℕ → Known → ℕ → ℕ → Head → ReadingAt One
@@ -439,7 +442,7 @@ BeginningSays o m t b s d (beginning.Holder y g of given s′) t′ b′ ks′ =
 BeginningSays o m t b s d (beginning.Refused x y) t′ b′ ks′ = o ≡ RefusedAt x y
 
 pub record BeginningMet (m t b ks : List ℕ) (s : Spot) (d : ℕ) (r : Beginning) (t′ b′ ks′ : List ℕ) : Type 0 where
-  pub says : BeginningSays (run (byteAt (valueFrom base d)) (knownIn ks) m (s .at)) m t b s d r t′ b′ ks′
+  pub says : BeginningSays (run (byteAt (valueFrom Floats base d)) (knownIn ks) m (s .at)) m t b s d r t′ b′ ks′
 
 -- the values of a group from s on are read: there are i of them; o is what the reading gives
 pub record ValuesAre
@@ -459,7 +462,7 @@ pub record ValuesReadMet
     (m t b ks : List ℕ)
     (s : Spot) (g : Group) (d : ℕ)
     (r : ValuesRead) (t′ b′ ks′ : List ℕ) : Type 0 where
-  pub says : ValuesReadSays (run (rest (valueFrom base d) g 0) (knownIn ks) m (s .at)) m t b s g r t′ b′ ks′
+  pub says : ValuesReadSays (run (rest (valueFrom Floats base d) g 0) (knownIn ks) m (s .at)) m t b s g r t′ b′ ks′
 
 -- ---- messages
 abbrev pub messageStart : Spot
@@ -474,20 +477,25 @@ pub record OneValueMet (m t b : List ℕ) (r : ValuesRead) (t′ b′ : List ℕ
 pub record IsRecord (m : List ℕ) (n : ℕ) : Type 0 where
   pub rows : List Row
   pub after : Known
-  pub says : run (byteAt (valueFrom base (base .containers))) start m 0 ≡ ReadTo (length m) tt rows after
+  pub says : run (byteAt (valueFrom Floats base (base .containers))) start m 0 ≡ ReadTo (length m) tt rows after
   pub counted : length rows ≡ n
   pub some : 0 < length m
   pub short : length m ≤ base .longest
 
 abbrev pub JudgedSays : List ℕ → Judged → Type 0
 JudgedSays m (judged.Record n) = IsRecord m n
-JudgedSays m (judged.Refused x o) = (lent : ℕ) → read base lent m ≡ Refuse x 0 o
+JudgedSays m (judged.Refused x o) = (lent : ℕ) → read Floats base lent m ≡ Refuse x 0 o
 
 pub record JudgedMet (m : List ℕ) (r : Judged) : Type 0 where
   pub says : JudgedSays m r
 
 -- the answer with `lent` rows, and both tables at the end
 pub record ReadIntoMet (m t b : List ℕ) (lent : ℕ) (r : ReadAnswer) (t′ b′ : List ℕ) : Type 0 where
-  pub says : report r ≡ readNumbers (read base lent m)
-  pub numbers : t′ ≡ filled asNumbers t (read base lent m)
-  pub bytes : b′ ≡ filled asBytes b (read base lent m)
+  pub says : report r ≡ readNumbers (read Floats base lent m)
+  pub numbers : t′ ≡ filled asNumbers t (read Floats base lent m)
+  pub bytes : b′ ≡ filled asBytes b (read Floats base lent m)
+
+-- ---- 2026-11: the n rows that the table T holds, in thousandths
+pub record Retold (L : Layout) (m T : List ℕ) (n : ℕ) (T′ : List ℕ) : Type 0 where
+  pub retold : (x : HeldRows L T n)
+      → T′ ≡ overlay (L .width) (L .encode) (x .under) 0 (map (rowInThousandths m) (x .held))

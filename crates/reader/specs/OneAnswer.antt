@@ -10,6 +10,7 @@ use lib.ListN.{length}
 use borrow.Author.Tests.{ne-eqb}
 use Rattle.flow.specs.RefusalNumbers.{no-room}
 use Rattle.flow.specs.Flow.{Report}
+use Rattle.scalar.specs.Scalars.{DoubleRule}
 use Rattle.record.specs.Model.Items.{Item, Limits}
 use Rattle.record.specs.Model.Answers.{Layout}
 use Rattle.record.specs.Model.Terms.{Accepts}
@@ -27,16 +28,16 @@ abbrev pub answerOf : Report → ReadAnswer
 answerOf a = cond (eqb (a .number) 0) (Accepted (a .count) (a .place))
     (cond (eqb (a .number) no-room) (TooFew (a .count)) (Refused (a .number) (a .place)))
 
-module _ (ℓ : Limits) (L : Layout) (m t t′ : List ℕ) where
-  pub one-answer : (r : ReadAnswer) → ReadCall ℓ L m t (report r) t′ → answerOf (report r) ≡ r
+module _ (ρ : DoubleRule) (ℓ : Limits) (L : Layout) (m t t′ : List ℕ) where
+  pub one-answer : (r : ReadAnswer) → ReadCall ρ ℓ L m t (report r) t′ → answerOf (report r) ≡ r
   one-answer (Accepted n k) g = refl
   one-answer (TooFew n) g = refl
-  one-answer (Refused x o) g = go (read-cases ℓ L m t (report (Refused x o)) t′ g)
+  one-answer (Refused x o) g = go (read-cases ρ ℓ L m t (report (Refused x o)) t′ g)
     where
       other : 1 ≤ x → x < 9 → answerOf (report (Refused x o)) ≡ Refused x o
       other i j = rw (ne-eqb x 0 (λ (e : x ≡ 0). omega arith), ne-eqb x 9 (λ (e : x ≡ 9). omega arith)) refl
 
-      go : ReadCases ℓ L m t (report (Refused x o)) t′ g → answerOf (report (Refused x o)) ≡ Refused x o
+      go : ReadCases ρ ℓ L m t (report (Refused x o)) t′ g → answerOf (report (Refused x o)) ≡ Refused x o
       go (misfit h e u) = let n = ap (λ (a : Report). a .number) e in other (omega arith) (omega arith)
       go (faulty y p h e u) =
           let n = ap (λ (a : Report). a .number) e in
@@ -45,4 +46,4 @@ module _ (ℓ : Limits) (L : Layout) (m t t′ : List ℕ) where
       go (few-rows r y h e u) = let n = ap (λ (a : Report). a .count) e in absurd (omega arith)
       go (whole r y h e q) =
           let n = ap (λ (a : Report). a .count) e in
-          absurd (omega (arith, rows-length (y .entries), entries-length y, accepted-some ℓ m (g .bytes) r y))
+          absurd (omega (arith, rows-length (y .entries), entries-length y, accepted-some ρ ℓ m (g .bytes) r y))

@@ -3,6 +3,7 @@
 pub(crate) mod definitions;
 pub(crate) mod heads;
 pub(crate) mod rows;
+pub(crate) mod thousandths;
 pub(crate) mod values;
 
 use crate::heads::COUNTED;
@@ -16,6 +17,7 @@ use record::limits::LONGEST;
 use scalar::refusals::AFTER;
 use scalar::refusals::LENGTH;
 ghost use mathlib.Core.Path.{_≡_};
+ghost use Rattle.scalar.specs.Scalars.{Floats, Thousandths};
 ghost use Rattle.record.specs.Model.Answers.{base, asNumbers, asBytes};
 ghost use Rattle.record.specs.Model.Calls.{ReadCall};
 ghost use Rattle.reader.specs.Answers.{report};
@@ -120,7 +122,7 @@ fn read_into(message: &[u8], numbers: &mut [u64], bytes: &mut [u8], lent: usize)
 // Reads the message into a table of five numbers a row.
 pub fn read(message: &[u8], table: &mut [u64]) -> ReadAnswer
     ensures { λ r. ⌜
-        ReadCall base asNumbers
+        ReadCall Floats base asNumbers
         (now (message .entry)) (now (table .entry))
         (report r) (now (table .exit))
         ⌝ }
@@ -133,7 +135,7 @@ pub fn read(message: &[u8], table: &mut [u64]) -> ReadAnswer
 // Reads the message into a table of 40 bytes a row, each number as eight bytes, the highest first.
 pub fn read_bytes(message: &[u8], table: &mut [u8]) -> ReadAnswer
     ensures { λ r. ⌜
-        ReadCall base asBytes
+        ReadCall Floats base asBytes
         (now (message .entry)) (now (table .entry))
         (report r) (now (table .exit))
         ⌝ }
@@ -141,4 +143,40 @@ pub fn read_bytes(message: &[u8], table: &mut [u8]) -> ReadAnswer
     let lent = table.len() / ROW_BYTES;
     let mut numbers = [0u64; 1];
     read_into(message, &mut numbers[..0], table, lent)
+}
+
+// Reads the message, whose 5f counts thousandths, into a table of five numbers a row.
+pub fn read_thousandths(message: &[u8], table: &mut [u64]) -> ReadAnswer
+    ensures { λ r. ⌜
+        ReadCall Thousandths base asNumbers
+        (now (message .entry)) (now (table .entry))
+        (report r) (now (table .exit))
+        ⌝ }
+{
+    match read(message, table) {
+        ReadAnswer::Refused { number, place } => ReadAnswer::Refused { number, place },
+        ReadAnswer::TooFew { needed } => ReadAnswer::TooFew { needed },
+        ReadAnswer::Accepted { rows, length } => {
+            thousandths::retell_numbers(message, table, rows);
+            ReadAnswer::Accepted { rows, length }
+        }
+    }
+}
+
+// The same, into a table of 40 bytes a row.
+pub fn read_bytes_thousandths(message: &[u8], table: &mut [u8]) -> ReadAnswer
+    ensures { λ r. ⌜
+        ReadCall Thousandths base asBytes
+        (now (message .entry)) (now (table .entry))
+        (report r) (now (table .exit))
+        ⌝ }
+{
+    match read_bytes(message, table) {
+        ReadAnswer::Refused { number, place } => ReadAnswer::Refused { number, place },
+        ReadAnswer::TooFew { needed } => ReadAnswer::TooFew { needed },
+        ReadAnswer::Accepted { rows, length } => {
+            thousandths::retell_bytes(message, table, rows);
+            ReadAnswer::Accepted { rows, length }
+        }
+    }
 }

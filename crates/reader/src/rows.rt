@@ -12,7 +12,7 @@ ghost use Rattle.record.specs.Laws.RowLaws.{rowOf};
 ghost use Rattle.reader.specs.Contracts.{StoresRow};
 
 // The row `index` of a table of numbers, where it fits.
-fn store_numbers(table: &mut [u64], index: usize, row: Row)
+pub(crate) fn store_numbers(table: &mut [u64], index: usize, row: Row)
     ensures { λ _. ⌜
         now (table .exit) ≡ put (asNumbers .width) (asNumbers .encode) (now (table .entry)) index (rowOf row)
         ⌝ }
@@ -54,7 +54,7 @@ fn put_number(table: &mut [u8], at: usize, value: u64)
 }
 
 // The row `index` of a table of bytes, where it fits.
-fn store_bytes(table: &mut [u8], index: usize, row: Row)
+pub(crate) fn store_bytes(table: &mut [u8], index: usize, row: Row)
     ensures { λ _. ⌜
         now (table .exit) ≡ put (asBytes .width) (asBytes .encode) (now (table .entry)) index (rowOf row)
         ⌝ }

@@ -5,3 +5,4 @@ pub mod ReadMessages
 pub mod ReadParts
 pub mod ReadValues
 pub mod ReadingAt
+pub mod Retelling

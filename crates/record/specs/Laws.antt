@@ -6,10 +6,12 @@ pub mod Derives
 pub mod Extent
 pub mod Forest
 pub mod HopLaws
+pub mod InThousandths
 pub mod KnownArray
+pub mod MainSpelling
 pub mod Meaning
-pub mod Nesting
 pub mod NamedContents
+pub mod Nesting
 pub mod Numbering
 pub mod Parses
 pub mod Places
@@ -19,5 +21,6 @@ pub mod Short
 pub mod Spans
 pub mod TableLaws
 pub mod Takes
+pub mod ThousandthRows
 pub mod ValueHeads
 pub mod Widths

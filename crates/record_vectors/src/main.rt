@@ -1,11 +1,12 @@
-// Reads messages from standard input into a table, and prints a line for each.
+// Reads messages from standard input into a table, by the main rule and by that of thousandths, and prints a line for
+// each.
 //
 // A case is a line: how many numbers are lent in the table, in decimal, and the message in groups, as vectors::groups
 // takes them.
 //
 // The line printed has the answer: number, count and place; a sum over the lent table as it then is; and `ok` where all
-// past the accepted rows, or the whole table after a refusal, is as it was. What is no case is `bad`. vectors.py writes
-// the cases, stdin, and what is to be printed, stdout.
+// past the accepted rows, or the whole table after a refusal, is as it was; and after `; ` the same by the rule of
+// thousandths. What is no case is `bad`. vectors.py writes the cases, stdin, and what is to be printed, stdout.
 use libc::STDIN_FILENO;
 use libc::STDOUT_FILENO;
 use reader::ReadAnswer;
@@ -113,9 +114,9 @@ fn say_table(table: &[u64], from: usize) {
     }
 }
 
-fn answer(message: &[u8], table: &mut [u64]) {
-    clear(table);
-    match reader::read(message, table) {
+// An answer, and the table that it left.
+fn say_read(answer: ReadAnswer, table: &[u64]) {
+    match answer {
         ReadAnswer::Accepted { rows, length } => {
             say_answer(0, rows, length);
             if rows <= MOST {
@@ -131,6 +132,16 @@ fn answer(message: &[u8], table: &mut [u64]) {
             say_table(table, 0);
         }
     }
+}
+
+fn answer(message: &[u8], table: &mut [u64]) {
+    clear(table);
+    let float = reader::read(message, table);
+    say_read(float, table);
+    say(b"; ");
+    clear(table);
+    let thousandths = reader::read_thousandths(message, table);
+    say_read(thousandths, table);
 }
 
 // ---- lines

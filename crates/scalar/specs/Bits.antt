@@ -14,10 +14,11 @@ use Rattle.scalar.specs.declared.Rule.the-variants.{Offset, Signed}
 use Rattle.scalar.specs.declared.Encoding.{Encoding}
 use Rattle.scalar.specs.Signed.{minus-fits, fits-32, widen-fits, mul-fits}
 use Rattle.scalar.specs.DoubleLaws.{whole-lt, widened-lt}
-use Rattle.scalar.specs.Scalars.{value, formsOf, units}
-use Rattle.scalar.specs.Grammar.{Number, follows, Char, one-byte, one-unit, below-halves, two-units}
+use Rattle.scalar.specs.Scalars.{value, DoubleRule, Floats, Thousandths, formsOf, units}
+use Rattle.scalar.specs.Grammar.{NumberUnder, follows, Char, one-byte, one-unit, below-halves, two-units}
 use Rattle.scalar.specs.Grammar.{String, last-chunk, chunk-before}
-use Rattle.scalar.specs.NumberLaws.{EachForm, number-fact}
+use Rattle.scalar.specs.Thousandths.{thousandths-lt}
+use Rattle.scalar.specs.NumberLaws.{EachUnder, EachForm, number-fact}
 use Rattle.scalar.specs.TextUnits.{weight-few, units-append, Content, no-chars, more-chars}
 use Rattle.scalar.specs.TextUnits.{body-content, body-units, body-length}
 
@@ -69,8 +70,23 @@ each-bits Date = (
   (λ u l. omega arith, tt),
 )
 
-pub number-bits : (s : Sort) {w : List ℕ} {v : ℕ} → Number (formsOf s) w v → v < 2 ^ 64
-number-bits s n = number-fact (λ k v. v < 2 ^ 64) n (each-bits s)
+each-under : (ρ : DoubleRule) (s : Sort) → EachUnder ρ (λ n v. v < 2 ^ 64) (formsOf s)
+unfolding formsOf
+each-under Floats s = each-bits s
+each-under Thousandths Null = each-bits Null
+each-under Thousandths False = each-bits False
+each-under Thousandths True = each-bits True
+each-under Thousandths Int = each-bits Int
+each-under Thousandths Long = each-bits Long
+each-under Thousandths Double =
+    let b = each-bits Double in (
+      b .0,
+      (b .1 .0, (b .1 .1 .0, (b .1 .1 .1 .0, (λ u l. thousandths-lt (toZ w32 u), b .1 .1 .1 .1 .1)))),
+    )
+each-under Thousandths Date = each-bits Date
+
+pub number-bits : {ρ : DoubleRule} (s : Sort) {w : List ℕ} {v : ℕ} → NumberUnder ρ (formsOf s) w v → v < 2 ^ 64
+number-bits {ρ} s n = number-fact (λ k v. v < 2 ^ 64) n (each-under ρ s)
 
 pub content-length : {k : Encoding} {w cs : List ℕ} → String k w cs → length cs ≤ length w
 content-length (last-chunk {h = h} {w = w} n b) = omega (arith, length-append h w, body-length b)

@@ -13,15 +13,15 @@ use Rattle.scalar.specs.declared.Encoding.{Encoding}
 use Rattle.scalar.specs.declared.Encoding.the-variants.{Utf8, Binary}
 use Rattle.scalar.specs.declared.Lead.{Lead}
 use Rattle.scalar.specs.declared.Lead.the-variants as lead
-use Rattle.scalar.specs.Scalars.{Form, formsOf, numberFrom, partHead, lastHeads, stringFrom, Scalar}
+use Rattle.scalar.specs.Scalars.{DoubleRule, Form, formsOf, numberUnder, partHead, lastHeads, stringFrom, Scalar}
 use Rattle.scalar.specs.Scalars.{Num, Str, begins, isText, scalarFrom}
 use Rattle.scalar.specs.Chart.{Range, ranges, rangeOf, leadOf, kindOf}
 use Rattle.scalar.specs.ChartLaws.{kind-is}
 
 -- a scalar by what its first byte opens
-module _ {C I : Type 0} where
+module _ {C I : Type 0} (ρ : DoubleRule) where
   abbrev pub scalarBy : Lead → From C I Scalar
-  scalarBy (lead.Number s) p b = mapped (Num s) (numberFrom (formsOf s) p b)
+  scalarBy (lead.Number s) p b = mapped (Num s) (numberUnder ρ (formsOf s) p b)
   scalarBy lead.Text p b = mapped (Str Utf8) (stringFrom Utf8 p b)
   scalarBy lead.Bytes p b = mapped (Str Binary) (stringFrom Binary p b)
   scalarBy lead.List p b = fail 3 p
@@ -117,8 +117,8 @@ module _ (b : ℕ) (l : 256 ≤ b) where
       ) refl
 
 -- what no scalar opens with reads as none
-module _ {C I : Type 0} (p b : ℕ) (c : C) (at : ℕ) (s : List ℕ) where
-  pub kind-shut : (x : Lead) → T (not (ltb (kindOf x) 9)) → scalarBy {I = I} x p b c at s ≡ Fault 3 p
+module _ {C I : Type 0} (ρ : DoubleRule) (p b : ℕ) (c : C) (at : ℕ) (s : List ℕ) where
+  pub kind-shut : (x : Lead) → T (not (ltb (kindOf x) 9)) → scalarBy {I = I} ρ x p b c at s ≡ Fault 3 p
   unfolding kindOf
   kind-shut (lead.Number Null) h = absurd h
   kind-shut (lead.Number False) h = absurd h
@@ -139,13 +139,13 @@ module _ {C I : Type 0} (p b : ℕ) (c : C) (at : ℕ) (s : List ℕ) where
   kind-shut lead.Close h = refl
   kind-shut lead.Reserved h = refl
 
-  step : (t : Bool) (u v : Lead) (y : Read C I Scalar) → y ≡ scalarBy v p b
-      → pick t (scalarBy u p b) y ≡ scalarBy (pick t u v) p b
+  step : (t : Bool) (u v : Lead) (y : Read C I Scalar) → y ≡ scalarBy ρ v p b
+      → pick t (scalarBy ρ u p b) y ≡ scalarBy ρ (pick t u v) p b
   unfolding pick
   step true u v y e = refl
   step false u v y e = e
 
-  scalar-picked : scalarFrom {I = I} p b ≡ scalarBy {C = C} {I = I} (leadBy b) p b
+  scalar-picked : scalarFrom {I = I} ρ p b ≡ scalarBy {C = C} {I = I} ρ (leadBy b) p b
   unfolding scalarFrom
   scalar-picked = step (begins (headsOf Utf8) b) lead.Text _ _ (step (begins (headsOf Binary) b) lead.Bytes _ _
       (step (begins (formsOf Int) b) (lead.Number Int) _ _
@@ -155,24 +155,24 @@ module _ {C I : Type 0} (p b : ℕ) (c : C) (at : ℕ) (s : List ℕ) where
       (step (begins (formsOf True) b) (lead.Number True) lead.Reserved _ refl))))))))
 
   by-kind : kindOf (leadBy b) ≡ scalarKind (kindOf (leadOf b))
-      → scalarBy {I = I} (leadBy b) p b c at s ≡ scalarBy (leadOf b) p b c at s
+      → scalarBy {I = I} ρ (leadBy b) p b c at s ≡ scalarBy ρ (leadOf b) p b c at s
   unfolding pick kindOf
   by-kind e = go (ltb (kindOf (leadOf b)) 9) refl
     where
       go : (t : Bool) → ltb (kindOf (leadOf b)) 9 ≡ t
-          → scalarBy {I = I} (leadBy b) p b c at s ≡ scalarBy (leadOf b) p b c at s
-      go true h = ap (λ (x : Lead). scalarBy x p b c at s) (kind-is (leadBy b) (leadOf b) (rw h at e))
+          → scalarBy {I = I} ρ (leadBy b) p b c at s ≡ scalarBy ρ (leadOf b) p b c at s
+      go true h = ap (λ (x : Lead). scalarBy ρ x p b c at s) (kind-is (leadBy b) (leadOf b) (rw h at e))
       go false h =
-          ap (λ (x : Lead). scalarBy x p b c at s) (kind-is (leadBy b) lead.Reserved (rw h at e))
+          ap (λ (x : Lead). scalarBy ρ x p b c at s) (kind-is (leadBy b) lead.Reserved (rw h at e))
           ∙ sym (kind-shut (leadOf b) (rw h tt))
 
-  pub scalar-by : scalarFrom {I = I} p b c at s ≡ scalarBy (leadOf b) p b c at s
+  pub scalar-by : scalarFrom {I = I} ρ p b c at s ≡ scalarBy ρ (leadOf b) p b c at s
   scalar-by = ap (λ (f : Read C I Scalar). f c at s) scalar-picked ∙ split b 256
       (λ l.
       by-kind
       (eqb→eq (kindOf (leadBy b)) (scalarKind (kindOf (leadOf b)))
       (every-at 256 (λ b. eqb (kindOf (leadBy b)) (scalarKind (kindOf (leadOf b)))) same-kinds b l)))
-      (λ l. ap (λ (x : Lead). scalarBy x p b c at s) (lead-by-none b l ∙ sym (lead-none b l)))
+      (λ l. ap (λ (x : Lead). scalarBy ρ x p b c at s) (lead-by-none b l ∙ sym (lead-none b l)))
 
 -- a text is told by the chart
 abbrev same : Bool → Bool → Bool

@@ -7,16 +7,24 @@ use Rattle.wire.specs.BigEndian.{joined}
 use Rattle.scalar.specs.declared.Sort.the-variants as sort
 use Rattle.scalar.specs.declared.{Sort.Sort, Encoding.Encoding, Encoding.the-variants.{Utf8, Binary}}
 use Rattle.scalar.specs.declared.CharLead.the-variants.{Basic, Supplementary, Halved}
-use Rattle.scalar.specs.Scalars.{value, Form, formsOf, partHead, lastHeads, charLead, paired, Scalar, Num, Str}
+use Rattle.scalar.specs.Scalars.{DoubleRule, Floats, valueUnder, Form, formsOf, partHead, lastHeads, charLead}
+use Rattle.scalar.specs.Scalars.{paired, Scalar, Num, Str}
 
--- ---- a form's bytes, and the value
-pub data Held (w : Form) : List ℕ → ℕ → Type 0 where
+-- ---- a form's bytes, and the value, by the rule of 5f
+pub data HeldUnder (ρ : DoubleRule) (w : Form) : List ℕ → ℕ → Type 0 where
   held : (q : ℕ) (t : List ℕ) → q < w .codes → length t ≡ w .extra → Bytes t
-      → Held w ((w .head + q) ∷ t) (value (w .rule) (joined q t))
+      → HeldUnder ρ w ((w .head + q) ∷ t) (valueUnder ρ (w .rule) (joined q t))
 
-pub data Number : List Form → List ℕ → ℕ → Type 0 where
-  here : {w : Form} {ws : List Form} {t : List ℕ} {v : ℕ} → Held w t v → Number (w ∷ ws) t v
-  later : {w : Form} {ws : List Form} {t : List ℕ} {v : ℕ} → Number ws t v → Number (w ∷ ws) t v
+pub data NumberUnder (ρ : DoubleRule) : List Form → List ℕ → ℕ → Type 0 where
+  here : {w : Form} {ws : List Form} {t : List ℕ} {v : ℕ} → HeldUnder ρ w t v → NumberUnder ρ (w ∷ ws) t v
+  later : {w : Form} {ws : List Form} {t : List ℕ} {v : ℕ} → NumberUnder ρ ws t v → NumberUnder ρ (w ∷ ws) t v
+
+-- by the main rule
+abbrev pub Held : Form → List ℕ → ℕ → Type 0
+Held = HeldUnder Floats
+
+abbrev pub Number : List Form → List ℕ → ℕ → Type 0
+Number = NumberUnder Floats
 
 -- ---- texts and byte strings
 -- n bytes more of a character, the first from lo to below hi, the others from 80 to bf
@@ -62,9 +70,12 @@ pub data String (k : Encoding) : List ℕ → List ℕ → Type 0 where
   chunk-before : {n : ℕ} {h w cs v ds : List ℕ} → Number (partHead k ∷ []) h n → Body k n w cs → String k v ds
       → String k (h ++ (w ++ v)) (cs ++ ds)
 
-pub data Spelt : List ℕ → Scalar → Type 0 where
-  a-number : {s : Sort} {w : List ℕ} {v : ℕ} → Number (formsOf s) w v → Spelt w (Num s v)
-  a-string : {k : Encoding} {w cs : List ℕ} → String k w cs → Spelt w (Str k cs)
+pub data SpeltUnder (ρ : DoubleRule) : List ℕ → Scalar → Type 0 where
+  a-number : {s : Sort} {w : List ℕ} {v : ℕ} → NumberUnder ρ (formsOf s) w v → SpeltUnder ρ w (Num s v)
+  a-string : {k : Encoding} {w cs : List ℕ} → String k w cs → SpeltUnder ρ w (Str k cs)
+
+abbrev pub Spelt : List ℕ → Scalar → Type 0
+Spelt = SpeltUnder Floats
 
 abbrev pub Int : List ℕ → ℕ → Type 0
 Int w v = Number (formsOf sort.Int) w v

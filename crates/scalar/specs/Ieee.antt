@@ -32,7 +32,7 @@ units-no-nan f s q k = go (ltb (q * 2 ^ k) (2 ^ (low f + suc (emax f)))) q
     go true (suc q) = tt
     go false q = tt
 
-round-no-nan : (f : Format) (s : Bool) (a c : ℕ) → T (not (isNan (round f s a c)))
+pub round-no-nan : (f : Format) (s : Bool) (a c : ℕ) → T (not (isNan (round f s a c)))
 unfolding round
 round-no-nan f s a c =
     let n = a * 2 ^ low f in

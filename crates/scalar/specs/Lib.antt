@@ -8,6 +8,7 @@ pub mod RuleLaws
 pub mod Signed
 pub mod DoubleLaws
 pub mod Ieee
+pub mod Thousandths
 pub mod ChartLaws
 pub mod ByChart
 pub mod NumberLaws
@@ -29,3 +30,4 @@ pub mod TextTheorems
 pub mod ScalarLaws
 pub mod Bits
 pub mod Refusals
+pub mod UnderRules

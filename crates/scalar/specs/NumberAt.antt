@@ -14,8 +14,10 @@ use Rattle.scalar.specs.declared.Sort.{Sort}
 use Rattle.scalar.specs.declared.Rule.{Rule}
 use Rattle.scalar.specs.declared.Begun.{Begun}
 use Rattle.scalar.specs.declared.Begun.the-variants.{Starts, NoForm}
-use Rattle.scalar.specs.Scalars.{value, Form, formsOf, formAt, bytesOf, numberFrom}
-use Rattle.scalar.specs.NumberLaws.{numberBy}
+use Rattle.scalar.specs.Scalars.{value, DoubleRule, Floats, valueUnder, Form, formsOf, formAt, bytesOf}
+use Rattle.scalar.specs.Scalars.{numberUnder}
+use Rattle.scalar.specs.Scalars.{numberFrom}
+use Rattle.scalar.specs.NumberLaws.{begunUnder, numberBy}
 use Rattle.scalar.specs.Answers.{numberAt}
 
 -- ---- the bytes after the first: all there, or the message ends
@@ -88,9 +90,13 @@ module _ {C I : Type 0} (c : C) where
   bytes-lifts zero u = give-lifts c u
   bytes-lifts (suc k) u = byte-lifts c (λ p b. bytes-lifts k (256 * u + b))
 
-  by-lifts : (x : Begun) (p : ℕ) → Lifts {I = I} c (numberBy x p) (numberBy x p)
-  by-lifts NoForm p = fail-lifts c 3 p
-  by-lifts (Starts k u r) p = map-lifts c (value r) (bytes-lifts k u)
+  by-lifts : (ρ : DoubleRule) (x : Begun) (p : ℕ) → Lifts {I = I} c (begunUnder ρ x p) (begunUnder ρ x p)
+  by-lifts ρ NoForm p = fail-lifts c 3 p
+  by-lifts ρ (Starts k u r) p = map-lifts c (valueUnder ρ r) (bytes-lifts k u)
+
+  pub under-lifts : (ρ : DoubleRule) (ws : List Form) (p b : ℕ)
+      → Lifts {I = I} c (numberUnder ρ ws p b) (numberUnder ρ ws p b)
+  under-lifts ρ ws p b = by-lifts ρ (formAt ws b) p
 
   pub number-lifts : (ws : List Form) (p b : ℕ) → Lifts {I = I} c (numberFrom ws p b) (numberFrom ws p b)
-  number-lifts ws p b = by-lifts (formAt ws b) p
+  number-lifts = under-lifts Floats

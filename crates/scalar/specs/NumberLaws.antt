@@ -15,13 +15,17 @@ use Rattle.wire.specs.BigEndian.{joined, be, high, wider}
 use Rattle.wire.specs.Laws.{be-length, be-bytes, joined-be, high-below, joined-below}
 use Rattle.scalar.specs.declared.Begun.{Begun}
 use Rattle.scalar.specs.declared.Begun.the-variants.{Starts, NoForm}
-use Rattle.scalar.specs.Scalars.{value, Form, inside, formAt, bytesOf, numberFrom, spelling, fits, shortest}
-use Rattle.scalar.specs.Grammar.{Held, held, Number, here, later}
+use Rattle.scalar.specs.Scalars.{value, DoubleRule, Floats, valueUnder, Form, inside, formAt, bytesOf}
+use Rattle.scalar.specs.Scalars.{numberUnder, spelling, fits, shortest}
+use Rattle.scalar.specs.Grammar.{HeldUnder, NumberUnder, Held, held, Number, here, later}
 use Rattle.scalar.specs.Guesses.{guess}
 
 -- reading by what the first byte, at p, began; and a form tried, before the others: for proofs
+abbrev pub begunUnder : {C I : Type 0} → DoubleRule → Begun → ℕ → Read C I ℕ
+begunUnder ρ x p = elim x [ NoForm ↦ fail 3 p | Starts k u r ↦ mapped (valueUnder ρ r) (bytesOf k u) ]
+
 abbrev pub numberBy : {C I : Type 0} → Begun → ℕ → Read C I ℕ
-numberBy x p = elim x [ NoForm ↦ fail 3 p | Starts k u r ↦ mapped (value r) (bytesOf k u) ]
+numberBy = begunUnder Floats
 
 abbrev pub tried : Form → ℕ → Option (List ℕ) → Option (List ℕ)
 tried w v other = cond (fits w v) (some (spelling w (guess (w .rule) v))) other
@@ -67,7 +71,8 @@ apart-by w x q h l = go (leb (w .head + w .codes) (x .head)) refl h
         within-below (w .head) (w .head + w .codes) (x .head + q)
         (omega (arith, leb→le (x .head + x .codes) (w .head) h))
 
-pub number-apart : (w : Form) {ws : List Form} {t : List ℕ} {v : ℕ} → Number ws t v → T (clear w ws)
+pub number-apart : {ρ : DoubleRule} (w : Form) {ws : List Form} {t : List ℕ} {v : ℕ} → NumberUnder ρ ws t v
+    → T (clear w ws)
     → First (λ b. inside w b ≡ false) t
 number-apart w (here {w = x} {ws = ws} (held q t l e i)) h = apart-by w x q (and-left (apart w x) (clear w ws) h) l
 number-apart w (later {w = x} {ws = ws} n) h = number-apart w n (and-right (apart w x) (clear w ws) h)
@@ -83,26 +88,30 @@ module _ {C I : Type 0} where
       bytes-read k (256 * u + b) (λ w a is c′. H (b ∷ w) a is c′) c (at + 1) t n
       (λ r e i. h (b ∷ r) (ap suc e) (m, i)))
 
-  pub number-reads : (ws : List Form) (H : ℕ → Goal C I ℕ) (p b : ℕ) (c : C) (at : ℕ) (s : List ℕ) → Bytes s
-      → ((t : List ℕ) (v : ℕ) → Number ws (b ∷ t) v → H b t v [] c)
-      → Parsed (H b) s (numberFrom ws p b c at s)
+  pub number-reads : (ρ : DoubleRule) (ws : List Form) (H : ℕ
+      → Goal C I ℕ) (p b : ℕ) (c : C) (at : ℕ) (s : List ℕ) → Bytes s
+      → ((t : List ℕ) (v : ℕ) → NumberUnder ρ ws (b ∷ t) v → H b t v [] c)
+      → Parsed (H b) s (numberUnder ρ ws p b c at s)
   unfolding formAt
-  number-reads [] H p b c at s l h = tt
-  number-reads (w ∷ ws) H p b c at s l h =
-      pick-either (λ (x : Begun). Parsed (H b) s (numberBy x p c at s)) (inside w b)
+  number-reads ρ [] H p b c at s l h = tt
+  number-reads ρ (w ∷ ws) H p b c at s l h =
+      pick-either (λ (x : Begun). Parsed (H b) s (begunUnder ρ x p c at s)) (inside w b)
       (λ x. let r = within-is (w .head) (w .head + w .codes) b (rw x tt) in
-      maps (H b) (value (w .rule)) s (bytesOf (w .extra) (b - w .head) c at s)
-      (bytes-read (w .extra) (b - w .head) (λ u a is c′. H b u (value (w .rule) a) is c′) c at s l
-      (λ t e i. h t (value (w .rule) (joined (b - w .head) t))
+      maps (H b) (valueUnder ρ (w .rule)) s (bytesOf (w .extra) (b - w .head) c at s)
+      (bytes-read (w .extra) (b - w .head) (λ u a is c′. H b u (valueUnder ρ (w .rule) a) is c′) c at s l
+      (λ t e i. h t (valueUnder ρ (w .rule) (joined (b - w .head) t))
       (here
-      (subst (λ (z : ℕ). Held w (z ∷ t) (value (w .rule) (joined (b - w .head) t))) (omega (arith, r .0))
+      (subst (λ (z : ℕ). HeldUnder ρ w (z ∷ t) (valueUnder ρ (w .rule) (joined (b - w .head) t))) (omega (arith, r .0))
       (held (b - w .head) t (omega (arith, r .0, r .1)) e i))))))
-      (λ x. number-reads ws H p b c at s l (λ t v n. h t v (later n)))
+      (λ x. number-reads ρ ws H p b c at s l (λ t v n. h t v (later n)))
 
 -- ---- and the forms are read
+abbrev pub LedUnder : {C : Type 0} (I : Type 0) → DoubleRule → List Form → List ℕ → ℕ → C → Type 0
+LedUnder I ρ ws [] v c = ⊥
+LedUnder I ρ ws (b ∷ t) v c = (p : ℕ) → Makes {I = I} (numberUnder ρ ws p b) c t v [] c
+
 abbrev pub NumberLed : {C : Type 0} (I : Type 0) → List Form → List ℕ → ℕ → C → Type 0
-NumberLed I ws [] v c = ⊥
-NumberLed I ws (b ∷ t) v c = (p : ℕ) → Makes {I = I} (numberFrom ws p b) c t v [] c
+NumberLed I = LedUnder I Floats
 
 module _ {C : Type 0} (I : Type 0) where
   bytes-make : (k u : ℕ) (t : List ℕ) → length t ≡ k → (c : C) → Makes {I = I} (bytesOf k u) c t (joined u t) [] c
@@ -112,33 +121,35 @@ module _ {C : Type 0} (I : Type 0) where
   bytes-make (suc k) u (b ∷ t) e c =
       byte-makes {I = I} (λ p b. bytesOf k (256 * u + b)) b (λ p. bytes-make k (256 * u + b) t (omega arith) c)
 
-  skip-form : (w : Form) (ws : List Form) (c : C) (t : List ℕ) (v : ℕ) → First (λ b. inside w b ≡ false) t
-      → NumberLed I ws t v c → NumberLed I (w ∷ ws) t v c
-  skip-form w ws c [] v x h = h
-  skip-form w ws c (b ∷ t) v x h =
-      λ p. subst (λ (z : Begun). Makes {I = I} (numberBy z p) c t v [] c) (sym (form-skip w ws b x)) (h p)
+  skip-form : (ρ : DoubleRule) (w : Form) (ws : List Form) (c : C) (t : List ℕ) (v : ℕ)
+      → First (λ b. inside w b ≡ false) t
+      → LedUnder I ρ ws t v c → LedUnder I ρ (w ∷ ws) t v c
+  skip-form ρ w ws c [] v x h = h
+  skip-form ρ w ws c (b ∷ t) v x h =
+      λ p. subst (λ (z : Begun). Makes {I = I} (begunUnder ρ z p) c t v [] c) (sym (form-skip w ws b x)) (h p)
 
-  pub number-makes : {ws : List Form} {t : List ℕ} {v : ℕ} → Number ws t v → T (proper ws) → (c : C)
-      → NumberLed I ws t v c
-  number-makes (here {w = w} {ws = ws} (held q t l e i)) x c = λ p.
+  pub number-makes : {ρ : DoubleRule} {ws : List Form} {t : List ℕ} {v : ℕ} → NumberUnder ρ ws t v → T (proper ws)
+      → (c : C) → LedUnder I ρ ws t v c
+  number-makes {ρ} (here {w = w} {ws = ws} (held q t l e i)) x c = λ p.
       let d : Starts (w .extra) (w .head + q - w .head) (w .rule) ≡ Starts (w .extra) q (w .rule) =
       ap (λ (z : ℕ). Starts (w .extra) z (w .rule)) (omega arith) in
-      subst (λ (z : Begun). Makes {I = I} (numberBy z p) c t (value (w .rule) (joined q t)) [] c)
+      subst (λ (z : Begun). Makes {I = I} (begunUnder ρ z p) c t (valueUnder ρ (w .rule) (joined q t)) [] c)
       (sym (form-here w ws (w .head + q) (inside-self w q l) ∙ d))
-      (map-makes (value (w .rule)) (bytesOf (w .extra) q) (bytes-make (w .extra) q t e c))
-  number-makes (later {w = w} {ws = ws} {t = t} {v = v} n) x c =
-      skip-form w ws c t v (number-apart w n (and-left (clear w ws) (leb (w .head + w .codes) 256 && proper ws) x))
+      (map-makes (valueUnder ρ (w .rule)) (bytesOf (w .extra) q) (bytes-make (w .extra) q t e c))
+  number-makes {ρ} (later {w = w} {ws = ws} {t = t} {v = v} n) x c =
+      skip-form ρ w ws c t v (number-apart w n (and-left (clear w ws) (leb (w .head + w .codes) 256 && proper ws) x))
       (number-makes n
       (and-right (leb (w .head + w .codes) 256) (proper ws)
       (and-right (clear w ws) (leb (w .head + w .codes) 256 && proper ws) x)) c)
 
-  pub number-scans : (ws : List Form) (p b : ℕ) (c : C) (at : ℕ) (s : List ℕ) → Bytes s
-      → Parsed {I = I} (Quiet (λ t v. Number ws (b ∷ t) v) c) s (numberFrom ws p b c at s)
-  number-scans ws p b c at s l =
-      number-reads ws (λ b. Quiet (λ t v. Number ws (b ∷ t) v) c) p b c at s l (λ t v n. quiet n)
+  pub number-scans : (ρ : DoubleRule) (ws : List Form) (p b : ℕ) (c : C) (at : ℕ) (s : List ℕ) → Bytes s
+      → Parsed {I = I} (Quiet (λ t v. NumberUnder ρ ws (b ∷ t) v) c) s (numberUnder ρ ws p b c at s)
+  number-scans ρ ws p b c at s l =
+      number-reads ρ ws (λ b. Quiet (λ t v. NumberUnder ρ ws (b ∷ t) v) c) p b c at s l (λ t v n. quiet n)
 
 -- ---- a form's bytes
-pub number-bytes : {ws : List Form} {t : List ℕ} {v : ℕ} → Number ws t v → T (proper ws) → Bytes t
+pub number-bytes : {ρ : DoubleRule} {ws : List Form} {t : List ℕ} {v : ℕ} → NumberUnder ρ ws t v → T (proper ws)
+    → Bytes t
 number-bytes (here {w = w} {ws = ws} (held q t l e i)) x = (
   omega (
     arith,
@@ -153,7 +164,7 @@ number-bytes (later {w = w} {ws = ws} n) x =
     (and-right (leb (w .head + w .codes) 256) (proper ws)
     (and-right (clear w ws) (leb (w .head + w .codes) 256 && proper ws) x))
 
-pub number-some : {ws : List Form} {t : List ℕ} {v : ℕ} → Number ws t v → 0 < length t
+pub number-some : {ρ : DoubleRule} {ws : List Form} {t : List ℕ} {v : ℕ} → NumberUnder ρ ws t v → 0 < length t
 number-some (here (held q t l e i)) = omega arith
 number-some (later n) = number-some n
 
@@ -230,13 +241,16 @@ number-short k (later {w = w} {ws = ws} {t = t} {v = v} n) s =
     (λ x. number-short (w .extra) n (s .2))
 
 -- ---- a fact of every form is a fact of every number
-abbrev pub EachForm : (ℕ → ℕ → Type 0) → List Form → Type 0
-EachForm P [] = Unit {0}
-EachForm P (w ∷ ws) = ((u : ℕ) → u < size w → P (suc (w .extra)) (value (w .rule) u)) × EachForm P ws
+abbrev pub EachUnder : DoubleRule → (ℕ → ℕ → Type 0) → List Form → Type 0
+EachUnder ρ P [] = Unit {0}
+EachUnder ρ P (w ∷ ws) = ((u : ℕ) → u < size w → P (suc (w .extra)) (valueUnder ρ (w .rule) u)) × EachUnder ρ P ws
 
-pub number-fact : (P : ℕ → ℕ → Type 0) {ws : List Form} {t : List ℕ} {v : ℕ} → Number ws t v → EachForm P ws
-    → P (length t) v
-number-fact P (here {w = w} (held q t l e i)) h =
-    subst (λ (z : ℕ). P (suc z) (value (w .rule) (joined q t))) (sym e)
+abbrev pub EachForm : (ℕ → ℕ → Type 0) → List Form → Type 0
+EachForm = EachUnder Floats
+
+pub number-fact : {ρ : DoubleRule} (P : ℕ → ℕ → Type 0) {ws : List Form} {t : List ℕ} {v : ℕ} → NumberUnder ρ ws t v
+    → EachUnder ρ P ws → P (length t) v
+number-fact {ρ} P (here {w = w} (held q t l e i)) h =
+    subst (λ (z : ℕ). P (suc z) (valueUnder ρ (w .rule) (joined q t))) (sym e)
     (h .0 (joined q t) (joined-below t (w .extra) q (w .codes) e i l))
 number-fact P (later n) h = number-fact P n (h .1)

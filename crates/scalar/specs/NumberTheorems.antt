@@ -11,7 +11,7 @@ use Rattle.flow.specs.Steps.{Answer}
 use Rattle.flow.specs.Tests.{bytes-drop}
 use Rattle.flow.specs.Laws.{Parsed, takes, quietly, Makes, byte-makes}
 use Rattle.scalar.specs.declared.Sort.{Sort}
-use Rattle.scalar.specs.Scalars.{formsOf, numberFrom, shortest}
+use Rattle.scalar.specs.Scalars.{Floats, formsOf, numberFrom, shortest}
 use Rattle.scalar.specs.Grammar.{Number}
 use Rattle.scalar.specs.Answers.{numberAt}
 use Rattle.scalar.specs.NumberLaws.{number-scans, number-makes, NumberLed, number-some, shortest-is}
@@ -30,7 +30,7 @@ number-parsed s m b p n v es e =
     (λ x t h k.
     quietly (λ w a. Number (formsOf s) (x ∷ w) a) (λ w a is c. Number (formsOf s) (x ∷ w) a) tt t (λ w a y. y)
     (numberFrom (formsOf s) (min p (length m)) x tt (min p (length m) + 1) t)
-    (number-scans One (formsOf s) (min p (length m)) x tt (min p (length m) + 1) t k)))
+    (number-scans One Floats (formsOf s) (min p (length m)) x tt (min p (length m) + 1) t k)))
 
 pub no-entries : (es : List (Entry One)) → items es ≡ [] → es ≡ []
 no-entries [] e = refl

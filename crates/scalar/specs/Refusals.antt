@@ -19,11 +19,13 @@ use Rattle.scalar.specs.declared.Encoding.{Encoding}
 use Rattle.scalar.specs.declared.Encoding.the-variants.{Utf8, Binary}
 use Rattle.scalar.specs.declared.CharLead.{CharLead}
 use Rattle.scalar.specs.declared.CharLead.the-variants.{Basic, Supplementary, Halved, NoChar}
-use Rattle.scalar.specs.Scalars.{Form, formsOf, formAt, inside, value, bytesOf, numberFrom, partHead, lastHeads}
+use Rattle.scalar.specs.Scalars.{DoubleRule, Floats, Form, formsOf, formAt, inside, valueUnder, bytesOf}
+use Rattle.scalar.specs.Scalars.{numberUnder, partHead}
+use Rattle.scalar.specs.Scalars.{lastHeads}
 use Rattle.scalar.specs.Scalars.{charLead, paired, ranged, continued, chained, pairOf, pairThen}
 use Rattle.scalar.specs.Scalars.{character, characters, octets, body, chunk, chunks, stringFrom}
 use Rattle.scalar.specs.Scalars.{Scalar, Num, Str, begins, orString, orNumber, scalarFrom, intFrom, textFrom}
-use Rattle.scalar.specs.NumberLaws.{numberBy}
+use Rattle.scalar.specs.NumberLaws.{begunUnder}
 
 -- of the reader that there is, if there is one
 data TellsIf {C I : Type 0} (P : ℕ → ℕ → Type 0) (end bound : ℕ) : Option (Read C I (List ℕ)) → Type 0 where
@@ -38,12 +40,12 @@ module _ {C I : Type 0} {P : ℕ → ℕ → Type 0} {end : ℕ} (ends : P cut e
     bytes-tell zero u = give-tells u
     bytes-tell (suc k) u = byte-tells ends (λ p b m. bytes-tell k (256 * u + b))
 
-    by-tells : (x : Begun) (p : ℕ) → p < end → Tells {C = C} {I = I} P end bound (numberBy x p)
-    by-tells NoForm p m = fail-tells (wrong p m)
-    by-tells (Starts k u r) p m = mapped-tells (value r) (bytes-tell k u)
+    by-tells : (ρ : DoubleRule) (x : Begun) (p : ℕ) → p < end → Tells {C = C} {I = I} P end bound (begunUnder ρ x p)
+    by-tells ρ NoForm p m = fail-tells (wrong p m)
+    by-tells ρ (Starts k u r) p m = mapped-tells (valueUnder ρ r) (bytes-tell k u)
 
-    number-tells : (ws : List Form) → TellsFrom {C = C} {I = I} P end bound (numberFrom ws)
-    number-tells ws p b m = by-tells (formAt ws b) p m
+    number-tells : (ρ : DoubleRule) (ws : List Form) → TellsFrom {C = C} {I = I} P end bound (numberUnder ρ ws)
+    number-tells ρ ws p b m = by-tells ρ (formAt ws b) p m
 
     -- ---- texts and byte strings
     module _ (o : ℕ) (m : o < end) where
@@ -101,9 +103,9 @@ module _ {C I : Type 0} {P : ℕ → ℕ → Type 0} {end : ℕ} (ends : P cut e
     chunk-tells : (k : Encoding) {next : Read C I (List ℕ)} → Tells P end bound next
         → TellsFrom P end bound (chunk k next)
     chunk-tells k h p b m = cond-tells (inside (partHead k) b)
-        (bind-tells (number-tells (partHead k ∷ []) p b m) (λ n.
+        (bind-tells (number-tells Floats (partHead k ∷ []) p b m) (λ n.
         bind-tells (body-tells k n) (λ cs. mapped-tells (λ ds. cs ++ ds) h)))
-        (bind-tells (number-tells (lastHeads k) p b m) (body-tells k))
+        (bind-tells (number-tells Floats (lastHeads k) p b m) (body-tells k))
 
   chunks-tell : (k : Encoding) (j : ℕ) → Tells {C = C} {I = I} P end j (chunks k j)
   chunks-tell k zero = cut-tells ends
@@ -121,19 +123,20 @@ module _ {C I : Type 0} {P : ℕ → ℕ → Type 0} {end : ℕ} (ends : P cut e
     string-or k h p b m = pick-either (Tells P end bound) (begins (partHead k ∷ lastHeads k) b)
         (λ e. mapped-tells (Str k) (string-tells k p b m)) (λ e. h p b m)
 
-    number-or : (s : Sort) {g : From C I Scalar} → TellsFrom P end bound g → TellsFrom P end bound (orNumber s g)
-    number-or s h p b m = pick-either (Tells P end bound) (begins (formsOf s) b)
-        (λ e. mapped-tells (Num s) (number-tells (formsOf s) p b m)) (λ e. h p b m)
+    number-or : (ρ : DoubleRule) (s : Sort) {g : From C I Scalar} → TellsFrom P end bound g
+        → TellsFrom P end bound (orNumber ρ s g)
+    number-or ρ s h p b m = pick-either (Tells P end bound) (begins (formsOf s) b)
+        (λ e. mapped-tells (Num s) (number-tells ρ (formsOf s) p b m)) (λ e. h p b m)
 
-    pub scalar-tells : TellsFrom {C = C} {I = I} P end bound scalarFrom
+    pub scalar-tells : (ρ : DoubleRule) → TellsFrom {C = C} {I = I} P end bound (scalarFrom ρ)
     unfolding scalarFrom
-    scalar-tells = string-or Utf8 (string-or Binary
-        (number-or sort.Int (number-or sort.Long (number-or sort.Date (number-or sort.Double
-        (number-or sort.Null (number-or sort.False (number-or sort.True (λ p b m. fail-tells (wrong p m))))))))))
+    scalar-tells ρ = string-or Utf8 (string-or Binary
+        (number-or ρ sort.Int (number-or ρ sort.Long (number-or ρ sort.Date (number-or ρ sort.Double
+        (number-or ρ sort.Null (number-or ρ sort.False (number-or ρ sort.True (λ p b m. fail-tells (wrong p m))))))))))
 
     pub int-tells : TellsFrom {C = C} {I = I} P end bound intFrom
     unfolding intFrom
-    int-tells p b = number-tells (formsOf sort.Int) p b
+    int-tells p b = number-tells Floats (formsOf sort.Int) p b
 
     pub text-tells : TellsFrom {C = C} {I = I} P end bound textFrom
     unfolding textFrom

@@ -18,17 +18,20 @@ use Rattle.scalar.specs.declared.Encoding.{Encoding}
 use Rattle.scalar.specs.declared.Encoding.the-variants.{Utf8, Binary}
 use Rattle.scalar.specs.declared.Lead.{Lead}
 use Rattle.scalar.specs.declared.Lead.the-variants as lead
-use Rattle.scalar.specs.Scalars.{Form, compact, inside, formsOf, numberFrom, fits, shortest, partHead}
+use Rattle.scalar.specs.Scalars.{DoubleRule, Floats, Form, compact, inside, formsOf, numberUnder, numberFrom}
+use Rattle.scalar.specs.Scalars.{fits}
+use Rattle.scalar.specs.Scalars.{shortest, partHead}
 use Rattle.scalar.specs.Scalars.{lastHeads, stringFrom, shortestString, Scalar, Num, Str, begins}
 use Rattle.scalar.specs.Scalars.{isText, scalarFrom, intFrom, textFrom, shortestScalar, shortestInt}
 use Rattle.scalar.specs.Scalars.{shortestText}
 use Rattle.scalar.specs.Chart.{ranges, rangeOf, leadOf, kindOf}
-use Rattle.scalar.specs.Grammar.{held, Number, here, later, String, last-chunk, chunk-before, Spelt}
+use Rattle.scalar.specs.Grammar.{held, NumberUnder, Number, here, later, String, last-chunk, chunk-before}
+use Rattle.scalar.specs.Grammar.{SpeltUnder, Spelt}
 use Rattle.scalar.specs.Grammar.{a-number, a-string, Int, Text}
 use Rattle.scalar.specs.ChartLaws.{kind-is}
 use Rattle.scalar.specs.ByChart.{scalarBy, kind-shut, scalar-by, text-told}
 use Rattle.scalar.specs.Guesses.{guess}
-use Rattle.scalar.specs.NumberLaws.{number-bytes, number-some, number-scans, number-makes, NumberLed}
+use Rattle.scalar.specs.NumberLaws.{LedUnder, number-bytes, number-some, number-scans, number-makes, NumberLed}
 use Rattle.scalar.specs.NumberLaws.{shortest-is, IsNumber}
 use Rattle.scalar.specs.Sorts.{properly, none-shorter, int-ranges}
 use Rattle.scalar.specs.TextLaws.{string-bytes, string-scans, string-makes, StringLed}
@@ -49,7 +52,8 @@ module _ (b : ℕ) where
   reserved-shut e = rw e refl
 
 -- ---- the first byte says what the scalar is
-number-begins : {ws : List Form} {t : List ℕ} {v : ℕ} → Number ws t v → First (λ b. T (begins ws b)) t
+number-begins : {ρ : DoubleRule} {ws : List Form} {t : List ℕ} {v : ℕ} → NumberUnder ρ ws t v
+    → First (λ b. T (begins ws b)) t
 number-begins (here {w = w} (held q t l e i)) =
     rw (within-yes (w .head) (w .head + w .codes) (w .head + q) (omega arith) (omega arith)) tt
 number-begins (later {w = w} {ws = ws} {t = t} n) = go t (number-begins n)
@@ -123,7 +127,7 @@ int-bytes n = number-bytes n (properly sort.Int)
 pub text-bytes : {w cs : List ℕ} → Text w cs → Bytes w
 text-bytes x = string-bytes x
 
-pub scalar-bytes : {w : List ℕ} {x : Scalar} → Spelt w x → Bytes w
+pub scalar-bytes : {ρ : DoubleRule} {w : List ℕ} {x : Scalar} → SpeltUnder ρ w x → Bytes w
 scalar-bytes (a-number {s = s} n) = number-bytes n (properly s)
 scalar-bytes (a-string x) = string-bytes x
 
@@ -132,7 +136,8 @@ lead-of-string Utf8 cs = refl
 lead-of-string Binary cs = refl
 
 -- and its first byte says what it is
-pub scalar-first : {w : List ℕ} {x : Scalar} → Spelt w x → First (λ b. (b < 256) × (leadOf b ≡ leadFor x)) w
+pub scalar-first : {ρ : DoubleRule} {w : List ℕ} {x : Scalar} → SpeltUnder ρ w x
+    → First (λ b. (b < 256) × (leadOf b ≡ leadFor x)) w
 scalar-first (a-number {s = s} {w = w} n) =
     first-lead (lead.Number s) (formsOf s) (sorts-agree s) w (number-bytes n (properly s)) (number-begins n)
 scalar-first (a-string {k = k} {w = w} {cs = cs} x) =
@@ -155,7 +160,8 @@ scalar-kind (Num sort.Date v) = tt
 scalar-kind (Str Utf8 cs) = tt
 scalar-kind (Str Binary cs) = tt
 
-pub scalar-owned : {w : List ℕ} {x : Scalar} → Spelt w x → First (λ b. (b < 256) × T (isScalar b)) w
+pub scalar-owned : {ρ : DoubleRule} {w : List ℕ} {x : Scalar} → SpeltUnder ρ w x
+    → First (λ b. (b < 256) × T (isScalar b)) w
 scalar-owned {w} {x} y =
     first-only (λ b. (b < 256) × (leadOf b ≡ leadFor x)) (λ b. (b < 256) × T (isScalar b))
     (λ b h. (h .0, rw (h .1) (scalar-kind x))) w (scalar-first y)
@@ -171,28 +177,31 @@ int-first {w} n =
 
 -- ---- reading and the grammar
 module _ {C : Type 0} (I : Type 0) where
-  number-part : (s : Sort) (p b : ℕ) (c : C) (at : ℕ) (t : List ℕ) → Bytes t
-      → Parsed {I = I} (Quiet (λ w x. Spelt (b ∷ w) x) c) t (mapped (Num s) (numberFrom (formsOf s) p b) c at t)
-  number-part s p b c at t l = maps (Quiet (λ w x. Spelt (b ∷ w) x) c) (Num s) t (numberFrom (formsOf s) p b c at t)
-      (quietly (λ w v. Number (formsOf s) (b ∷ w) v)
-      (λ w v is c′. Quiet (λ w x. Spelt (b ∷ w) x) c w (Num s v) is c′) c t (λ w v n. quiet (a-number n))
-      (numberFrom (formsOf s) p b c at t) (number-scans I (formsOf s) p b c at t l))
+  number-part : (ρ : DoubleRule) (s : Sort) (p b : ℕ) (c : C) (at : ℕ) (t : List ℕ) → Bytes t
+      → Parsed {I = I} (Quiet (λ w x. SpeltUnder ρ (b ∷ w) x) c) t
+      (mapped (Num s) (numberUnder ρ (formsOf s) p b) c at t)
+  number-part ρ s p b c at t l = maps (Quiet (λ w x. SpeltUnder ρ (b ∷ w) x) c) (Num s) t
+      (numberUnder ρ (formsOf s) p b c at t)
+      (quietly (λ w v. NumberUnder ρ (formsOf s) (b ∷ w) v)
+      (λ w v is c′. Quiet (λ w x. SpeltUnder ρ (b ∷ w) x) c w (Num s v) is c′) c t (λ w v n. quiet (a-number n))
+      (numberUnder ρ (formsOf s) p b c at t) (number-scans I ρ (formsOf s) p b c at t l))
 
-  string-part : (k : Encoding) (p b : ℕ) (c : C) (at : ℕ) (t : List ℕ) → Bytes t
-      → Parsed {I = I} (Quiet (λ w x. Spelt (b ∷ w) x) c) t (mapped (Str k) (stringFrom k p b) c at t)
-  string-part k p b c at t l = maps (Quiet (λ w x. Spelt (b ∷ w) x) c) (Str k) t (stringFrom k p b c at t)
-      (quietly (λ w cs. String k (b ∷ w) cs) (λ w cs is c′. Quiet (λ w x. Spelt (b ∷ w) x) c w (Str k cs) is c′) c t
+  string-part : (ρ : DoubleRule) (k : Encoding) (p b : ℕ) (c : C) (at : ℕ) (t : List ℕ) → Bytes t
+      → Parsed {I = I} (Quiet (λ w x. SpeltUnder ρ (b ∷ w) x) c) t (mapped (Str k) (stringFrom k p b) c at t)
+  string-part ρ k p b c at t l = maps (Quiet (λ w x. SpeltUnder ρ (b ∷ w) x) c) (Str k) t (stringFrom k p b c at t)
+      (quietly (λ w cs. String k (b ∷ w) cs)
+      (λ w cs is c′. Quiet (λ w x. SpeltUnder ρ (b ∷ w) x) c w (Str k cs) is c′) c t
       (λ w cs n. quiet (a-string n)) (stringFrom k p b c at t) (string-scans I k p b c at t l))
 
-  pub scalar-scans : (p b : ℕ) (c : C) (at : ℕ) (s : List ℕ) → Bytes s
-      → Parsed {I = I} (Quiet (λ w x. Spelt (b ∷ w) x) c) s (scalarFrom p b c at s)
-  scalar-scans p b c at s l =
-      subst (Parsed {I = I} (Quiet (λ w x. Spelt (b ∷ w) x) c) s) (sym (scalar-by p b c at s)) (go (leadOf b))
+  pub scalar-scans : (ρ : DoubleRule) (p b : ℕ) (c : C) (at : ℕ) (s : List ℕ) → Bytes s
+      → Parsed {I = I} (Quiet (λ w x. SpeltUnder ρ (b ∷ w) x) c) s (scalarFrom ρ p b c at s)
+  scalar-scans ρ p b c at s l =
+      subst (Parsed {I = I} (Quiet (λ w x. SpeltUnder ρ (b ∷ w) x) c) s) (sym (scalar-by ρ p b c at s)) (go (leadOf b))
     where
-      go : (x : Lead) → Parsed {I = I} (Quiet (λ w x. Spelt (b ∷ w) x) c) s (scalarBy x p b c at s)
-      go (lead.Number t) = number-part t p b c at s l
-      go lead.Text = string-part Utf8 p b c at s l
-      go lead.Bytes = string-part Binary p b c at s l
+      go : (x : Lead) → Parsed {I = I} (Quiet (λ w x. SpeltUnder ρ (b ∷ w) x) c) s (scalarBy ρ x p b c at s)
+      go (lead.Number t) = number-part ρ t p b c at s l
+      go lead.Text = string-part ρ Utf8 p b c at s l
+      go lead.Bytes = string-part ρ Binary p b c at s l
       go lead.List = tt
       go lead.TypedList = tt
       go lead.Map = tt
@@ -206,7 +215,7 @@ module _ {C : Type 0} (I : Type 0) where
   pub int-scans : (p b : ℕ) (c : C) (at : ℕ) (s : List ℕ) → Bytes s
       → Parsed {I = I} (Quiet (λ w v. Int (b ∷ w) v) c) s (intFrom p b c at s)
   unfolding intFrom
-  int-scans p b c at s l = number-scans I (formsOf sort.Int) p b c at s l
+  int-scans p b c at s l = number-scans I Floats (formsOf sort.Int) p b c at s l
 
   pub text-scans : (p b : ℕ) (c : C) (at : ℕ) (s : List ℕ) → Bytes s
       → Parsed {I = I} (Quiet (λ w cs. Text (b ∷ w) cs) c) s (textFrom p b c at s)
@@ -219,30 +228,31 @@ module _ {C : Type 0} (I : Type 0) where
       record { makes = λ at s. (h .makes at s .0, e at (w ++ s) ∙ h .makes at s .1, h .makes at s .2) }
 
   -- by the lead that its first byte has
-  by-lead : (x : Scalar) (c : C) (w : List ℕ) → First (λ b. (b < 256) × (leadOf b ≡ leadFor x)) w
-      → Leads {I = I} (scalarBy (leadFor x)) c w x [] c → Leads {I = I} scalarFrom c w x [] c
-  by-lead x c [] f h = h
-  by-lead x c (b ∷ w) f h =
-      λ p. made-as (scalarFrom p b) (scalarBy (leadFor x) p b)
-      (λ at s. scalar-by p b c at s ∙ ap (λ (y : Lead). scalarBy y p b c at s) (f .1)) (h p)
+  by-lead : (ρ : DoubleRule) (x : Scalar) (c : C) (w : List ℕ) → First (λ b. (b < 256) × (leadOf b ≡ leadFor x)) w
+      → Leads {I = I} (scalarBy ρ (leadFor x)) c w x [] c → Leads {I = I} (scalarFrom ρ) c w x [] c
+  by-lead ρ x c [] f h = h
+  by-lead ρ x c (b ∷ w) f h =
+      λ p. made-as (scalarFrom ρ p b) (scalarBy ρ (leadFor x) p b)
+      (λ at s. scalar-by ρ p b c at s ∙ ap (λ (y : Lead). scalarBy ρ y p b c at s) (f .1)) (h p)
 
-  number-leads : (s : Sort) (v : ℕ) (c : C) (w : List ℕ) → NumberLed I (formsOf s) w v c
-      → Leads {I = I} (scalarBy (lead.Number s)) c w (Num s v) [] c
-  number-leads s v c [] h = h
-  number-leads s v c (b ∷ w) h = λ p. map-makes (Num s) (numberFrom (formsOf s) p b) (h p)
+  number-leads : (ρ : DoubleRule) (s : Sort) (v : ℕ) (c : C) (w : List ℕ) → LedUnder I ρ (formsOf s) w v c
+      → Leads {I = I} (scalarBy ρ (lead.Number s)) c w (Num s v) [] c
+  number-leads ρ s v c [] h = h
+  number-leads ρ s v c (b ∷ w) h = λ p. map-makes (Num s) (numberUnder ρ (formsOf s) p b) (h p)
 
-  string-leads : (k : Encoding) (cs : List ℕ) (c : C) (w : List ℕ) → StringLed I k w cs c
-      → Leads {I = I} (scalarBy (leadFor (Str k cs))) c w (Str k cs) [] c
-  string-leads Utf8 cs c [] h = h
-  string-leads Utf8 cs c (b ∷ w) h = λ p. map-makes (Str Utf8) (stringFrom Utf8 p b) (h p)
-  string-leads Binary cs c [] h = h
-  string-leads Binary cs c (b ∷ w) h = λ p. map-makes (Str Binary) (stringFrom Binary p b) (h p)
+  string-leads : (ρ : DoubleRule) (k : Encoding) (cs : List ℕ) (c : C) (w : List ℕ) → StringLed I k w cs c
+      → Leads {I = I} (scalarBy ρ (leadFor (Str k cs))) c w (Str k cs) [] c
+  string-leads ρ Utf8 cs c [] h = h
+  string-leads ρ Utf8 cs c (b ∷ w) h = λ p. map-makes (Str Utf8) (stringFrom Utf8 p b) (h p)
+  string-leads ρ Binary cs c [] h = h
+  string-leads ρ Binary cs c (b ∷ w) h = λ p. map-makes (Str Binary) (stringFrom Binary p b) (h p)
 
-  pub scalar-makes : {w : List ℕ} {x : Scalar} → Spelt w x → (c : C) → Leads {I = I} scalarFrom c w x [] c
-  scalar-makes (a-number {s = s} {w = w} {v = v} n) c =
-      by-lead (Num s v) c w (scalar-first (a-number n)) (number-leads s v c w (number-makes I n (properly s) c))
-  scalar-makes (a-string {k = k} {w = w} {cs = cs} x) c =
-      by-lead (Str k cs) c w (scalar-first (a-string x)) (string-leads k cs c w (string-makes I k x c))
+  pub scalar-makes : {ρ : DoubleRule} {w : List ℕ} {x : Scalar} → SpeltUnder ρ w x → (c : C)
+      → Leads {I = I} (scalarFrom ρ) c w x [] c
+  scalar-makes {ρ} (a-number {s = s} {w = w} {v = v} n) c =
+      by-lead ρ (Num s v) c w (scalar-first (a-number n)) (number-leads ρ s v c w (number-makes I n (properly s) c))
+  scalar-makes {ρ} (a-string {k = k} {w = w} {cs = cs} x) c =
+      by-lead ρ (Str k cs) c w (scalar-first {ρ = ρ} (a-string x)) (string-leads ρ k cs c w (string-makes I k x c))
 
   pub int-makes : {w : List ℕ} {v : ℕ} → Int w v → (c : C) → Leads {I = I} intFrom c w v [] c
   unfolding intFrom
@@ -262,9 +272,9 @@ module _ {C : Type 0} (I : Type 0) where
       go (b ∷ w) h = h
 
   -- a byte that opens no scalar
-  pub scalar-shut : (e : ℕ) → T (not (isScalar e)) → (p : ℕ) (c : C) (at : ℕ) (s : List ℕ)
-      → scalarFrom {I = I} p e c at s ≡ Fault 3 p
-  scalar-shut e h p c at s = scalar-by p e c at s ∙ kind-shut p e c at s (leadOf e) h
+  pub scalar-shut : (ρ : DoubleRule) (e : ℕ) → T (not (isScalar e)) → (p : ℕ) (c : C) (at : ℕ) (s : List ℕ)
+      → scalarFrom {I = I} ρ p e c at s ≡ Fault 3 p
+  scalar-shut ρ e h p c at s = scalar-by ρ p e c at s ∙ kind-shut ρ p e c at s (leadOf e) h
 
 -- ---- the shortest form, by what the scalar is
 pub number-shortest : (s : Sort) (v : ℕ) → shortestScalar (Num s v) ≡ shortest (formsOf s) v

@@ -4,6 +4,7 @@ use mathlib.Core.{List.List, List.[], List._∷_, List._++_, List.map, Option.Op
 use Prim.Native.Nat.{ℕ, zero, suc, _+_, _*_, _-_, _/_, _%_, _^_, min}
 use lib.{Dec.ltb, Dec.eqb, ListN.length, ListN.take, ListN.drop, Count.leadingZeros, Pow.areBytes}
 use lib.IntN.{ℤ, pos, negsuc, _-ℤ_, _*ℤ_}
+use lib.Ieee.{binary64, toBits, ofBits, ofInt, mul}
 use mir.{Syntax.w8, Syntax.w16, Syntax.w32, Syntax.w64, Val.ofZ, Val.toZ}
 use Rattle.flow.specs.RefusalNumbers.{cut, wrong-byte, not-utf8}
 use Rattle.flow.specs.Flow.{pick, within, sameList, Outcome, Done, Fault, Read, From, One}
@@ -43,6 +44,14 @@ magnitude x t =
 unfoldable pub widened : ℕ → ℕ  -- 5f: the double that a float of 32 bits is, widened bit by bit
 widened u = u / 2 ^ 31 * 2 ^ 63 + magnitude (u / 2 ^ 23 % 2 ^ 8) (u % 2 ^ 23)
 
+-- 2026-11: 'm made an f64, multiplied once by the f64 nearest to 0.001'. That the bits are those of the double nearest
+-- to 1/1000: Thousandths.antt
+unfoldable pub thousandth : ℕ
+thousandth = 0x3f50_624d_d2f1_a9fc
+
+unfoldable pub thousandths : ℤ → ℕ
+thousandths m = toBits binary64 (mul binary64 (ofInt binary64 m) (ofBits binary64 thousandth))
+
 -- ---- the value that a form stands for, by the number u that its bytes hold
 unfoldable pub value : Rule → ℕ → ℕ
 value (Exactly v) u = v
@@ -53,6 +62,27 @@ value Minutes u = ofZ w64 (toZ w32 u *ℤ pos 60_000)
 value WholeByte u = whole (toZ w8 u)
 value WholePair u = whole (toZ w16 u)
 value Float u = widened u
+
+-- the rule of 5f: its four bytes are a float, as 01 has it, which is the main rule; or whole thousandths (2026-11)
+pub data DoubleRule : Type 0 where
+  Floats Thousandths : DoubleRule
+
+-- by the second, 5f alone has another value
+abbrev pub valueInThousandths : Rule → ℕ → ℕ
+valueInThousandths r u = elim r [
+  | Exactly v ↦ value (Exactly v) u
+  | Plain ↦ value Plain u
+  | Offset k ↦ value (Offset k) u
+  | Signed ↦ value Signed u
+  | Minutes ↦ value Minutes u
+  | WholeByte ↦ value WholeByte u
+  | WholePair ↦ value WholePair u
+  | Float ↦ thousandths (toZ w32 u)
+]
+
+abbrev pub valueUnder : DoubleRule → Rule → ℕ → ℕ
+valueUnder Floats r u = value r u
+valueUnder Thousandths r u = valueInThousandths r u
 
 -- `codes` first bytes from `head` on, and `extra` bytes more. They hold (code − head) · 256 ^ extra + the bytes,
 -- highest first
@@ -109,8 +139,13 @@ module _ {C I : Type 0} where
   bytesOf (suc k) u c at s = byteAt (λ p b. bytesOf k (256 * u + b)) c at s
 
   -- a value of one of these forms, whose first byte is b, at p; any other is a wrong byte
+  abbrev pub numberUnder : DoubleRule → List Form → From C I ℕ
+  numberUnder ρ ws p b =
+      elim (formAt ws b) [ NoForm ↦ fail wrong-byte p | Starts k u r ↦ mapped (valueUnder ρ r) (bytesOf k u) ]
+
+  -- by the main rule: also the counts, numbers and lengths, which are no doubles
   abbrev pub numberFrom : List Form → From C I ℕ
-  numberFrom ws p b = elim (formAt ws b) [ NoForm ↦ fail wrong-byte p | Starts k u r ↦ mapped (value r) (bytesOf k u) ]
+  numberFrom = numberUnder Floats
 
 -- ---- spelling: the first form that holds the value. `guess` is a candidate for what it holds, right where it stands
 -- for v
@@ -309,14 +344,14 @@ module _ {C I : Type 0} where
   orString k g p b = pick (begins (partHead k ∷ lastHeads k) b) (mapped (Str k) (stringFrom k p b)) (g p b)
 
   -- a single value, where b begins one of its kind, or what g reads
-  abbrev pub orNumber : Sort → From C I Scalar → From C I Scalar
-  orNumber s g p b = pick (begins (formsOf s) b) (mapped (Num s) (numberFrom (formsOf s) p b)) (g p b)
+  abbrev pub orNumber : DoubleRule → Sort → From C I Scalar → From C I Scalar
+  orNumber ρ s g p b = pick (begins (formsOf s) b) (mapped (Num s) (numberUnder ρ (formsOf s) p b)) (g p b)
 
   -- a scalar whose first byte is b, at p, in the order of 01's table of first bytes; any other is a wrong byte
-  unfoldable pub scalarFrom : From C I Scalar
-  scalarFrom = orString Utf8 (orString Binary
-      (orNumber Int (orNumber Long (orNumber Date (orNumber Double
-      (orNumber Null (orNumber False (orNumber True (λ p b. fail wrong-byte p)))))))))
+  unfoldable pub scalarFrom : DoubleRule → From C I Scalar
+  scalarFrom ρ = orString Utf8 (orString Binary
+      (orNumber ρ Int (orNumber ρ Long (orNumber ρ Date (orNumber ρ Double
+      (orNumber ρ Null (orNumber ρ False (orNumber ρ True (λ p b. fail wrong-byte p)))))))))
 
   unfoldable pub intFrom : From C I ℕ  -- an int: for counts and numbers
   intFrom p b = numberFrom (formsOf Int) p b

@@ -17,7 +17,7 @@ use Rattle.scalar.specs.declared.Encoding.{Encoding}
 use Rattle.scalar.specs.declared.Encoding.the-variants.{Utf8, Binary}
 use Rattle.scalar.specs.declared.CharLead.{CharLead}
 use Rattle.scalar.specs.declared.CharLead.the-variants.{Basic, Supplementary, Halved, NoChar}
-use Rattle.scalar.specs.Scalars.{Form, inside, numberFrom, partHead, lastHeads}
+use Rattle.scalar.specs.Scalars.{Floats, Form, inside, numberFrom, partHead, lastHeads}
 use Rattle.scalar.specs.Scalars.{charLead, paired, ranged, continued, chained, lowOf, pairOf, pairThen, bySecond}
 use Rattle.scalar.specs.Scalars.{character, characters, octets, body, chunk, chunks, stringFrom}
 use Rattle.scalar.specs.Grammar.{Number, here, held, Continued, no-more, follows}
@@ -195,7 +195,7 @@ module _ {C : Type 0} (I : Type 0) where
       part : Parsed (Rest k b c) s (bind (numberFrom (partHead k ∷ []) p b) (λ n. bind (body k n) then-next) c at s)
       part = binds-quiet (λ h n. Number (partHead k ∷ []) (b ∷ h) n) (Rest k b c)
           (numberFrom (partHead k ∷ []) p b) (λ n. bind (body k n) then-next) c at s l
-          (number-scans I (partHead k ∷ []) p b c at s l)
+          (number-scans I Floats (partHead k ∷ []) p b c at s l)
           (λ h n at₁ t m y.
           binds-quiet (Body k n) (λ w a is c′. Rest k b c (h ++ w) a is c′) (body k n) then-next c at₁ t m
           (body-read k n c at₁ t m)
@@ -208,7 +208,7 @@ module _ {C : Type 0} (I : Type 0) where
       last =
           binds-quiet (λ h n. Number (lastHeads k) (b ∷ h) n) (Rest k b c) (numberFrom (lastHeads k) p b)
           (body k) c at s l
-          (number-scans I (lastHeads k) p b c at s l)
+          (number-scans I Floats (lastHeads k) p b c at s l)
           (λ h n at₁ t m y. quietly (Body k n) (λ w a is c′. Rest k b c (h ++ w) a is c′) c t
           (λ w cs z. quiet (last-chunk y z)) (body k n c at₁ t) (body-read k n c at₁ t m))
 

@@ -46,6 +46,10 @@ static const char help[] =
     "                      * stands for slashes too\n"
     "    -0                names on standard input end with a zero byte, as those of find -print0\n"
     "    --time            say on standard error how long it took, and how much of it in the library\n"
+    "    --thousandths     5f and four bytes are no float but a whole number m, and stand for m times 0.001, in\n"
+    "                      all files. Shortest forms are by the main rule, where 5f is a float: one may be longer\n"
+    "                      than its file, so that bytes gained by rewriting and bytes saved may be below 0. A\n"
+    "                      file is refused, number 1, where it would be longer than 262144 bytes\n"
     "    -h, --help        this page\n"
     "    --                what follows is no option\n"
     "\n"
@@ -157,7 +161,7 @@ static int copies_of_names(const struct command *self, const struct options *o, 
 
     begin_lines(&o->layout);
     watch_signals();
-    start_run(&run);
+    start_run(&run, o->thousandths);
     take_names(&run, o, names);
     run.totals.partial = signal_met() != 0;
     end_progress();

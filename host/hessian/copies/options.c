@@ -4,7 +4,7 @@
 #include <string.h>
 
 /* Options that have no letter. */
-enum { JSON = 256, TIME, ONLY, PRINT0, PAIRS, INCLUDE, EXCLUDE };
+enum { JSON = 256, TIME, ONLY, PRINT0, PAIRS, INCLUDE, EXCLUDE, THOUSANDTHS };
 
 static const char letters[] = ":hq0";
 
@@ -13,7 +13,8 @@ static const struct option words[] = {
     {"json", no_argument, NULL, JSON},         {"time", no_argument, NULL, TIME},
     {"only", required_argument, NULL, ONLY},   {"print0", no_argument, NULL, PRINT0},
     {"pairs", no_argument, NULL, PAIRS},       {"include", required_argument, NULL, INCLUDE},
-    {"exclude", required_argument, NULL, EXCLUDE}, {NULL, 0, NULL, 0}};
+    {"exclude", required_argument, NULL, EXCLUDE}, {"thousandths", no_argument, NULL, THOUSANDTHS},
+    {NULL, 0, NULL, 0}};
 
 /* ---- --only */
 
@@ -86,6 +87,9 @@ static const char *take_option(struct options *o, int option, const char *value)
         break;
     case PAIRS:
         o->layout.pairs = true;
+        break;
+    case THOUSANDTHS:
+        o->thousandths = true;
         break;
     case INCLUDE:
         o->filter.include[o->filter.includes++] = value;

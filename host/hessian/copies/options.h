@@ -13,6 +13,7 @@ struct options {
     struct filter filter;
     bool only;    /* some states were chosen */
     bool summary; /* sums alone */
+    bool thousandths; /* 5f of the records counts thousandths */
     bool time;
     bool help;
     int end; /* of a name on standard input */

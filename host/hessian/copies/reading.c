@@ -65,11 +65,12 @@ void read_file(struct file *f, struct hints *hints, struct tools *tools)
 
 /* ---- buffers */
 
-void new_file(struct file *f)
+void new_file(struct file *f, bool thousandths)
 {
     memset(f, 0, sizeof *f);
     if (!new_record_lent_table(&f->record))
         no_memory();
+    f->record.thousandths = thousandths;
 }
 
 void set_file(struct file *f, const struct place *place, bool link, const char *why)

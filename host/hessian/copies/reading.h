@@ -32,7 +32,8 @@ struct tools {
     uint8_t *shortest; /* changed for the file's buffer where it is to be stored */
 };
 
-void new_file(struct file *f);
+/* In these buffers 5f of every record counts thousandths, or of none. */
+void new_file(struct file *f, bool thousandths);
 void free_file(struct file *f);
 
 void new_tools(struct tools *tools);

@@ -24,11 +24,11 @@ struct kept {
 /* Whose bytes a form is. */
 enum origin {
     OWN = 1,      /* those of the kept record's file */
-    SHORTEST = 2, /* those of its shortest form; a file may be its own */
+    SHORTEST = 2, /* those of its shortest form, by the main rule; a file may be its own */
     A_COPY = 4    /* those of another file that was found to be a copy, which are always in the cache */
 };
 
-/* Bytes that are a message of a kept record. */
+/* Bytes that are a message of a kept record: by the rule that files are read by, or the main rule if only SHORTEST. */
 struct form {
     uint64_t hash;
     const uint8_t *bytes; /* NULL: not in the cache */

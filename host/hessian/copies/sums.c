@@ -8,17 +8,23 @@ enum { QUIET = 1000, EVERY = 500 };
 
 /* ---- sums for a person */
 
-/* A sum of bytes, exact, and from a thousand on in units. */
-static void put_bytes(const char *what, uint64_t bytes)
+/* Bytes gained in all, which may be below 0. */
+static int64_t bytes_saved(const struct totals *t)
+{
+    return (int64_t)t->bytes_of_copies + t->bytes_by_rewriting;
+}
+
+/* A sum of bytes, exact, and from 1,024 on in units too. */
+static void put_bytes(const char *what, int64_t bytes)
 {
     static const char units[] = "KMGTPE";
     double n = (double)bytes / 1024;
     unsigned unit = 0;
 
-    printf("%s: %" PRIu64, what, bytes);
-    for (; n >= 1023.95; n /= 1024)
+    printf("%s: %" PRId64, what, bytes);
+    for (; n >= 1023.95 || n <= -1023.95; n /= 1024)
         unit++;
-    if (bytes >= 1024)
+    if (bytes >= 1024 || bytes <= -1024)
         printf(" (%.1f %ciB)", n, units[unit]);
     putchar('\n');
 }
@@ -30,10 +36,10 @@ static void print_text(const struct totals *t)
     printf("%" PRIu64 " records, %" PRIu64 " distinct, %" PRIu64 " copies, %" PRIu64 " refused, %" PRIu64
            " failed, %" PRIu64 " repeated, %" PRIu64 " links\n",
            t->records, t->distinct, t->copies, t->refused, t->failed, t->repeated, t->links);
-    put_bytes("bytes in", t->bytes_in);
-    put_bytes("bytes gained by removing copies", t->bytes_of_copies);
+    put_bytes("bytes in", (int64_t)t->bytes_in);
+    put_bytes("bytes gained by removing copies", (int64_t)t->bytes_of_copies);
     put_bytes("bytes gained by rewriting", t->bytes_by_rewriting);
-    put_bytes("bytes saved", t->bytes_of_copies + t->bytes_by_rewriting);
+    put_bytes("bytes saved", bytes_saved(t));
 }
 
 /* ---- sums for a program */
@@ -41,9 +47,9 @@ static void print_text(const struct totals *t)
 static void print_json(const struct totals *t)
 {
     printf("{\"state\":\"total\",\"records\":%" PRIu64 ",\"distinct\":%" PRIu64 ",\"copies\":%" PRIu64
-           ",\"refused\":%" PRIu64 ",\"bytes_in\":%" PRIu64 ",\"bytes_saved\":%" PRIu64,
-           t->records, t->distinct, t->copies, t->refused, t->bytes_in, t->bytes_of_copies + t->bytes_by_rewriting);
-    printf(",\"gained_by_removing\":%" PRIu64 ",\"gained_by_rewriting\":%" PRIu64 ",\"repeated\":%" PRIu64
+           ",\"refused\":%" PRIu64 ",\"bytes_in\":%" PRIu64 ",\"bytes_saved\":%" PRId64,
+           t->records, t->distinct, t->copies, t->refused, t->bytes_in, bytes_saved(t));
+    printf(",\"gained_by_removing\":%" PRIu64 ",\"gained_by_rewriting\":%" PRId64 ",\"repeated\":%" PRIu64
            ",\"links\":%" PRIu64 ",\"failed\":%" PRIu64 ",\"partial\":%s}\n",
            t->bytes_of_copies, t->bytes_by_rewriting, t->repeated, t->links, t->failed, t->partial ? "true" : "false");
 }

@@ -12,7 +12,7 @@ struct totals {
     uint64_t refused;
     uint64_t bytes_in;
     uint64_t bytes_of_copies;    /* gained by removing them */
-    uint64_t bytes_by_rewriting; /* gained, of records kept */
+    int64_t bytes_by_rewriting;  /* gained, of records kept; below 0 where thousandths took fewer bytes */
     uint64_t repeated;           /* names of files met before */
     uint64_t links;              /* names of symbolic links */
     uint64_t failed;             /* names that could not be used, and records that changed meanwhile */

@@ -92,13 +92,24 @@ static bool has_shortest(struct run *run, const struct file *f, const struct for
     return memcmp(run->earlier.shortest, shortest_of(f), form->size) == 0;
 }
 
+/*
+ * The forms of kept records that stand for these records where a file has them for its bytes. Those of files do, since
+ * all files are read by one rule. Shortest forms are by the main rule: by that rule the shortest form of a shortest
+ * form is itself, but read as thousandths it may be another record.
+ */
+static unsigned origins_of_bytes(const struct file *f)
+{
+    return f->record.thousandths ? OWN | A_COPY : OWN | A_COPY | SHORTEST;
+}
+
 /* The form of a kept record that the file's bytes are, or NULL. */
 static const struct form *same_bytes(struct run *run, const struct file *f)
 {
+    const unsigned origins = origins_of_bytes(f);
     const struct form *form;
     size_t from = 0;
 
-    while ((form = candidate(&run->store, OWN | SHORTEST | A_COPY, f->hash, f->record.len, &from)) != NULL)
+    while ((form = candidate(&run->store, origins, f->hash, f->record.len, &from)) != NULL)
         if (has_bytes(run, f, form))
             break;
     return form;
@@ -135,7 +146,7 @@ static void take_kept(struct run *run, const struct file *f)
     if (!f->shortest_already)
         add_form(&run->store, index, SHORTEST, f->shortest_hash, r->shortest, r->shortest_len);
     run->totals.distinct++;
-    run->totals.bytes_by_rewriting += r->size - r->shortest_len;
+    run->totals.bytes_by_rewriting += (int64_t)r->size - (int64_t)r->shortest_len;
     print_kept(f->name, r);
 }
 
@@ -199,13 +210,14 @@ static void take_file(void *context, struct file *f)
 
 /* ---- the run */
 
-void start_run(struct run *run)
+void start_run(struct run *run, bool thousandths)
 {
     memset(run, 0, sizeof *run);
     if (!new_record(&run->earlier))
         no_memory();
+    run->earlier.thousandths = thousandths;
     new_store(&run->store);
-    start_workers(&run->workers, take_file, run);
+    start_workers(&run->workers, thousandths, take_file, run);
 }
 
 void end_run(struct run *run)

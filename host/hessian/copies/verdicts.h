@@ -24,7 +24,8 @@ struct run {
     struct totals totals;
 };
 
-void start_run(struct run *run);
+/* 5f of all files counts thousandths, or of none. */
+void start_run(struct run *run, bool thousandths);
 
 void end_run(struct run *run);
 

@@ -65,13 +65,13 @@ static void start_threads(struct workers *w)
     release_signals(&before);
 }
 
-void start_workers(struct workers *w, void (*take)(void *context, struct file *file), void *context)
+void start_workers(struct workers *w, bool thousandths, void (*take)(void *context, struct file *file), void *context)
 {
     unsigned i;
 
     memset(w, 0, sizeof *w);
     for (i = 0; i < TRAYS * FILES; i++)
-        new_file(&w->trays[i / FILES].files[i % FILES]);
+        new_file(&w->trays[i / FILES].files[i % FILES], thousandths);
     new_tools(&w->tools);
     w->capacity = FEW_FILES;
     new_hints(&w->hints);

@@ -45,7 +45,8 @@ struct workers {
     void *context;
 };
 
-void start_workers(struct workers *w, void (*take)(void *context, struct file *file), void *context);
+/* Files are read by the rule of thousandths, or by the main rule. */
+void start_workers(struct workers *w, bool thousandths, void (*take)(void *context, struct file *file), void *context);
 
 /* Hands over a file; `place` without a folder is a name alone: that of a link, or why it cannot be read. */
 void hand_over(struct workers *w, const struct place *place, bool link, const char *why);

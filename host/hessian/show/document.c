@@ -244,7 +244,10 @@ static void put_part(struct document *d, const struct part *part)
 
 /* ---- documents */
 
-/* Name and size of the file, as far as it is known; without places only the name, where there are several. */
+/*
+ * Name and size of the file, as far as it is known, and the rule that it is read by; without places only the name,
+ * where there are several.
+ */
 static void open_document(struct document *d, const struct input *in, const char *state)
 {
     json_open(&d->j, '{');
@@ -253,12 +256,22 @@ static void open_document(struct document *d, const struct input *in, const char
         json_text(&d->j, "name", in->name);
     if (d->how->places && !has_more(in))
         json_number(&d->j, "bytes", in->r->size);
+    if (d->how->places && d->how->thousandths)
+        json_truth(&d->j, "thousandths", true);
 }
 
 static void close_document(struct document *d)
 {
     json_close(&d->j, '}');
     putc('\n', d->j.out);
+}
+
+static void put_shortest(struct document *d, const struct record *r)
+{
+    if (too_long_shortest(r))
+        json_null(&d->j, "shortest");
+    else
+        json_number(&d->j, "shortest", r->shortest_len);
 }
 
 void put_document(FILE *out, const struct input *in, const struct manner *how, const struct view *v)
@@ -268,7 +281,7 @@ void put_document(FILE *out, const struct input *in, const struct manner *how, c
 
     open_document(&d, in, "accepted");
     json_number(&d.j, "rows", in->r->rows);
-    json_number(&d.j, "shortest", in->r->shortest_len);
+    put_shortest(&d, in->r);
     json_key(&d.j, "record");
     put_part(&d, &whole);
     close_document(&d);

@@ -251,7 +251,10 @@ static void show_part(const struct page *p, const struct part *part, unsigned de
 
 /* ---- pages */
 
-/* Name and size of the file, up to a comma; of a page without places only the name, where there are several. */
+/*
+ * Name and size of the file and the rule that it is read by, up to a comma; of a page without places only the name,
+ * where there are several.
+ */
 static void put_file(const struct page *p, const struct input *in)
 {
     const struct record *r = in->r;
@@ -262,21 +265,29 @@ static void put_file(const struct page *p, const struct input *in)
     put_input_name(p->out, in);
     paint(p, PLAIN);
     if (p->how->places)
-        fprintf(p->out, ": %" PRIu64 " byte%s%s, ", r->size, plural(r->size), has_more(in) ? " at least" : "");
+        fprintf(p->out, ": %" PRIu64 " byte%s%s, %s", r->size, plural(r->size), has_more(in) ? " at least" : "",
+                p->how->thousandths ? "5f in thousandths, " : "");
     else
         fputs(":\n", p->out);
+}
+
+static void put_counts(FILE *out, const struct record *r)
+{
+    fprintf(out, "%zu row%s, shortest form ", r->rows, plural(r->rows));
+    if (too_long_shortest(r))
+        fputs("longer than 262144 bytes\n", out);
+    else
+        fprintf(out, "%zu byte%s\n", r->shortest_len, plural(r->shortest_len));
 }
 
 void put_page(FILE *out, const struct input *in, const struct manner *how, const struct view *v)
 {
     const struct page p = {out, how, v};
     const struct part whole = whole_record(v);
-    const struct record *r = in->r;
 
     put_file(&p, in);
     if (how->places)
-        fprintf(out, "%zu row%s, shortest form %zu byte%s\n", r->rows, plural(r->rows), r->shortest_len,
-                plural(r->shortest_len));
+        put_counts(out, in->r);
     show_part(&p, &whole, 0);
 }
 

@@ -37,12 +37,16 @@ static const char help[] =
     "    --color[=WHEN]   auto (places, names, texts and refusals coloured on a terminal, unless NO_COLOR is\n"
     "                     set), always or never; --color is --color=always\n"
     "    --json           one JSON document a record, in one line, never coloured\n"
+    "    --thousandths    5f and four bytes are no float but a whole number m, and stand for m times 0.001, in\n"
+    "                     all that is named. The first line says so. The shortest form is by the main rule,\n"
+    "                     where 5f is a float: it may be longer than the file\n"
     "    -h, --help       this page\n"
     "    --               what follows is no option\n"
     "\n"
     "A document has state (accepted, refused), name (- is standard input), bytes, rows, shortest (bytes) and\n"
     "record, a value; where it is refused number, refusal (its name), place and reason instead. What cannot\n"
-    "be read has none, and is told on standard error. A value has kind, place, and\n"
+    "be read has none, and is told on standard error. By --thousandths a document has thousandths, which is\n"
+    "true, and its shortest is null where that would be longer than 262144 bytes. A value has kind, place, and\n"
     "    value          null, true, false, an int, a text, the number of a reference; a long as a decimal in\n"
     "                   quotes, since many readers of JSON keep 53 bits; a double as its shortest decimal or\n"
     "                   \"Infinity\", \"-Infinity\", \"NaN\"; a date in ISO 8601; bytes in base64\n"
@@ -55,7 +59,7 @@ static const char help[] =
     "    defines        the classes defined before it: number, name, fields\n"
     "    more           what is left out: bytes; elements or pairs, and in how many rows\n"
     "There --limit is none unless it is given, and names are always whole. --no-places leaves out place,\n"
-    "bytes, and name unless several are named.\n"
+    "bytes, thousandths, and name unless several are named.\n"
     "\n"
     "Status: 0 all were read, 1 some were refused, 2 wrong usage, or a file could not be read.\n";
 
@@ -65,7 +69,7 @@ static int show_record(const struct input *in, const void *manner)
     const char *why;
     struct view v;
 
-    if (in->r->number != HESSIAN_ACCEPTED) {
+    if (!has_rows(in->r)) {
         (how->json ? put_refused_document : put_refused_page)(stdout, in, how);
         return REFUSED;
     }
@@ -107,6 +111,9 @@ static const char *take_option(int option, struct manner *how)
     case 'p':
         how->places = false;
         return NULL;
+    case 't':
+        how->thousandths = true;
+        return NULL;
     default:
         how->json = true;
         return NULL;
@@ -118,10 +125,10 @@ static int run_show(const struct command *self, int argc, char **argv)
     static const struct option options[] = {
         {"limit", required_argument, NULL, 'l'}, {"elements", required_argument, NULL, 'e'},
         {"no-places", no_argument, NULL, 'p'},   {"color", optional_argument, NULL, 'c'},
-        {"json", no_argument, NULL, 'j'},        {"help", no_argument, NULL, 'h'},
-        {NULL, 0, NULL, 0}
+        {"json", no_argument, NULL, 'j'},        {"thousandths", no_argument, NULL, 't'},
+        {"help", no_argument, NULL, 'h'},        {NULL, 0, NULL, 0}
     };
-    struct manner how = {0, UINT64_MAX, true, false, on_terminal()};
+    struct manner how = {false, 0, UINT64_MAX, true, false, on_terminal()};
     const char *why;
     int option;
 
@@ -136,7 +143,8 @@ static int run_show(const struct command *self, int argc, char **argv)
     /* what is compared is not to be cut unasked */
     if (how.bytes == 0)
         how.bytes = how.json || !how.places ? UINT64_MAX : PAGE_LIMIT;
-    return finished(self, each_record(self, argc - optind, argv + optind, show_record, &how));
+    return finished(self, each_record(self, (struct named){argc - optind, argv + optind, how.thousandths}, show_record,
+                                      &how));
 }
 
 const struct command show_command = {"show", "records as a person reads them, or as JSON", help, run_show};

@@ -17,6 +17,7 @@ use Rattle.scalar.specs.declared.Sort.the-variants.{Int}
 use Rattle.scalar.specs.declared.Encoding.the-variants.{Utf8}
 use Rattle.scalar.specs.Answers.{numberAt}
 use Rattle.scalar.specs.Answers.{Sizes, sized, measuredAt}
+use Rattle.scalar.specs.Scalars.{Floats}
 use Rattle.record.specs.declared.Group.the-variants.{Counted}
 use Rattle.record.specs.Model.Items.{Definition, ClassName, FieldName, Known, defined, Limits}
 use Rattle.record.specs.Model.Reading.{Reader, Opening, count, name, plainFrom, fieldNames, definition, valueFrom}
@@ -237,42 +238,42 @@ module _ (ℓ : Limits) where
   -- what reads the values in a value, where d more containers may open
   unfoldable pub below : ℕ → Option (Opening One)
   below zero = none
-  below (suc d) = some (valueFrom ℓ d)
+  below (suc d) = some (valueFrom Floats ℓ d)
 
   pub below-none : (d : ℕ) → d ≡ 0 → below d ≡ none
   unfolding below
   below-none d e = ap below e
 
-  pub below-some : (d : ℕ) → 0 < d → below d ≡ some (valueFrom ℓ (d - 1))
+  pub below-some : (d : ℕ) → 0 < d → below d ≡ some (valueFrom Floats ℓ (d - 1))
   unfolding below
   below-some zero h = absurd (omega arith)
-  below-some (suc d) h = let e : d ≡ suc d - 1 = omega arith in ap (λ (k : ℕ). some (valueFrom ℓ k)) e
+  below-some (suc d) h = let e : d ≡ suc d - 1 = omega arith in ap (λ (k : ℕ). some (valueFrom Floats ℓ k)) e
 
   -- a value with no definition before it
   abbrev pub plain : ℕ → Opening One
-  plain d = plainFrom ℓ (below d)
+  plain d = plainFrom Floats ℓ (below d)
 
-  pub value-is : (d : ℕ) → valueFrom ℓ d ≡ precededBy 0x43 (definition ℓ) (plain d)
+  pub value-is : (d : ℕ) → valueFrom Floats ℓ d ≡ precededBy 0x43 (definition ℓ) (plain d)
   unfolding valueFrom below
   value-is zero = refl
   value-is (suc d) = refl
 
   module _ (d : ℕ) (c : Known) (m : List ℕ) (p : ℕ) where
-    value-by : run (byteAt (valueFrom ℓ d)) c m p ≡ run (byteAt (precededBy 0x43 (definition ℓ) (plain d))) c m p
+    value-by : run (byteAt (valueFrom Floats ℓ d)) c m p ≡ run (byteAt (precededBy 0x43 (definition ℓ) (plain d))) c m p
     value-by = ap (λ (f : Opening One). run (byteAt f) c m p) (value-is d)
 
-    pub value-plain : (p < length m → eqb (getD m p 0) 0x43 ≡ false) → run (byteAt (valueFrom ℓ d)) c m p
+    pub value-plain : (p < length m → eqb (getD m p 0) 0x43 ≡ false) → run (byteAt (valueFrom Floats ℓ d)) c m p
         ≡ run (byteAt (plain d)) c m p
     value-plain h = value-by ∙ preceded-none 0x43 (definition ℓ) (plain d) m c p h
 
     module _ (l : p < length m) (h : eqb (getD m p 0) 0x43 ≡ true) where
       pub value-defined : (e : ℕ) (rs : List Row) (c′ : Known) → run (definition ℓ p) c m (p + 1) ≡ ReadTo e tt rs c′
-          → run (byteAt (valueFrom ℓ d)) c m p ≡ front rs (run (byteAt (valueFrom ℓ d)) c′ m e)
+          → run (byteAt (valueFrom Floats ℓ d)) c m p ≡ front rs (run (byteAt (valueFrom Floats ℓ d)) c′ m e)
       value-defined e rs c′ q =
           value-by
           ∙ preceded-got 0x43 (definition ℓ) (plain d) m c p l h e rs c′ q
           ∙ ap (λ (f : Opening One). front rs (run (byteAt f) c′ m e)) (sym (value-is d))
 
       pub value-undefined : (x o : ℕ) → run (definition ℓ p) c m (p + 1) ≡ RefusedAt x o
-          → run (byteAt (valueFrom ℓ d)) c m p ≡ RefusedAt x o
+          → run (byteAt (valueFrom Floats ℓ d)) c m p ≡ RefusedAt x o
       value-undefined x o q = value-by ∙ preceded-lost 0x43 (definition ℓ) (plain d) m c p l h x o q

@@ -10,6 +10,7 @@ use lib.Seq.{drop-cons}
 use borrow.Author.Tests.{lt-ltb, le-ltb}
 use Rattle.flow.specs.Flow.{pick, Entry, Outcome, Done, Fault, One, byteAt}
 use Rattle.flow.specs.Tests.{pick-true, pick-false}
+use Rattle.scalar.specs.Scalars.{Floats}
 use Rattle.record.specs.Model.Items.{Item, Known, start, Limits}
 use Rattle.record.specs.Model.Reading.{valueFrom, message}
 use Rattle.record.specs.Model.Rows.{Row, rows}
@@ -46,55 +47,56 @@ answered-is lent (Done n u es c) =
 answered-is lent (Fault x o) = refl
 
 module _ (ℓ : Limits) (lent : ℕ) (m : List ℕ) where
-  pub read-empty : length m ≡ 0 → read ℓ lent m ≡ Refuse 1 0 0
+  pub read-empty : length m ≡ 0 → read Floats ℓ lent m ≡ Refuse 1 0 0
   unfolding judged
   read-empty e = go m e
     where
-      go : (m : List ℕ) → length m ≡ 0 → read ℓ lent m ≡ Refuse 1 0 0
+      go : (m : List ℕ) → length m ≡ 0 → read Floats ℓ lent m ≡ Refuse 1 0 0
       go [] e = refl
       go (b ∷ m) e = absurd (omega arith)
 
-  judged-by : 0 < length m → judged ℓ m ≡ pick (ltb (ℓ .longest) (length m)) (Fault 1 0) (message ℓ start 0 m)
+  judged-by : 0 < length m
+      → judged Floats ℓ m ≡ pick (ltb (ℓ .longest) (length m)) (Fault 1 0) (message Floats ℓ start 0 m)
   unfolding judged
   judged-by h = go m h
     where
-      go : (m : List ℕ) → 0 < length m → judged ℓ m ≡ pick (ltb (ℓ .longest) (length m)) (Fault 1 0)
-          (message ℓ start 0 m)
+      go : (m : List ℕ) → 0 < length m → judged Floats ℓ m ≡ pick (ltb (ℓ .longest) (length m)) (Fault 1 0)
+          (message Floats ℓ start 0 m)
       go [] h = absurd (omega arith)
       go (b ∷ m) h = refl
 
-  pub read-long : 0 < length m → ℓ .longest < length m → read ℓ lent m ≡ Refuse 1 0 0
+  pub read-long : 0 < length m → ℓ .longest < length m → read Floats ℓ lent m ≡ Refuse 1 0 0
   read-long h s = ap (answered lent) (judged-by h ∙ pick-true _ _ (lt-ltb (ℓ .longest) (length m) s))
 
   module _ (h : 0 < length m) (s : length m ≤ ℓ .longest) where
-    read-by : (o : ReadingAt One) → run (byteAt (valueFrom ℓ (ℓ .containers))) start m 0 ≡ o
-        → read ℓ lent m ≡ answeredBy lent (on o (λ e u c. run ending c m e))
+    read-by : (o : ReadingAt One) → run (byteAt (valueFrom Floats ℓ (ℓ .containers))) start m 0 ≡ o
+        → read Floats ℓ lent m ≡ answeredBy lent (on o (λ e u c. run ending c m e))
     unfolding message run
     read-by o q =
         ap (answered lent) (judged-by h ∙ pick-false _ _ (le-ltb (ℓ .longest) (length m) s))
-        ∙ answered-is lent (message ℓ start 0 m)
-        ∙ ap (answeredBy lent) (run-bind (byteAt (valueFrom ℓ (ℓ .containers))) (λ u. ending) start m 0
+        ∙ answered-is lent (message Floats ℓ start 0 m)
+        ∙ ap (answeredBy lent) (run-bind (byteAt (valueFrom Floats ℓ (ℓ .containers))) (λ u. ending) start m 0
         ∙ ap (λ (o : ReadingAt One). on o (λ e u c. run ending c m e)) q)
 
-    pub read-lost : (x o : ℕ) → run (byteAt (valueFrom ℓ (ℓ .containers))) start m 0 ≡ RefusedAt x o
-        → read ℓ lent m ≡ Refuse x 0 o
+    pub read-lost : (x o : ℕ) → run (byteAt (valueFrom Floats ℓ (ℓ .containers))) start m 0 ≡ RefusedAt x o
+        → read Floats ℓ lent m ≡ Refuse x 0 o
     read-lost x o q = read-by (RefusedAt x o) q
 
-    module _ (e : ℕ) (rs : List Row) (c : Known) (q : run (byteAt (valueFrom ℓ (ℓ .containers))) start m 0
+    module _ (e : ℕ) (rs : List Row) (c : Known) (q : run (byteAt (valueFrom Floats ℓ (ℓ .containers))) start m 0
         ≡ ReadTo e tt rs c) where
-      pub read-over : e < length m → read ℓ lent m ≡ Refuse 8 0 e
+      pub read-over : e < length m → read Floats ℓ lent m ≡ Refuse 8 0 e
       read-over l =
           read-by (ReadTo e tt rs c) q ∙ ap (λ (o : ReadingAt One). answeredBy lent (front rs o)) (ending-more c m e l)
 
-      read-all : length m ≤ e → read ℓ lent m ≡ pick (ltb lent (length rs)) (Refuse 9 (length rs) 0)
+      read-all : length m ≤ e → read Floats ℓ lent m ≡ pick (ltb lent (length rs)) (Refuse 9 (length rs) 0)
           (Accept (numbered 0 rs) e)
       read-all l =
           read-by (ReadTo e tt rs c) q
           ∙ ap (λ (o : ReadingAt One). answeredBy lent (front rs o)) (ending-end c m e l)
           ∙ ap (λ (l : List Row). answeredBy lent (ReadTo e tt l c)) (append-nil rs)
 
-      pub read-small : length m ≤ e → lent < length rs → read ℓ lent m ≡ Refuse 9 (length rs) 0
+      pub read-small : length m ≤ e → lent < length rs → read Floats ℓ lent m ≡ Refuse 9 (length rs) 0
       read-small l w = read-all l ∙ pick-true _ _ (lt-ltb lent (length rs) w)
 
-      pub read-got : length m ≤ e → length rs ≤ lent → read ℓ lent m ≡ Accept (numbered 0 rs) e
+      pub read-got : length m ≤ e → length rs ≤ lent → read Floats ℓ lent m ≡ Accept (numbered 0 rs) e
       read-got l w = read-all l ∙ pick-false _ _ (le-ltb lent (length rs) w)

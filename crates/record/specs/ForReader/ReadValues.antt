@@ -25,6 +25,7 @@ use Rattle.scalar.specs.ByChart.{scalarBy, scalar-by}
 use Rattle.scalar.specs.Answers.{numberAt}
 use Rattle.scalar.specs.Answers.{Sizes, sized, sizes, measuredAt}
 use Rattle.scalar.specs.ScalarLaws.{isScalar, scalar-shut}
+use Rattle.scalar.specs.Scalars.{Floats}
 use Rattle.record.specs.declared.Group.{Group}
 use Rattle.record.specs.declared.Group.the-variants.{Counted, Fields, Open, Pairs}
 use Rattle.record.specs.Model.Items.{Leaf, UntypedList, TypedList, UntypedMap, TypedMap, Object, Reference, Item}
@@ -56,25 +57,25 @@ stringRow Binary p s = row 8 p (s .bytes) 0 1
 
 -- the reading by the form of the first byte
 run-plain : (ℓ : Limits) (below : Option (Opening One)) (c : Known) (m : List ℕ) (p : ℕ) (x : ValueHead)
-    → headOf (getD m p 0) ≡ x → run (plainFrom ℓ below p (getD m p 0)) c m (p + 1)
-    ≡ run (plainBy ℓ below x p (getD m p 0)) c m (p + 1)
-run-plain ℓ below c m p x h = ap (λ (r : Reader One). run r c m (p + 1)) (plain-is ℓ below p (getD m p 0)
-    ∙ ap (λ (y : ValueHead). plainBy ℓ below y p (getD m p 0)) h)
+    → headOf (getD m p 0) ≡ x → run (plainFrom Floats ℓ below p (getD m p 0)) c m (p + 1)
+    ≡ run (plainBy Floats ℓ below x p (getD m p 0)) c m (p + 1)
+run-plain ℓ below c m p x h = ap (λ (r : Reader One). run r c m (p + 1)) (plain-is Floats ℓ below p (getD m p 0)
+    ∙ ap (λ (y : ValueHead). plainBy Floats ℓ below y p (getD m p 0)) h)
 
 module _ (ℓ : Limits) (below : Option (Opening One)) (c : Known) (m : List ℕ) (p : ℕ) (l : p < length m)
     (h : headOf (getD m p 0) ≡ leaf) where
-  leaf-by : (x : Lead) → leadOf (getD m p 0) ≡ x → run (plainFrom ℓ below p (getD m p 0)) c m (p + 1)
-      ≡ topped p (λ x. Val (Leaf x)) (run (scalarBy x p (getD m p 0)) c m (p + 1))
+  leaf-by : (x : Lead) → leadOf (getD m p 0) ≡ x → run (plainFrom Floats ℓ below p (getD m p 0)) c m (p + 1)
+      ≡ topped p (λ x. Val (Leaf x)) (run (scalarBy Floats x p (getD m p 0)) c m (p + 1))
   unfolding plainBy run
   leaf-by x e =
       run-plain ℓ below c m p leaf h
-      ∙ run-headed p (λ x. Val (Leaf x)) (scalarFrom p (getD m p 0)) c m (p + 1)
+      ∙ run-headed p (λ x. Val (Leaf x)) (scalarFrom Floats p (getD m p 0)) c m (p + 1)
       ∙ ap (λ (o : Outcome Known Item Scalar). topped p (λ x. Val (Leaf x)) (readingOf (p + 1) o))
-      (scalar-by p (getD m p 0) c (p + 1) (drop (p + 1) m)
-      ∙ ap (λ (y : Lead). scalarBy y p (getD m p 0) c (p + 1) (drop (p + 1) m)) e)
+      (scalar-by Floats p (getD m p 0) c (p + 1) (drop (p + 1) m)
+      ∙ ap (λ (y : Lead). scalarBy Floats y p (getD m p 0) c (p + 1) (drop (p + 1) m)) e)
 
   module _ (s : Sort) (x : leadOf (getD m p 0) ≡ lead.Number s) where
-    number-laid : (o : Answer ℕ) → numberAt s m p ≡ o → run (plainFrom ℓ below p (getD m p 0)) c m (p + 1)
+    number-laid : (o : Answer ℕ) → numberAt s m p ≡ o → run (plainFrom Floats ℓ below p (getD m p 0)) c m (p + 1)
         ≡ laid p (λ v. row (sortKind s) p v 0 1) c o
     number-laid o e =
         leaf-by (lead.Number s) x
@@ -87,16 +88,18 @@ module _ (ℓ : Limits) (below : Option (Opening One)) (c : Known) (m : List ℕ
         go (Done n v es u) = refl
         go (Fault x o) = refl
 
-    pub leaf-number : (n v : ℕ) → numberAt s m p ≡ Done n v [] tt → run (plainFrom ℓ below p (getD m p 0)) c m (p + 1)
+    pub leaf-number : (n v : ℕ) → numberAt s m p ≡ Done n v [] tt
+        → run (plainFrom Floats ℓ below p (getD m p 0)) c m (p + 1)
         ≡ ReadTo (p + n) tt (row (sortKind s) p v 0 1 ∷ []) c
     leaf-number n v e = number-laid (Done n v [] tt) e
 
-    pub leaf-number-lost : (y o : ℕ) → numberAt s m p ≡ Fault y o → run (plainFrom ℓ below p (getD m p 0)) c m (p + 1)
+    pub leaf-number-lost : (y o : ℕ) → numberAt s m p ≡ Fault y o
+        → run (plainFrom Floats ℓ below p (getD m p 0)) c m (p + 1)
         ≡ RefusedAt y o
     leaf-number-lost y o e = number-laid (Fault y o) e
 
   module _ (k : Encoding) (x : leadOf (getD m p 0) ≡ stringLead k) where
-    string-is : (o : Answer Sizes) → measuredAt k m p ≡ o → run (plainFrom ℓ below p (getD m p 0)) c m (p + 1)
+    string-is : (o : Answer Sizes) → measuredAt k m p ≡ o → run (plainFrom Floats ℓ below p (getD m p 0)) c m (p + 1)
         ≡ laid p (stringRow k p) c o
     string-is o e =
         leaf-by (stringLead k) x
@@ -106,7 +109,7 @@ module _ (ℓ : Limits) (below : Option (Opening One)) (c : Known) (m : List ℕ
         ∙ string-laid c m p k (λ cs. Val (Leaf (Str k cs))) (stringRow k p) (row-is k)
         ∙ ap (laid p (stringRow k p) c) e
       where
-        scalar-is : (k : Encoding) → run (scalarBy (stringLead k) p (getD m p 0)) c m (p + 1)
+        scalar-is : (k : Encoding) → run (scalarBy Floats (stringLead k) p (getD m p 0)) c m (p + 1)
             ≡ run (mapped (Str k) (stringFrom k p (getD m p 0))) c m (p + 1)
         scalar-is Utf8 = refl
         scalar-is Binary = refl
@@ -115,29 +118,31 @@ module _ (ℓ : Limits) (below : Option (Opening One)) (c : Known) (m : List ℕ
         row-is Utf8 cs = refl
         row-is Binary cs = refl
 
-    pub leaf-string-lost : (y o : ℕ) → measuredAt k m p ≡ Fault y o → run (plainFrom ℓ below p (getD m p 0)) c m (p + 1)
+    pub leaf-string-lost : (y o : ℕ) → measuredAt k m p ≡ Fault y o
+        → run (plainFrom Floats ℓ below p (getD m p 0)) c m (p + 1)
         ≡ RefusedAt y o
     leaf-string-lost y o e = string-is (Fault y o) e
 
   pub leaf-text : leadOf (getD m p 0) ≡ lead.Text → (n u b : ℕ) → measuredAt Utf8 m p ≡ Done n (sized u b) [] tt
-      → run (plainFrom ℓ below p (getD m p 0)) c m (p + 1) ≡ ReadTo (p + n) tt (row 7 p u b 1 ∷ []) c
+      → run (plainFrom Floats ℓ below p (getD m p 0)) c m (p + 1) ≡ ReadTo (p + n) tt (row 7 p u b 1 ∷ []) c
   leaf-text x n u b e = string-is Utf8 x (Done n (sized u b) [] tt) e
 
   pub leaf-bytes : leadOf (getD m p 0) ≡ lead.Bytes → (n u b : ℕ) → measuredAt Binary m p ≡ Done n (sized u b) [] tt
-      → run (plainFrom ℓ below p (getD m p 0)) c m (p + 1) ≡ ReadTo (p + n) tt (row 8 p b 0 1 ∷ []) c
+      → run (plainFrom Floats ℓ below p (getD m p 0)) c m (p + 1) ≡ ReadTo (p + n) tt (row 8 p b 0 1 ∷ []) c
   leaf-bytes x n u b e = string-is Binary x (Done n (sized u b) [] tt) e
 
-  pub leaf-none : isScalar (getD m p 0) ≡ false → run (plainFrom ℓ below p (getD m p 0)) c m (p + 1) ≡ RefusedAt 3 p
+  pub leaf-none : isScalar (getD m p 0) ≡ false
+      → run (plainFrom Floats ℓ below p (getD m p 0)) c m (p + 1) ≡ RefusedAt 3 p
   unfolding plainBy run
   leaf-none t =
       run-plain ℓ below c m p leaf h
       ∙ ap (λ (o : Outcome Known Item Scalar). readingOf (p + 1) (top p (λ x. Val (Leaf x)) o))
-      (scalar-shut Item (getD m p 0) (rw t tt) p c (p + 1) (drop (p + 1) m))
+      (scalar-shut Item Floats (getD m p 0) (rw t tt) p c (p + 1) (drop (p + 1) m))
 
 -- ---- a reference
 module _ (ℓ : Limits) (below : Option (Opening One)) (c : Known) (m : List ℕ) (p : ℕ) (l : p < length m)
     (h : headOf (getD m p 0) ≡ reference) where
-  reference-by : run (plainFrom ℓ below p (getD m p 0)) c m (p + 1) ≡ topped p (λ k. Val (Reference k))
+  reference-by : run (plainFrom Floats ℓ below p (getD m p 0)) c m (p + 1) ≡ topped p (λ k. Val (Reference k))
       (run (int (λ o. referenceTo p)) c m (p + 1))
   unfolding plainBy
   reference-by =
@@ -154,16 +159,17 @@ module _ (ℓ : Limits) (below : Option (Opening One)) (c : Known) (m : List ℕ
       (run-fail 6 p c m (p + 1 + n))
 
   pub reference-got : (n k : ℕ) → numberAt Int m (p + 1) ≡ Done n k [] tt → k < c .references
-      → run (plainFrom ℓ below p (getD m p 0)) c m (p + 1) ≡ ReadTo (p + 1 + n) tt (row 14 p k 0 1 ∷ []) c
+      → run (plainFrom Floats ℓ below p (getD m p 0)) c m (p + 1) ≡ ReadTo (p + 1 + n) tt (row 14 p k 0 1 ∷ []) c
   reference-got n k e s = reference-by ∙ ap (topped p (λ k. Val (Reference k))) (reference-test n k e
       ∙ pick-true _ _ (lt-ltb k (c .references) s))
 
   pub reference-ungiven : (n k : ℕ) → numberAt Int m (p + 1) ≡ Done n k [] tt → c .references ≤ k
-      → run (plainFrom ℓ below p (getD m p 0)) c m (p + 1) ≡ RefusedAt 6 p
+      → run (plainFrom Floats ℓ below p (getD m p 0)) c m (p + 1) ≡ RefusedAt 6 p
   reference-ungiven n k e s = reference-by ∙ ap (topped p (λ k. Val (Reference k))) (reference-test n k e
       ∙ pick-false _ _ (le-ltb k (c .references) s))
 
-  pub reference-lost : (x o : ℕ) → numberAt Int m (p + 1) ≡ Fault x o → run (plainFrom ℓ below p (getD m p 0)) c m
+  pub reference-lost : (x o : ℕ) → numberAt Int m (p + 1) ≡ Fault x o
+      → run (plainFrom Floats ℓ below p (getD m p 0)) c m
       (p + 1) ≡ RefusedAt x o
   reference-lost x o e = reference-by ∙ ap (topped p (λ k. Val (Reference k)))
       (int-lost (λ o. referenceTo p) c m (p + 1) (omega arith) x o e)
@@ -231,12 +237,12 @@ module _ (f : Opening One) (p k : ℕ) (c : Known) (m : List ℕ) (q : ℕ) wher
 module _ (ℓ : Limits) (below : Option (Opening One)) (c : Known) (m : List ℕ) (p : ℕ) (l : p < length m) where
   -- where no more may open
   pub form-full : (x : ValueHead) → headOf (getD m p 0) ≡ x → T (holds x) → below ≡ none
-      → run (plainFrom ℓ below p (getD m p 0)) c m (p + 1) ≡ RefusedAt 7 p
+      → run (plainFrom Floats ℓ below p (getD m p 0)) c m (p + 1) ≡ RefusedAt 7 p
   unfolding plainBy run
   form-full x h t w = run-plain ℓ below c m p x h
-      ∙ ap (λ (u : Option (Opening One)). run (plainBy ℓ u x p (getD m p 0)) c m (p + 1)) w ∙ go x t
+      ∙ ap (λ (u : Option (Opening One)). run (plainBy Floats ℓ u x p (getD m p 0)) c m (p + 1)) w ∙ go x t
     where
-      go : (x : ValueHead) → T (holds x) → run (plainBy ℓ none x p (getD m p 0)) c m (p + 1) ≡ RefusedAt 7 p
+      go : (x : ValueHead) → T (holds x) → run (plainBy Floats ℓ none x p (getD m p 0)) c m (p + 1) ≡ RefusedAt 7 p
       go leaf t = absurd t
       go (few n) t = refl
       go (few-typed n) t = refl
@@ -254,13 +260,13 @@ module _ (ℓ : Limits) (below : Option (Opening One)) (c : Known) (m : List ℕ
   module _ (f : Opening One) (w : below ≡ some f) where
     -- what is read of the value at p
     abbrev Here : ReadingAt One
-    Here = run (plainFrom ℓ below p (getD m p 0)) c m (p + 1)
+    Here = run (plainFrom Floats ℓ below p (getD m p 0)) c m (p + 1)
 
-    held : {A : Type 0} (X : A → Item) (g : Reader A) (x : ValueHead) → plainBy ℓ (some f) x p (getD m p 0)
+    held : {A : Type 0} (X : A → Item) (g : Reader A) (x : ValueHead) → plainBy Floats ℓ (some f) x p (getD m p 0)
         ≡ changing opened (headed p X g) → headOf (getD m p 0) ≡ x → Here ≡ topped p X (run g (opened c) m (p + 1))
     held X g x e h =
         run-plain ℓ below c m p x h
-        ∙ ap (λ (u : Option (Opening One)). run (plainBy ℓ u x p (getD m p 0)) c m (p + 1)) w
+        ∙ ap (λ (u : Option (Opening One)). run (plainBy Floats ℓ u x p (getD m p 0)) c m (p + 1)) w
         ∙ ap (λ (r : Reader One). run r c m (p + 1)) e
         ∙ run-changing opened (headed p X g) c m (p + 1)
         ∙ run-headed p X g (opened c) m (p + 1)
@@ -358,7 +364,8 @@ module _ (ℓ : Limits) (below : Option (Opening One)) (c : Known) (m : List ℕ
 
     -- with a type
     behind-type : {A : Type 0} (X : A → Item) (k : ℕ → Reader A) (x : ValueHead)
-        → plainBy ℓ (some f) x p (getD m p 0) ≡ changing opened (headed p X (withType ℓ k)) → headOf (getD m p 0) ≡ x
+        → plainBy Floats ℓ (some f) x p (getD m p 0) ≡ changing opened (headed p X (withType ℓ k))
+        → headOf (getD m p 0) ≡ x
         → (o : ReadingAt ℕ) → run (byteAt (typeFrom ℓ)) (opened c) m (p + 1) ≡ o
         → Here ≡ topped p X (on o (λ e t c′. run (k t) c′ m e))
     behind-type X k x e h o y =

@@ -12,6 +12,7 @@ use Rattle.flow.specs.Grammar.{Phrase, Many, finished, another, Ended, ended, P
 use Rattle.scalar.specs.Grammar.{Spelt, Int, Text}
 use Rattle.scalar.specs.Scalars.{shortestScalar, shortestInt, shortestText}
 use Rattle.scalar.specs.ScalarLaws.{Is, int-is, text-is, scalar-is}
+use Rattle.scalar.specs.Scalars.{Floats}
 use Rattle.record.specs.Model.Items.{Value, Leaf, UntypedList, TypedList, UntypedMap, TypedMap, Object, Reference}
 use Rattle.record.specs.Model.Items.{Item, Val, Definition, ClassName, FieldName, TypeName, TypeNumber, Known}
 use Rattle.record.specs.Model.Items.{start, opened, typed, defined, Limits}
@@ -248,7 +249,7 @@ module _ (ℓ : Limits) (openFrom : ℕ) (most : openFrom ≤ 48) where
     module _ (room-is : Room below) where
       -- the value v, after its item
       abbrev Plain : Value → Phrase Known Item
-      Plain v c w is c′ = PlainForm ℓ room G c w (Val v ∷ is) c′
+      Plain v c w is c′ = PlainForm Floats ℓ room G c w (Val v ∷ is) c′
 
       holds : {P R : Phrase Known Item} (body : Put → Put) → ((g : Put) → Sound G g → Sound R (body g))
           → (T room → (c : Known) (w : List ℕ) (is : List Item) (c′ : Known) → R (opened c) w is c′ → P c w is c′)
@@ -349,13 +350,14 @@ module _ (ℓ : Limits) (openFrom : ℕ) (most : openFrom ≤ 48) where
           here c r none h = tt
           here c r (some w) h = ([], refl, h)
 
-      plain-sound : Sound (PlainForm ℓ room G) (putPlain ℓ openFrom below)
+      plain-sound : Sound (PlainForm Floats ℓ room G) (putPlain ℓ openFrom below)
       plain-sound = record { sound = go }
         where
-          go : (c : Known) (r : List Item) → Back (PlainForm ℓ room G c) r (putPlain ℓ openFrom below c r)
+          go : (c : Known) (r : List Item) → Back (PlainForm Floats ℓ room G c) r (putPlain ℓ openFrom below c r)
           go c [] = tt
           go c (Val v ∷ r) =
-              item-back (PlainForm ℓ room G c) (Val v) r (putPlainBy ℓ openFrom below v c r) (plain-by v .sound c r)
+              item-back (PlainForm Floats ℓ room G c) (Val v) r (putPlainBy ℓ openFrom below v c r)
+              (plain-by v .sound c r)
           go c (Definition n ∷ r) = tt
           go c (ClassName cs ∷ r) = tt
           go c (FieldName cs ∷ r) = tt
@@ -451,18 +453,19 @@ module _ (ℓ : Limits) (openFrom : ℕ) (most : openFrom ≤ 48) where
     preceded-by-sound : Sound (Preceded 0x43 (DefinitionForm ℓ) G) (putPrecededBy ℓ g)
     preceded-by-sound = record { sound = λ c r. preceded-sound (length r) .sound c r }
 
-  value-sound : (d : ℕ) → Sound (ValueForm ℓ d) (putValue ℓ openFrom d)
+  value-sound : (d : ℕ) → Sound (ValueForm Floats ℓ d) (putValue ℓ openFrom d)
   unfolding putValue
   value-sound zero = preceded-by-sound (plain-sound none false Nowhere tt)
   value-sound (suc d) =
-      preceded-by-sound (plain-sound (some (putValue ℓ openFrom d)) true (ValueForm ℓ d) (tt, value-sound d))
+      preceded-by-sound (plain-sound (some (putValue ℓ openFrom d)) true (ValueForm Floats ℓ d) (tt, value-sound d))
 
   -- the spelling of a record is a message that the grammar derives for it
-  pub message-back : (r : List Item) (w : List ℕ) → spell ℓ openFrom r ≡ some w → Message ℓ w r
+  pub message-back : (r : List Item) (w : List ℕ) → spell ℓ openFrom r ≡ some w → Message Floats ℓ w r
   unfolding spell
   message-back r w e = go (putValue ℓ openFrom (ℓ .containers) start r) (value-sound (ℓ .containers) .sound start r) e
     where
-      go : (o : Spelling) → Back (ValueForm ℓ (ℓ .containers) start) r o → complete o ≡ some w → Message ℓ w r
+      go : (o : Spelling) → Back (ValueForm Floats ℓ (ℓ .containers) start) r o → complete o ≡ some w
+          → Message Floats ℓ w r
       go (Spelled v [] c) p e =
           let q : v ≡ w = cc in
           record { known = c; derived = rw (p .1 ∙ append-nil (p .0), ← q) (p .2) }

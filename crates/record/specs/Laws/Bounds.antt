@@ -11,6 +11,7 @@ use borrow.Author.Tests.{ltb-false}
 use Rattle.flow.specs.Flow.{pick, Bytes, Entry, Outcome, Done, Fault, One, items}
 use Rattle.flow.specs.Tests.{pick-either}
 use Rattle.flow.specs.Refusals.{Told}
+use Rattle.scalar.specs.Scalars.{DoubleRule, Floats}
 use Rattle.record.specs.Model.Items.{Item, Known, start, Limits}
 use Rattle.record.specs.Model.Reading.{message}
 use Rattle.record.specs.Laws.Extent.{rows-few}
@@ -26,39 +27,39 @@ use Rattle.record.specs.Model.Claims.{ContentMap}
 abbrev Most : ℕ → ReadResult → Type 0
 Most k a = (readNumbers a .count ≤ k) × (readNumbers a .place ≤ k)
 
-module _ (ℓ : Limits) (lent : ℕ) where
-  message-most : (k : ℕ) (m : List ℕ) → Bytes m → length m ≤ k → Most k (answered lent (message ℓ start 0 m))
-  message-most k m b l = go (message ℓ start 0 m) refl (message-within ℓ m)
+module _ (ρ : DoubleRule) (ℓ : Limits) (lent : ℕ) where
+  message-most : (k : ℕ) (m : List ℕ) → Bytes m → length m ≤ k → Most k (answered lent (message ρ ℓ start 0 m))
+  message-most k m b l = go (message ρ ℓ start 0 m) refl (message-within ρ ℓ m)
     where
-      go : (o : Outcome Known Item One) → message ℓ start 0 m ≡ o → Told (Located (length m)) m o
+      go : (o : Outcome Known Item One) → message ρ ℓ start 0 m ≡ o → Told (Located (length m)) m o
           → Most k (answered lent o)
       go (Fault x o) e t = (omega arith, omega (arith, located-within t))
       go (Done n u es c) e t =
           let i : length es ≤ k = omega (
             arith,
-            rows-few ℓ m (items es) (record { bytes = b; accepted = rw e refl }),
+            rows-few ρ ℓ m (items es) (record { bytes = b; accepted = rw e refl }),
             length-map es (λ (e : Entry Item). e .item),
           ) in
           pick-either (Most k) (ltb lent (length es)) (λ q. (i, omega arith))
           (λ q. (omega (arith, rows-length es), omega arith))
 
-  read-most : (k : ℕ) (m : List ℕ) → Bytes m → (length m ≤ ℓ .longest → length m ≤ k) → Most k (read ℓ lent m)
+  read-most : (k : ℕ) (m : List ℕ) → Bytes m → (length m ≤ ℓ .longest → length m ≤ k) → Most k (read ρ ℓ lent m)
   unfolding judged
   read-most k [] b h = (omega arith, omega arith)
   read-most k (x ∷ m) b h = pick-either (λ o. Most k (answered lent o)) (ltb (ℓ .longest) (length (x ∷ m)))
       (λ q. (omega arith, omega arith)) (λ q. message-most k (x ∷ m) b (h (ltb-false (ℓ .longest) (length (x ∷ m)) q)))
 
   module _ (m : List ℕ) (b : Bytes m) where
-    pub read-count : readNumbers (read ℓ lent m) .count ≤ length m
+    pub read-count : readNumbers (read ρ ℓ lent m) .count ≤ length m
     read-count = read-most (length m) m b (λ l. omega arith) .0
 
-    pub read-place : readNumbers (read ℓ lent m) .place ≤ length m
+    pub read-place : readNumbers (read ρ ℓ lent m) .place ≤ length m
     read-place = read-most (length m) m b (λ l. omega arith) .1
 
     -- so the answer fits three small numbers, whatever the message's length
-    pub answer-small : (readNumbers (read ℓ lent m) .count ≤ ℓ .longest)
-        × (readNumbers (read ℓ lent m) .place ≤ ℓ .longest) × (readNumbers (read ℓ lent m) .number ≤ 9)
-    answer-small = let p = read-most (ℓ .longest) m b (λ l. l) in (p .0, p .1, read-numbered ℓ lent m b)
+    pub answer-small : (readNumbers (read ρ ℓ lent m) .count ≤ ℓ .longest)
+        × (readNumbers (read ρ ℓ lent m) .place ≤ ℓ .longest) × (readNumbers (read ρ ℓ lent m) .number ≤ 9)
+    answer-small = let p = read-most (ℓ .longest) m b (λ l. l) in (p .0, p .1, read-numbered ρ ℓ lent m b)
 
 -- ---- the count of the writer's answer
 module _ (ℓ : Limits) (lent : ℕ) where

@@ -18,6 +18,7 @@ use Rattle.scalar.specs.Scalars.{Scalar, isText, scalarFrom, intFrom, textFrom}
 use Rattle.scalar.specs.Grammar.{Int}
 use Rattle.scalar.specs.ScalarLaws.{isScalar, scalar-makes, int-makes, text-makes, scalar-owned, text-first, int-first}
 use Rattle.scalar.specs.ScalarLaws.{scalar-shut}
+use Rattle.scalar.specs.Scalars.{DoubleRule}
 use Rattle.record.specs.Model.Items.{Leaf, UntypedList, TypedList, UntypedMap, TypedMap, Object, Reference, Item}
 use Rattle.record.specs.Model.Items.{Val, Definition, ClassName, FieldName, TypeName, TypeNumber, Known, opened}
 use Rattle.record.specs.Model.Items.{typed, defined, Limits}
@@ -77,7 +78,7 @@ pair-makes f G hf c w is c′ (a-pair {c₁ = c₁} {u = u} {v = v} {is = is₁}
 pair-shut : (f : Opening One) (e : ℕ) → Shut f e → Shut (pair f) e
 pair-shut f e x p c at s = rw (x p c at s) refl
 
-module _ (ℓ : Limits) where
+module _ (ρ : DoubleRule) (ℓ : Limits) where
   -- ---- types
   type-makes : {c c′ : Known} {w : List ℕ} {t : ℕ} {is : List Item} → TypeForm ℓ c w t is c′
       → Leads (typeFrom ℓ) c w t is c′
@@ -135,18 +136,18 @@ module _ (ℓ : Limits) where
           go (some f) q = change-makes opened (headed p x (g f)) (head-makes p x (g f) (h f (q .0) (q .1)))
 
       by-form : (l : ValueHead) (b : ℕ) → headOf b ≡ l → {c c′ : Known} {w : List ℕ} {is : List Item}
-          → ((p : ℕ) → Makes (plainBy ℓ below l p b) c w tt is c′) → (p : ℕ)
-          → Makes (plainFrom ℓ below p b) c w tt is c′
-      by-form l b e h p = rw (plain-is ℓ below p b, e) (h p)
+          → ((p : ℕ) → Makes (plainBy ρ ℓ below l p b) c w tt is c′) → (p : ℕ)
+          → Makes (plainFrom ρ ℓ below p b) c w tt is c′
+      by-form l b e h p = rw (plain-is ρ ℓ below p b, e) (h p)
 
       leaf-makes : (c : Known) (w : List ℕ) (x : Scalar) → First (λ b. (b < 256) × T (isScalar b)) w
-          → Leads {I = Item} scalarFrom c w x [] c → Led (plainFrom ℓ below) c w (Val (Leaf x) ∷ []) c
+          → Leads {I = Item} (scalarFrom ρ) c w x [] c → Led (plainFrom ρ ℓ below) c w (Val (Leaf x) ∷ []) c
       unfolding plainBy
       leaf-makes c [] x f h = h
       leaf-makes c (b ∷ w) x f h =
-          by-form leaf b (leaf-head b (f .0) (f .1)) (λ p. head-makes p (λ x. Val (Leaf x)) (scalarFrom p b) (h p))
+          by-form leaf b (leaf-head b (f .0) (f .1)) (λ p. head-makes p (λ x. Val (Leaf x)) (scalarFrom ρ p b) (h p))
 
-      plain-makes : Makers (plainFrom ℓ below) (PlainForm ℓ room G)
+      plain-makes : Makers (plainFrom ρ ℓ below) (PlainForm ρ ℓ room G)
       unfolding plainBy
       plain-makes c w is c′ (a-leaf {x = x} r) = leaf-makes c w x (scalar-owned r) (scalar-makes Item r c)
       plain-makes c w is c′ (a-few {n = n} r l y) = by-form (few n) (0x78 + n) (few-head n l)
@@ -198,9 +199,9 @@ module _ (ℓ : Limits) where
 
   -- no value begins with a byte that opens none
   plain-shut : (below : Option (Opening One)) (e : ℕ) → headOf e ≡ leaf → T (not (isScalar e))
-      → Shut (plainFrom ℓ below) e
+      → Shut (plainFrom ρ ℓ below) e
   unfolding plainBy
-  plain-shut below e q z p c at s = rw (plain-is ℓ below p e, q, scalar-shut Item e z p c at s) refl
+  plain-shut below e q z p c at s = rw (plain-is ρ ℓ below p e, q, scalar-shut Item ρ e z p c at s) refl
 
   -- ---- definitions
   definition-makes : (c : Known) (w : List ℕ) (is : List Item) (c′ : Known) → DefinitionForm ℓ c w is c′ → (p : ℕ)
@@ -235,19 +236,19 @@ module _ (ℓ : Limits) where
       go zero = ap (λ (g : Reader One). g c at s) (skip (eqb e 0x43) _ _ t refl) ∙ x p c at s
       go (suc k) = ap (λ (g : Reader One). g c at s) (skip (eqb e 0x43) _ _ t refl) ∙ x p c at s
 
-  pub value-shut : (d : ℕ) → Shut (valueFrom ℓ d) 0x5a
+  pub value-shut : (d : ℕ) → Shut (valueFrom ρ ℓ d) 0x5a
   unfolding valueFrom
-  value-shut zero = defs-shut (plainFrom ℓ none) 0x5a tt (plain-shut none 0x5a (singles .of-end) (no-scalar .0))
-  value-shut (suc d) = defs-shut (plainFrom ℓ (some (valueFrom ℓ d))) 0x5a tt
-      (plain-shut (some (valueFrom ℓ d)) 0x5a (singles .of-end) (no-scalar .0))
+  value-shut zero = defs-shut (plainFrom ρ ℓ none) 0x5a tt (plain-shut none 0x5a (singles .of-end) (no-scalar .0))
+  value-shut (suc d) = defs-shut (plainFrom ρ ℓ (some (valueFrom ρ ℓ d))) 0x5a tt
+      (plain-shut (some (valueFrom ρ ℓ d)) 0x5a (singles .of-end) (no-scalar .0))
 
   -- a value of the grammar is read
-  pub value-makes : (d : ℕ) → Makers (valueFrom ℓ d) (ValueForm ℓ d)
+  pub value-makes : (d : ℕ) → Makers (valueFrom ρ ℓ d) (ValueForm ρ ℓ d)
   unfolding valueFrom
-  value-makes zero = precededBy-makes 0x43 (definition ℓ) (plainFrom ℓ none) (DefinitionForm ℓ)
-      (PlainForm ℓ false Nowhere) definition-makes (plain-makes none false Nowhere (λ t. t))
+  value-makes zero = precededBy-makes 0x43 (definition ℓ) (plainFrom ρ ℓ none) (DefinitionForm ℓ)
+      (PlainForm ρ ℓ false Nowhere) definition-makes (plain-makes none false Nowhere (λ t. t))
       (plain-shut none 0x43 (singles .of-definition) (no-scalar .1))
-  value-makes (suc d) = precededBy-makes 0x43 (definition ℓ) (plainFrom ℓ (some (valueFrom ℓ d))) (DefinitionForm ℓ)
-      (PlainForm ℓ true (ValueForm ℓ d)) definition-makes
-      (plain-makes (some (valueFrom ℓ d)) true (ValueForm ℓ d) (value-makes d, value-shut d))
-      (plain-shut (some (valueFrom ℓ d)) 0x43 (singles .of-definition) (no-scalar .1))
+  value-makes (suc d) = precededBy-makes 0x43 (definition ℓ) (plainFrom ρ ℓ (some (valueFrom ρ ℓ d))) (DefinitionForm ℓ)
+      (PlainForm ρ ℓ true (ValueForm ρ ℓ d)) definition-makes
+      (plain-makes (some (valueFrom ρ ℓ d)) true (ValueForm ρ ℓ d) (value-makes d, value-shut d))
+      (plain-shut (some (valueFrom ρ ℓ d)) 0x43 (singles .of-definition) (no-scalar .1))

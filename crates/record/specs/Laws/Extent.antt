@@ -9,11 +9,12 @@ use lib.Seq.{length-take-le}
 use Rattle.flow.specs.Flow.{Bytes, Entry, Done, One, items, byteAt}
 use Rattle.flow.specs.Grammar.{Phrase, Many, finished, another, Ended, ended, Preceded, alone, first}
 use Rattle.flow.specs.Laws.{Parsed, byte-reads, leads-byte}
-use Rattle.scalar.specs.Grammar.{Spelt}
+use Rattle.scalar.specs.Grammar.{SpeltUnder}
 use Rattle.scalar.specs.Scalars as scalars
 use Rattle.scalar.specs.Grammar as scalar-grammar
 use Rattle.scalar.specs.NumberLaws.{number-some}
 use Rattle.scalar.specs.TextLaws.{string-some}
+use Rattle.scalar.specs.Scalars.{DoubleRule}
 use Rattle.record.specs.Model.Items.{Item, FieldName, Known, start, Limits}
 use Rattle.record.specs.Model.Reading.{valueFrom}
 use Rattle.record.specs.Model.Terms.{Reads}
@@ -40,7 +41,7 @@ end-few : (G : Phrase Known Item) → Few G → {n : ℕ} {c c′ : Known} {w : 
     → Ended 0x5a G n c w is c′ → length is ≤ length w
 end-few G h (ended {v = v} r) = omega (arith, length-append v (0x5a ∷ []), many-few G h r)
 
-pub scalar-some : {w : List ℕ} {x : scalars.Scalar} → Spelt w x → 0 < length w
+pub scalar-some : {ρ : DoubleRule} {w : List ℕ} {x : scalars.Scalar} → SpeltUnder ρ w x → 0 < length w
 scalar-some (scalar-grammar.a-number n) = number-some n
 scalar-some (scalar-grammar.a-string x) = string-some x
 
@@ -67,8 +68,8 @@ definition-few ℓ c w is c′ (a-definition {u = u} {v = v} {w = x} l r i b f y
       many-few (NameForm FieldName) (name-few FieldName) y,
     )
 
-module _ (ℓ : Limits) (room : Bool) (G : Phrase Known Item) (h : Few G) where
-  plain-few : Few (PlainForm ℓ room G)
+module _ (ρ : DoubleRule) (ℓ : Limits) (room : Bool) (G : Phrase Known Item) (h : Few G) where
+  plain-few : Few (PlainForm ρ ℓ room G)
   plain-few c w is c′ (a-leaf x) = omega (arith, scalar-some x)
   plain-few c w is c′ (a-few r l y) = omega (arith, many-few G h y)
   plain-few c w is c′ (a-counted {u = u} {v = v} r i l y) = omega (arith, length-append u v, many-few G h y)
@@ -92,35 +93,35 @@ preceded-few ℓ G h (alone {c = c} {c′ = c′} {w = w} {is = is} x) = h c w i
 preceded-few ℓ G h (first {c = c} {c₁ = c₁} {u = u} {v = v} {is = is} {js = js} x r) =
     omega (arith, length-append u v, length-append is js, definition-few ℓ c u is c₁ x, preceded-few ℓ G h r)
 
-value-few : (ℓ : Limits) (d : ℕ) → Few (ValueForm ℓ d)
-value-few ℓ zero c w is c′ x =
-    preceded-few ℓ (PlainForm ℓ false Nowhere) (plain-few ℓ false Nowhere (λ c w is c′ x. absurd x)) x
-value-few ℓ (suc d) c w is c′ x =
-    preceded-few ℓ (PlainForm ℓ true (ValueForm ℓ d)) (plain-few ℓ true (ValueForm ℓ d) (value-few ℓ d)) x
+value-few : (ρ : DoubleRule) (ℓ : Limits) (d : ℕ) → Few (ValueForm ρ ℓ d)
+value-few ρ ℓ zero c w is c′ x =
+    preceded-few ℓ (PlainForm ρ ℓ false Nowhere) (plain-few ρ ℓ false Nowhere (λ c w is c′ x. absurd x)) x
+value-few ρ ℓ (suc d) c w is c′ x =
+    preceded-few ℓ (PlainForm ρ ℓ true (ValueForm ρ ℓ d)) (plain-few ρ ℓ true (ValueForm ρ ℓ d) (value-few ρ ℓ d)) x
 
 -- rows are at most as many as bytes
-pub rows-few : (ℓ : Limits) (m : List ℕ) (r : List Item) → Reads ℓ m r → length r ≤ length m
-rows-few ℓ m r x = let y = reads-derived ℓ m r x in value-few ℓ (ℓ .containers) start m r (y .known) (y .derived)
+pub rows-few : (ρ : DoubleRule) (ℓ : Limits) (m : List ℕ) (r : List Item) → Reads ρ ℓ m r → length r ≤ length m
+rows-few ρ ℓ m r x = let y = reads-derived ρ ℓ m r x in value-few ρ ℓ (ℓ .containers) start m r (y .known) (y .derived)
 
-module _ (ℓ : Limits) (d : ℕ) where
+module _ (ρ : DoubleRule) (ℓ : Limits) (d : ℕ) where
   -- ---- what is read lies within the message; its items and what is known do not depend on what follows, nor on the
   -- place
   module _ (c : Known) (at : ℕ) (s : List ℕ) (b : Bytes s) (n : ℕ) (u : One) (es : List (Entry Item)) (c′ : Known)
-      (e : byteAt (valueFrom ℓ d) c at s ≡ Done n u es c′) where
-    value-form : (n ≤ length s) × ValueForm ℓ d c (take n s) (items es) c′
-    value-form = subst (Parsed (λ w u is c′. ValueForm ℓ d c w is c′) s) e
-        (byte-reads (valueFrom ℓ d) (ValueForm ℓ d) (value-reads ℓ d) c at s b)
+      (e : byteAt (valueFrom ρ ℓ d) c at s ≡ Done n u es c′) where
+    value-form : (n ≤ length s) × ValueForm ρ ℓ d c (take n s) (items es) c′
+    value-form = subst (Parsed (λ w u is c′. ValueForm ρ ℓ d c w is c′) s) e
+        (byte-reads (valueFrom ρ ℓ d) (ValueForm ρ ℓ d) (value-reads ρ ℓ d) c at s b)
 
     pub value-within : n ≤ length s
     value-within = value-form .0
 
     pub value-local : (p : ℕ) (tail : List ℕ) → (fs : List (Entry Item))
-        × (byteAt (valueFrom ℓ d) c p (take n s ++ tail) ≡ Done n tt fs c′) × (items fs ≡ items es)
+        × (byteAt (valueFrom ρ ℓ d) c p (take n s ++ tail) ≡ Done n tt fs c′) × (items fs ≡ items es)
     value-local p tail =
-        let q = leads-byte (valueFrom ℓ d) (take n s) (value-makes ℓ d c (take n s) (items es) c′
+        let q = leads-byte (valueFrom ρ ℓ d) (take n s) (value-makes ρ ℓ d c (take n s) (items es) c′
         (value-form .1)) .makes p tail in (
           q .0,
-          subst (λ (k : ℕ). byteAt (valueFrom ℓ d) c p (take n s ++ tail) ≡ Done k tt (q .0) c′)
+          subst (λ (k : ℕ). byteAt (valueFrom ρ ℓ d) c p (take n s ++ tail) ≡ Done k tt (q .0) c′)
               (length-take-le n s (value-form .0)) (q .1),
           q .2,
         )

@@ -9,8 +9,8 @@ use lib.ListN.{length, take, drop, length-append, length-map}
 use lib.Seq.{take-at, drop-at}
 use Rattle.flow.specs.Flow.{Entry, items}
 use Rattle.flow.specs.Laws.{items-append}
-use Rattle.scalar.specs.Grammar.{Spelt, Text}
-use Rattle.scalar.specs.Scalars.{total}
+use Rattle.scalar.specs.Grammar.{SpeltUnder, Text}
+use Rattle.scalar.specs.Scalars.{DoubleRule, Scalar, total}
 use Rattle.record.specs.Model.Items.{Leaf, UntypedList, TypedList, UntypedMap, TypedMap, Object, Reference, Item}
 use Rattle.record.specs.Model.Items.{Val}
 use Rattle.record.specs.Model.Items.{Definition, ClassName, FieldName, TypeName, TypeNumber}
@@ -29,9 +29,13 @@ pub data Forest : ℕ → List Item → Type 0 where
 abbrev pub Stands : (List ℕ → Type 0) → List ℕ → Type 0
 Stands P s = (w : List ℕ) × (tail : List ℕ) × (s ≡ w ++ tail) × P w
 
+-- the bytes w spell a scalar, under one of the rules of 5f
+abbrev pub SpeltByEither : List ℕ → Scalar → Type 0
+SpeltByEither w x = (ρ : DoubleRule) × SpeltUnder ρ w x
+
 -- the bytes s begin with a spelling of the item's content, if it has any
 abbrev pub Opens : List ℕ → Item → Type 0
-Opens s (Val (Leaf x)) = Stands (λ w. Spelt w x) s
+Opens s (Val (Leaf x)) = Stands (λ w. SpeltByEither w x) s
 Opens s (Val (UntypedList n)) = Unit {0}
 Opens s (Val (TypedList n t)) = Unit {0}
 Opens s (Val (UntypedMap n)) = Unit {0}

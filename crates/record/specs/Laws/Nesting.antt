@@ -14,8 +14,9 @@ use Rattle.flow.specs.Flow.{Bytes, Entry, Outcome, Done, Fault, One, items, the
 use Rattle.flow.specs.Flow.{mapped, headed, bind, many, until, untilEnd, preceded, precededBy}
 use Rattle.flow.specs.Laws.{Parsed, Quiet, quiet-is}
 use Rattle.scalar.specs.Scalars.{isText, scalarFrom, intFrom, textFrom}
-use Rattle.scalar.specs.Grammar.{Spelt, Int, Text}
+use Rattle.scalar.specs.Grammar.{SpeltUnder, Int, Text}
 use Rattle.scalar.specs.ScalarLaws.{scalar-scans, int-scans, text-scans}
+use Rattle.scalar.specs.Scalars.{DoubleRule}
 use Rattle.record.specs.Model.Items.{Leaf, UntypedList, TypedList, UntypedMap, TypedMap, Object, Reference, Value}
 use Rattle.record.specs.Model.Items.{Item, Val, Definition, ClassName, FieldName, TypeName, TypeNumber, Known}
 use Rattle.record.specs.Model.Items.{start}
@@ -199,9 +200,12 @@ module _ (m : List ℕ) where
             (no-entry es (x .1), (b ∷ take n s, drop n s, tail-is n, x .0))
         go c (Fault x o) q = tt
 
-    leaf-yields : AfterByte Tree (λ p b. headed p (λ x. Val (Leaf x)) (scalarFrom p b))
-    leaf-yields p b e = head-yields p (λ x. Val (Leaf x)) (scan-yields Spelt scalarFrom (scalar-scans Item) p b e)
-        (λ x es q. rw (q .0) (entry-over (e .inside) (q .1) refl no-entries))
+    leaf-yields : (ρ : DoubleRule) → AfterByte Tree (λ p b. headed p (λ x. Val (Leaf x)) (scalarFrom ρ p b))
+    leaf-yields ρ p b e = head-yields p (λ x. Val (Leaf x))
+        (scan-yields (SpeltUnder ρ) (scalarFrom ρ) (scalar-scans Item ρ) p b e)
+        (λ x es q.
+        let s = q .1 in
+        rw (q .0) (entry-over {i = Val (Leaf x)} (e .inside) (s .0, s .1, s .2, (ρ, s .3)) refl no-entries))
 
     name-yields : (x : List ℕ → Item)
         → ((p : ℕ) (cs : List ℕ) → p < length m → Stands (λ w. Text w cs) (drop p m)
@@ -250,7 +254,7 @@ module _ (m : List ℕ) where
         cond-yields (ltb j (length (c .classes)))
         (map-yields (λ u. n) (many-yields trees-grow h n k)) (fail-yields 6 p))
 
-    module _ (ℓ : Limits) where
+    module _ (ρ : DoubleRule) (ℓ : Limits) where
       type-yields : Anywhere Tree (byteAt (typeFrom ℓ))
       unfolding typeFrom
       type-yields = byte-yields (λ p b e. cond-yields (isText b)
@@ -286,9 +290,9 @@ module _ (m : List ℕ) where
             go none v = fail-yields 7 p
             go (some f) v = change-yields (over-yields (λ a. Val (x a)) e o (λ a. refl) (h f v k))
 
-        form-yields : (l : ValueHead) → AfterByte Tree (plainBy ℓ below l)
+        form-yields : (l : ValueHead) → AfterByte Tree (plainBy ρ ℓ below l)
         unfolding plainBy
-        form-yields leaf p b e = leaf-yields p b e
+        form-yields leaf p b e = leaf-yields ρ p b e
         form-yields (few n) p b e =
             container-yields (λ u. UntypedList n) e (λ u. tt) (λ f h. many-yields trees-grow h n)
         form-yields (few-typed n) p b e = container-yields (λ t. TypedList n t) e (λ t. tt)
@@ -313,8 +317,8 @@ module _ (m : List ℕ) where
             (int-then (λ o j k. ask-yields (λ c.
             cond-yields (ltb j (c .references)) (give-yields j no-entries) (fail-yields 6 p))) (p + 1))
 
-        plain-yields : AfterByte Tree (plainFrom ℓ below)
-        plain-yields p b e = rw (plain-is ℓ below p b) (form-yields (headOf b) p b e)
+        plain-yields : AfterByte Tree (plainFrom ρ ℓ below)
+        plain-yields p b e = rw (plain-is ρ ℓ below p b) (form-yields (headOf b) p b e)
 
       -- ---- a definition: with one before it, a tree is still one
       abbrev Ahead : Fact One
@@ -352,10 +356,10 @@ module _ (m : List ℕ) where
       plain-after : {f : Opening One} → AfterByte Tree f → AfterByte Tree (precededBy 0x43 (definition ℓ) f)
       plain-after h p b e = record { yields = preceded-yields h (length (drop (p + 1) m)) p b e .yields }
 
-      value-yields : (d : ℕ) → AfterByte Tree (valueFrom ℓ d)
+      value-yields : (d : ℕ) → AfterByte Tree (valueFrom ρ ℓ d)
       unfolding valueFrom
       value-yields zero p b e = plain-after (plain-yields none tt) p b e
-      value-yields (suc d) p b e = plain-after (plain-yields (some (valueFrom ℓ d)) (value-yields d)) p b e
+      value-yields (suc d) p b e = plain-after (plain-yields (some (valueFrom ρ ℓ d)) (value-yields d)) p b e
 
       end-of-message : Anywhere (λ u es. es ≡ []) ending
       end-of-message k = record { yields = λ c. go c (drop k m) }
@@ -364,12 +368,12 @@ module _ (m : List ℕ) where
           go c [] = refl
           go c (b ∷ s) = tt
 
-      message-yields : Yields 0 Tree (message ℓ)
+      message-yields : Yields 0 Tree (message ρ ℓ)
       unfolding message
       message-yields = bind-yields (byte-yields (value-yields (ℓ .containers)) 0) (λ u. end-of-message)
           (λ u v es fs x y. rw (y, append-nil) x)
 
 -- the entries of a message that is accepted
-pub message-forest : (ℓ : Limits) (m : List ℕ) → Bytes m → (n : ℕ) (es : List (Entry Item)) (c : Known)
-    → message ℓ start 0 m ≡ Done n tt es c → EntryForest m 1 es
-message-forest ℓ m bytes n es c e = subst (OfOutcome (Tree m)) e (message-yields m bytes ℓ .yields start)
+pub message-forest : (ρ : DoubleRule) (ℓ : Limits) (m : List ℕ) → Bytes m → (n : ℕ) (es : List (Entry Item)) (c : Known)
+    → message ρ ℓ start 0 m ≡ Done n tt es c → EntryForest m 1 es
+message-forest ρ ℓ m bytes n es c e = subst (OfOutcome (Tree m)) e (message-yields m bytes ρ ℓ .yields start)

@@ -8,6 +8,7 @@ use native.Mathlib.Omega.{arith}
 use lib.ListN.{length, length-append}
 use Rattle.flow.specs.Flow.{Bytes}
 use Rattle.flow.specs.Grammar.{Phrase, Many, finished, another, Ended, ended, Preceded, alone, first}
+use Rattle.scalar.specs.Scalars.{DoubleRule}
 use Rattle.record.specs.Model.Items.{Item, FieldName, Known, start, Limits}
 use Rattle.record.specs.Model.Grammar.{NameForm, a-name, TypeForm, type-name, type-number, PairForm, a-pair}
 use Rattle.record.specs.Model.Grammar.{PlainForm, a-leaf, a-few-typed, a-counted-typed, an-open-typed, a-few}
@@ -81,8 +82,8 @@ definition-adds ℓ c w is c′ (a-definition {n = n} l r i b f y) =
     let p = names-add y in
     (omega arith, ap (λ (z : List ℕ). z ++ (n ∷ [])) (p .0) ∙ ap (λ (z : List ℕ). c .classes ++ (n ∷ z)) (sym (p .1)))
 
-module _ (ℓ : Limits) (room : Bool) (G : Phrase Known Item) (h : Adds G) where
-  plain-adds : Adds (PlainForm ℓ room G)
+module _ (ρ : DoubleRule) (ℓ : Limits) (room : Bool) (G : Phrase Known Item) (h : Adds G) where
+  plain-adds : Adds (PlainForm ρ ℓ room G)
   plain-adds c w is c′ (a-leaf x) = (omega arith, sym (append-nil (c .classes)))
   plain-adds c w is c′ (a-few r l y) = (omega arith, many-adds G h y)
   plain-adds c w is c′ (a-counted r i l y) = (omega arith, many-adds G h y)
@@ -107,16 +108,17 @@ preceded-adds ℓ G h (first {c = c} {c₁ = c₁} {c₂ = c₂} {u = u} {is = i
     let p = definition-adds ℓ c u is c₁ x in
     (omega (arith, length-append is js, p .0), seam c c₁ c₂ is js (p .1) (preceded-adds ℓ G h r .1))
 
-value-adds : (ℓ : Limits) (d : ℕ) → Adds (ValueForm ℓ d)
-value-adds ℓ zero c w is c′ x =
-    preceded-adds ℓ (PlainForm ℓ false Nowhere) (plain-adds ℓ false Nowhere (λ c w is c′ x. absurd x)) x
-value-adds ℓ (suc d) c w is c′ x =
-    preceded-adds ℓ (PlainForm ℓ true (ValueForm ℓ d)) (plain-adds ℓ true (ValueForm ℓ d) (value-adds ℓ d)) x
+value-adds : (ρ : DoubleRule) (ℓ : Limits) (d : ℕ) → Adds (ValueForm ρ ℓ d)
+value-adds ρ ℓ zero c w is c′ x =
+    preceded-adds ℓ (PlainForm ρ ℓ false Nowhere) (plain-adds ρ ℓ false Nowhere (λ c w is c′ x. absurd x)) x
+value-adds ρ ℓ (suc d) c w is c′ x =
+    preceded-adds ℓ (PlainForm ρ ℓ true (ValueForm ρ ℓ d)) (plain-adds ρ ℓ true (ValueForm ρ ℓ d) (value-adds ρ ℓ d)) x
 
-pub accepted-adds : (ℓ : Limits) (m : List ℕ) → Bytes m → (r : List Item) (x : Accepts ℓ m r) → (0 < length r)
+pub accepted-adds : (ρ : DoubleRule) (ℓ : Limits) (m : List ℕ) → Bytes m → (r : List Item) (x : Accepts ρ ℓ m r)
+    → (0 < length r)
     × (x .known .classes ≡ definitions r)
-accepted-adds ℓ m b r x =
-    let p = judged-done ℓ m (length m) (x .entries) (x .known) (x .done) in
-    let v = message-form ℓ m b (length m) tt (x .entries) (x .known) (p .1) in
+accepted-adds ρ ℓ m b r x =
+    let p = judged-done ρ ℓ m (length m) (x .entries) (x .known) (x .done) in
+    let v = message-form ρ ℓ m b (length m) tt (x .entries) (x .known) (p .1) in
     subst (λ (z : List Item). (0 < length z) × (x .known .classes ≡ definitions z)) (x .reads-as)
-    (value-adds ℓ (ℓ .containers) start m _ (x .known) v)
+    (value-adds ρ ℓ (ℓ .containers) start m _ (x .known) v)

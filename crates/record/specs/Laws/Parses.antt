@@ -15,8 +15,9 @@ use Rattle.flow.specs.Laws.{Goal, Parsed, gives, weaker, takes, Behind, binds, 
 use Rattle.flow.specs.Laws.{byte-reads, quietly, binds-quiet, precededBy-reads}
 use Rattle.flow.specs.Laws as Laws
 use Rattle.scalar.specs.Scalars.{isText, scalarFrom, intFrom, textFrom}
-use Rattle.scalar.specs.Grammar.{Spelt, Int, Text}
+use Rattle.scalar.specs.Grammar.{SpeltUnder, Int, Text}
 use Rattle.scalar.specs.ScalarLaws.{scalar-scans, int-scans, text-scans}
+use Rattle.scalar.specs.Scalars.{DoubleRule}
 use Rattle.record.specs.Model.Items.{Leaf, UntypedList, TypedList, UntypedMap, TypedMap, Object, Reference, Item}
 use Rattle.record.specs.Model.Items.{Val, Definition, ClassName, FieldName, TypeName, TypeNumber, Known, opened}
 use Rattle.record.specs.Model.Items.{typed, defined, Limits}
@@ -94,7 +95,7 @@ typedMap x = Val (TypedMap (x .1) (x .0))
 abbrev objectOf : Two → Item
 objectOf x = Val (Object (x .0) (x .1))
 
-module _ (ℓ : Limits) where
+module _ (ρ : DoubleRule) (ℓ : Limits) where
   -- ---- types
   types : (c : Known) (at : ℕ) (s : List ℕ) → Bytes s → Parsed (λ w t is c′. TypeForm ℓ c w t is c′) s
       (byteAt (typeFrom ℓ) c at s)
@@ -134,11 +135,11 @@ module _ (ℓ : Limits) where
 
     module _ (room-is : Room below room) where
       abbrev Is : Known → ℕ → Goal Known Item One
-      Is c b w u is c′ = PlainForm ℓ room G c (b ∷ w) is c′
+      Is c b w u is c′ = PlainForm ρ ℓ room G c (b ∷ w) is c′
 
       -- the value after the byte e, with the item x of the result
       abbrev At : {A : Type 0} → Known → ℕ → (A → Item) → Goal Known Item A
-      At c e x w a is c′ = PlainForm ℓ room G c (e ∷ w) (x a ∷ is) c′
+      At c e x w a is c′ = PlainForm ρ ℓ room G c (e ∷ w) (x a ∷ is) c′
 
       -- a container whose code b is e
       held-in : {A : Type 0} (c : Known) (b e p : ℕ) → b ≡ e → (x : A → Item) (g : Opening One → Reader A) (at : ℕ)
@@ -153,11 +154,12 @@ module _ (ℓ : Limits) where
           go (some f) r = heads (Is c e) p x s (g f (opened c) at s) (k f (r .0) (r .1))
 
       plain-by : (l : ValueHead) (b : ℕ) → HeadFact b l → (p : ℕ) (c : Known) (at : ℕ) (s : List ℕ) → Bytes s
-          → Parsed (Is c b) s (plainBy ℓ below l p b c at s)
+          → Parsed (Is c b) s (plainBy ρ ℓ below l p b c at s)
       unfolding plainBy
-      plain-by leaf b q p c at s l = heads (Is c b) p (λ x. Val (Leaf x)) s (scalarFrom p b c at s)
-          (quietly (λ w x. Spelt (b ∷ w) x) (At c b (λ x. Val (Leaf x))) c s (λ w x r. a-leaf r) (scalarFrom p b c at s)
-          (scalar-scans Item p b c at s l))
+      plain-by leaf b q p c at s l = heads (Is c b) p (λ x. Val (Leaf x)) s (scalarFrom ρ p b c at s)
+          (quietly (λ w x. SpeltUnder ρ (b ∷ w) x) (At c b (λ x. Val (Leaf x))) c s (λ w x r. a-leaf r)
+          (scalarFrom ρ p b c at s)
+          (scalar-scans Item ρ p b c at s l))
       plain-by (few n) b q p c at s l = held-in c b (0x78 + n) p (q .0) (λ u. Val (UntypedList n)) (λ f. many f n) at s
           (λ f r hf. weaker (λ w u is c′. Many G n (opened c) w is c′) (At c (0x78 + n) (λ u. Val (UntypedList n))) s
           (λ w u is c′ y. a-few r (q .1) y) (many f n (opened c) at s)
@@ -219,8 +221,8 @@ module _ (ℓ : Limits) where
           (λ y. gives (Behind (At c 0x51 (λ k. Val (Reference k))) u []) k c at₁ t
           (rw (append-nil u) (a-reference x (ltb→lt k (c .references) y)))) (λ y. tt))))
 
-      plain-reads : Laws.Reads (plainFrom ℓ below) (PlainForm ℓ room G)
-      plain-reads p b m c at s l = rw (plain-is ℓ below p b) (plain-by (headOf b) b (head-fact b) p c at s l)
+      plain-reads : Laws.Reads (plainFrom ρ ℓ below) (PlainForm ρ ℓ room G)
+      plain-reads p b m c at s l = rw (plain-is ρ ℓ below p b) (plain-by (headOf b) b (head-fact b) p c at s l)
 
   -- ---- definitions
   definition-reads : (p : ℕ) (c : Known) (at : ℕ) (s : List ℕ) → Bytes s
@@ -256,10 +258,10 @@ module _ (ℓ : Limits) where
 
   -- ---- values
   -- what is read of a value is a value of the grammar
-  pub value-reads : (d : ℕ) → Laws.Reads (valueFrom ℓ d) (ValueForm ℓ d)
+  pub value-reads : (d : ℕ) → Laws.Reads (valueFrom ρ ℓ d) (ValueForm ρ ℓ d)
   unfolding valueFrom
-  value-reads zero = precededBy-reads 0x43 (definition ℓ) (plainFrom ℓ none) (DefinitionForm ℓ)
-      (PlainForm ℓ false Nowhere) definition-reads (plain-reads none false Nowhere tt)
-  value-reads (suc d) = precededBy-reads 0x43 (definition ℓ) (plainFrom ℓ (some (valueFrom ℓ d))) (DefinitionForm ℓ)
-      (PlainForm ℓ true (ValueForm ℓ d)) definition-reads
-      (plain-reads (some (valueFrom ℓ d)) true (ValueForm ℓ d) (tt, value-reads d))
+  value-reads zero = precededBy-reads 0x43 (definition ℓ) (plainFrom ρ ℓ none) (DefinitionForm ℓ)
+      (PlainForm ρ ℓ false Nowhere) definition-reads (plain-reads none false Nowhere tt)
+  value-reads (suc d) = precededBy-reads 0x43 (definition ℓ) (plainFrom ρ ℓ (some (valueFrom ρ ℓ d))) (DefinitionForm ℓ)
+      (PlainForm ρ ℓ true (ValueForm ρ ℓ d)) definition-reads
+      (plain-reads (some (valueFrom ρ ℓ d)) true (ValueForm ρ ℓ d) (tt, value-reads d))

@@ -5,6 +5,7 @@ use mathlib.Core.List.{List, [], _∷_, _++_}
 use Prim.Native.Nat.{ℕ, _<_}
 use lib.ListN.{length, drop}
 use Rattle.flow.specs.Flow.{Bytes, Entry, Done}
+use Rattle.scalar.specs.Scalars.{DoubleRule}
 use Rattle.record.specs.Model.Items.{Item, Known, start, Limits}
 use Rattle.record.specs.Model.Reading.{message}
 use Rattle.record.specs.Laws.Forest.{Opens, EntryForest, no-entries, entries-beside, entry-over, entries-behind}
@@ -27,6 +28,6 @@ module _ (m : List ℕ) where
   forest-open (entries-behind {es = es} {fs = fs} l x e y) = (l, tt, append-open es fs (forest-open x) (forest-open y))
 
 -- every item's place lies in the message and opens its content
-pub places : (ℓ : Limits) (m : List ℕ) → Bytes m → (n : ℕ) (es : List (Entry Item)) (c : Known)
-    → message ℓ start 0 m ≡ Done n tt es c → EntriesOpen m es
-places ℓ m bytes n es c e = forest-open m (message-forest ℓ m bytes n es c e)
+pub places : (ρ : DoubleRule) (ℓ : Limits) (m : List ℕ) → Bytes m → (n : ℕ) (es : List (Entry Item)) (c : Known)
+    → message ρ ℓ start 0 m ≡ Done n tt es c → EntriesOpen m es
+places ρ ℓ m bytes n es c e = forest-open m (message-forest ρ ℓ m bytes n es c e)

@@ -14,6 +14,7 @@ use Rattle.flow.specs.Refusals.{Told, give-tells, fail-tells, asking-tells, cha
 use Rattle.flow.specs.Refusals.{headed-tells, bind-tells, byte-tells, many-tells, end-tells, precededBy-tells}
 use Rattle.scalar.specs.Scalars.{isText}
 use Rattle.scalar.specs.Refusals as scalar
+use Rattle.scalar.specs.Scalars.{DoubleRule}
 use Rattle.record.specs.Model.Items.{Leaf, UntypedList, TypedList, UntypedMap, Reference, Object, Item, Val}
 use Rattle.record.specs.Model.Items.{Definition, ClassName, FieldName, TypeName, TypeNumber, Known, start}
 use Rattle.record.specs.Model.Items.{opened, typed, defined, Limits}
@@ -114,7 +115,7 @@ module _ (end bound : ℕ) where
   container-part none h p m k = ceiling-part p m
   container-part (some f) h p m k = changing-tells opened (k f h)
 
-  module _ (ℓ : Limits) where
+  module _ (ρ : DoubleRule) (ℓ : Limits) where
     type-name-part : TellsFrom (typeName ℓ)
     type-name-part p b m = asking-tells (λ c. cond-tells (ltb (c .types) (ℓ .types))
         (mapped-tells (λ u. c .types) (changing-tells typed (name-part TypeName p b m))) (ceiling-part p m))
@@ -125,9 +126,9 @@ module _ (end bound : ℕ) where
         (bind-tells (scalar.int-tells at-end wrong ill p b m) (number-part p m)))) h
 
     -- ---- values
-    plain-part : (below : Option (Opening One)) → TellsBelow below → (x : ValueHead) → TellsFrom (plainBy ℓ below x)
+    plain-part : (below : Option (Opening One)) → TellsBelow below → (x : ValueHead) → TellsFrom (plainBy ρ ℓ below x)
     unfolding plainBy
-    plain-part below h leaf p b m = headed-tells p (λ x. Val (Leaf x)) (scalar.scalar-tells at-end wrong ill p b m)
+    plain-part below h leaf p b m = headed-tells p (λ x. Val (Leaf x)) (scalar.scalar-tells at-end wrong ill ρ p b m)
     plain-part below h (few n) p b m = container-part below h p m (λ f k.
         headed-tells p (λ u. Val (UntypedList n)) (many-tells at-end k n))
     plain-part below h (few-typed n) p b m = container-part below h p m (λ f k.
@@ -160,27 +161,31 @@ module _ (end bound : ℕ) where
         (bind-tells (many-tells at-end (name-part FieldName) n) (λ u. changing-tells (defined n) (give-tells n)))))))
         (ceiling-part p m))
 
-    from-part : (below : Option (Opening One)) → TellsBelow below → TellsFrom (plainFrom ℓ below)
-    from-part below h p b = rw (plain-is ℓ below p b) (plain-part below h (headOf b) p b)
+    from-part : (below : Option (Opening One)) → TellsBelow below → TellsFrom (plainFrom ρ ℓ below)
+    from-part below h p b = rw (plain-is ρ ℓ below p b) (plain-part below h (headOf b) p b)
 
-    value-part : (d : ℕ) → TellsFrom (valueFrom ℓ d)
+    value-part : (d : ℕ) → TellsFrom (valueFrom ρ ℓ d)
     unfolding valueFrom
     value-part zero = precededBy-tells at-end 0x43 definition-part (from-part none tt)
-    value-part (suc d) = precededBy-tells at-end 0x43 definition-part (from-part (some (valueFrom ℓ d)) (value-part d))
+    value-part (suc d) = precededBy-tells at-end 0x43 definition-part
+        (from-part (some (valueFrom ρ ℓ d)) (value-part d))
 
-    message-tells : Tells (message ℓ)
+    message-tells : Tells (message ρ ℓ)
     unfolding message
     message-tells = bind-tells (byte-tells at-end (value-part (ℓ .containers))) (λ u. ending-part)
 
 -- how far a message that is neither empty nor too long is read, or where it is refused
-pub message-within : (ℓ : Limits) (m : List ℕ) → Told (Located (length m)) m (message ℓ start 0 m)
-message-within ℓ m = message-tells (length m) (length m) ℓ .tells start 0 m (omega arith) (omega arith)
+pub message-within : (ρ : DoubleRule) (ℓ : Limits) (m : List ℕ) → Told (Located (length m)) m (message ρ ℓ start 0 m)
+message-within ρ ℓ m = message-tells (length m) (length m) ρ ℓ .tells start 0 m (omega arith) (omega arith)
 
-pub message-located : (ℓ : Limits) (x o : ℕ) (m : List ℕ) → message ℓ start 0 m ≡ Fault x o → Located (length m) x o
-message-located ℓ x o m e = subst (Told (Located (length m)) m) e (message-within ℓ m)
+pub message-located : (ρ : DoubleRule) (ℓ : Limits) (x o : ℕ) (m : List ℕ) → message ρ ℓ start 0 m ≡ Fault x o
+    → Located (length m) x o
+message-located ρ ℓ x o m e = subst (Told (Located (length m)) m) e (message-within ρ ℓ m)
 
-pub message-numbered : (ℓ : Limits) (x o : ℕ) (m : List ℕ) → message ℓ start 0 m ≡ Fault x o → Numbered x
-message-numbered ℓ x o m e = located-numbered (message-located ℓ x o m e)
+pub message-numbered : (ρ : DoubleRule) (ℓ : Limits) (x o : ℕ) (m : List ℕ) → message ρ ℓ start 0 m ≡ Fault x o
+    → Numbered x
+message-numbered ρ ℓ x o m e = located-numbered (message-located ρ ℓ x o m e)
 
-pub message-cut : (ℓ : Limits) (o : ℕ) (m : List ℕ) → message ℓ start 0 m ≡ Fault cut o → o ≡ length m
-message-cut ℓ o m e = located-cut refl (message-located ℓ cut o m e)
+pub message-cut : (ρ : DoubleRule) (ℓ : Limits) (o : ℕ) (m : List ℕ) → message ρ ℓ start 0 m ≡ Fault cut o
+    → o ≡ length m
+message-cut ρ ℓ o m e = located-cut refl (message-located ρ ℓ cut o m e)

@@ -13,6 +13,7 @@ use Rattle.flow.specs.Grammar.{Phrase, Many, finished, another, Ended, ended, P
 use Rattle.scalar.specs.Grammar.{Int, Text}
 use Rattle.scalar.specs.Scalars.{shortestScalar, shortestInt, shortestText}
 use Rattle.scalar.specs.ScalarLaws.{scalar-short, int-short, int-some, small-count, text-short}
+use Rattle.scalar.specs.Scalars.{Floats}
 use Rattle.record.specs.Model.Items.{Value, UntypedList, TypedList, UntypedMap, TypedMap, Object, Reference, Item}
 use Rattle.record.specs.Model.Items.{Val, Definition, ClassName, FieldName, TypeName, TypeNumber, Known, opened}
 use Rattle.record.specs.Model.Items.{typed, defined, Limits}
@@ -242,7 +243,7 @@ module _ (ℓ : Limits) (openFrom : ℕ) (most : openFrom ≤ 48) where
                 (bytes-spell (codeThen 0x51 (shortestInt k)) bytes) .spells;
           })
 
-      plain-spells : {c c′ : Known} {w : List ℕ} {is : List Item} → PlainForm ℓ room G c w is c′
+      plain-spells : {c c′ : Known} {w : List ℕ} {is : List Item} → PlainForm Floats ℓ room G c w is c′
           → Spells (putPlain ℓ openFrom below) c is (length w) c′
       unfolding putPlainBy
       plain-spells (a-leaf {x = x} y) = val (bytes-spell (shortestScalar x) (scalar-short y))
@@ -352,19 +353,19 @@ module _ (ℓ : Limits) (openFrom : ℕ) (most : openFrom ≤ 48) where
     }
 
   -- ---- values, and messages
-  value-spells : (d : ℕ) → Covers (ValueForm ℓ d) (putValue ℓ openFrom d)
+  value-spells : (d : ℕ) → Covers (ValueForm Floats ℓ d) (putValue ℓ openFrom d)
   unfolding putValue
   value-spells zero = record {
-    covers = by-spells none (PlainForm ℓ false Nowhere)
+    covers = by-spells none (PlainForm Floats ℓ false Nowhere)
         (record { covers = plain-spells none false Nowhere (λ t. t) });
   }
   value-spells (suc d) = record {
-    covers = by-spells (some (putValue ℓ openFrom d)) (PlainForm ℓ true (ValueForm ℓ d))
-        (record { covers = plain-spells (some (putValue ℓ openFrom d)) true (ValueForm ℓ d) (value-spells d) });
+    covers = by-spells (some (putValue ℓ openFrom d)) (PlainForm Floats ℓ true (ValueForm Floats ℓ d))
+        (record { covers = plain-spells (some (putValue ℓ openFrom d)) true (ValueForm Floats ℓ d) (value-spells d) });
   }
 
   -- a record that the grammar derives has a spelling, of no more bytes
-  pub message-short : (m : List ℕ) (r : List Item) → Message ℓ m r → (w : List ℕ) × (spell ℓ openFrom r ≡ some w)
+  pub message-short : (m : List ℕ) (r : List Item) → Message Floats ℓ m r → (w : List ℕ) × (spell ℓ openFrom r ≡ some w)
       × (length w ≤ length m)
   unfolding spell
   message-short m r x = let p = value-spells (ℓ .containers) .covers (x .derived) .spells [] in

@@ -7,6 +7,7 @@ use native.Mathlib.Omega.{arith}
 use lib.ListN.{length, length-append, length-map}
 use Rattle.flow.specs.Flow.{Bytes, Entry, Done, items}
 use Rattle.flow.specs.Laws.{items-append}
+use Rattle.scalar.specs.Scalars.{DoubleRule}
 use Rattle.record.specs.Model.Items.{Item, Known, start, Limits}
 use Rattle.record.specs.Model.Reading.{message}
 use Rattle.record.specs.Model.Rows.{Row, rowsFrom, rows, span, ends}
@@ -63,12 +64,12 @@ fifths-from k (e ∷ es) h =
     ap₂ (λ (n : ℕ) (l : List ℕ). n ∷ l) (s ∙ ap (λ (n : ℕ). k + n) r) (fifths-from (suc k) es (h .1))
 
 -- ---- the entries of a message
-module _ (ℓ : Limits) (m : List ℕ) (bytes : Bytes m) (n : ℕ) (es : List (Entry Item)) (c : Known)
-    (e : message ℓ start 0 m ≡ Done n tt es c) where
+module _ (ρ : DoubleRule) (ℓ : Limits) (m : List ℕ) (bytes : Bytes m) (n : ℕ) (es : List (Entry Item)) (c : Known)
+    (e : message ρ ℓ start 0 m ≡ Done n tt es c) where
   -- no fifth number is past the last row
   pub own-nested : Nested es
-  own-nested = forest-nested (message-forest ℓ m bytes n es c e)
+  own-nested = forest-nested (message-forest ρ ℓ m bytes n es c e)
 
   -- the fifth numbers of a message's own rows are those of its items
   pub own-fifths : afters (rows es) ≡ ends 0 (items es)
-  own-fifths = fifths-from 0 es (forest-right (message-forest ℓ m bytes n es c e) [])
+  own-fifths = fifths-from 0 es (forest-right (message-forest ρ ℓ m bytes n es c e) [])

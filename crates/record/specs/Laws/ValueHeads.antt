@@ -11,16 +11,17 @@ use Rattle.flow.specs.Tests.{within-above, every, every-at}
 use Rattle.flow.specs.Flow.{pick, within, One}
 use Rattle.scalar.specs.Chart.{ranges, rangeOf, leadOf, kindOf}
 use Rattle.scalar.specs.ScalarLaws.{isScalar}
+use Rattle.scalar.specs.Scalars.{DoubleRule}
 use Rattle.record.specs.Model.Items.{Limits}
 use Rattle.record.specs.Model.Reading.{Opening, plainFrom}
 use Rattle.record.specs.Model.Reading.{ValueHead, leaf, few, few-typed, few-object, counted, counted-typed}
 use Rattle.record.specs.Model.Reading.{open-list, open-typed, open-map, typed-map, object, reference, headOf}
 use Rattle.record.specs.Model.Reading.{plainBy}
 
-pub plain-is : (ℓ : Limits) (below : Option (Opening One)) (p b : ℕ) → plainFrom ℓ below p b
-    ≡ plainBy ℓ below (headOf b) p b
+pub plain-is : (ρ : DoubleRule) (ℓ : Limits) (below : Option (Opening One)) (p b : ℕ) → plainFrom ρ ℓ below p b
+    ≡ plainBy ρ ℓ below (headOf b) p b
 unfolding plainFrom
-plain-is ℓ below p b = refl
+plain-is ρ ℓ below p b = refl
 
 -- ---- what a head says of its byte
 abbrev pub HeadFact : ℕ → ValueHead → Type 0

@@ -11,10 +11,11 @@ use Rattle.scalar.specs.declared.Sort.{Sort}
 use Rattle.scalar.specs.declared.Sort.the-variants as sort
 use Rattle.scalar.specs.declared.Encoding.the-variants.{Utf8, Binary}
 use Rattle.scalar.specs.Scalars.{Scalar, units, sortKind}
-use Rattle.scalar.specs.Grammar.{Spelt, a-number, a-string, Text}
+use Rattle.scalar.specs.Grammar.{SpeltUnder, a-number, a-string, Text}
 use Rattle.scalar.specs.NumberLaws.{number-some}
 use Rattle.scalar.specs.TextLaws.{string-some}
 use Rattle.scalar.specs.Bits.{number-bits, content-length, units-few}
+use Rattle.scalar.specs.Scalars.{DoubleRule}
 use Rattle.record.specs.Model.Items.{Leaf, Item, Val, FieldName, Known, start, opened, typed, defined, Limits}
 use Rattle.record.specs.Model.Rows.{row, itemRow, rowsFrom, rows}
 use Rattle.record.specs.Model.Grammar.{NameForm, a-name, TypeForm, type-name, type-number, PairForm, a-pair}
@@ -93,7 +94,8 @@ text-fits : {k : ℕ} {w cs : List ℕ} → k < 2 ^ 64 → Text w cs → length 
 text-fits {cs = cs} h x l =
     fits h (omega (arith, content-length x, units-few Utf8 cs)) (omega (arith, content-length x))
 
-scalar-narrow : {w : List ℕ} {x : Scalar} → Spelt w x → length w < 2 ^ 63 → Narrow (Val (Leaf x))
+scalar-narrow : {ρ : DoubleRule} {w : List ℕ} {x : Scalar} → SpeltUnder ρ w x → length w < 2 ^ 63
+    → Narrow (Val (Leaf x))
 scalar-narrow (a-number {s = s} n) l = fits (sort-few s) (number-bits s n) (omega arith)
 scalar-narrow (a-string {k = Utf8} x) l = text-fits (omega arith) x l
 scalar-narrow (a-string {k = Binary} x) l = fits (omega arith) (omega (arith, content-length x)) (omega arith)
@@ -180,7 +182,7 @@ type-bounds ℓ (type-number x r) N a l = (
   },
 )
 
-module _ (ℓ : Limits) where
+module _ (ρ : DoubleRule) (ℓ : Limits) where
   -- a definition, after its 43
   definition-bounds : {c c′ : Known} {w : List ℕ} {is : List Item} → DefinitionForm ℓ c w is c′ → (N : ℕ) → Within N c
       → N + 1 + length w < 2 ^ 63 → Bounded (N + 1) 1 w is c′
@@ -218,7 +220,7 @@ module _ (ℓ : Limits) where
         let y = rest (N + 1 + length u) (x .1 .known) (omega arith) in
         head-bounds (s (x .0) (y .some)) (then-bounds {k = 0} (omega arith) (x .1) y)
 
-    plain-bounds : Bounds (PlainForm ℓ room G)
+    plain-bounds : Bounds (PlainForm ρ ℓ room G)
     plain-bounds N c w is c′ (a-leaf y) a l =
         record { some = scalar-some y; known = more (omega arith) a; narrow = (scalar-narrow y (omega arith), tt) }
     plain-bounds N c w is c′ (a-few-typed r i q y) a l =
@@ -251,7 +253,7 @@ module _ (ℓ : Limits) where
     }
 
     preceded-bounds : {c c′ : Known} {w : List ℕ} {is : List Item} → Preceded 0x43 (DefinitionForm ℓ)
-        (PlainForm ℓ room G) c w is c′ → (N : ℕ) → Within N c → N + length w < 2 ^ 63 → Bounded N 1 w is c′
+        (PlainForm ρ ℓ room G) c w is c′ → (N : ℕ) → Within N c → N + length w < 2 ^ 63 → Bounded N 1 w is c′
     preceded-bounds (alone {c = c} {c′ = c′} {w = w} {is = is} x) N a l = plain-bounds N c w is c′ x a l
     preceded-bounds (first {u = u} {v = v} x r) N a l =
         let e = length-append u v in
@@ -259,9 +261,9 @@ module _ (ℓ : Limits) where
         byte-bounds (omega arith) (then-bounds {k = 1} (omega arith) y
         (preceded-bounds r (N + 1 + length u) (y .known) (omega arith)))
 
-  value-bounds : (d : ℕ) → Bounds (ValueForm ℓ d)
+  value-bounds : (d : ℕ) → Bounds (ValueForm ρ ℓ d)
   value-bounds zero N c w is c′ x a l = preceded-bounds false Nowhere (λ N c w is c′ x. absurd x) x N a l
-  value-bounds (suc d) N c w is c′ x a l = preceded-bounds true (ValueForm ℓ d) (value-bounds d) x N a l
+  value-bounds (suc d) N c w is c′ x a l = preceded-bounds true (ValueForm ρ ℓ d) (value-bounds d) x N a l
 
 -- ---- the rows, numbered from k
 entries-fit : (m : List ℕ) → length m < 2 ^ 63 → (k : ℕ) (es : List (Entry Item)) → k + length es < 2 ^ 63
@@ -282,12 +284,13 @@ entries-fit m l k (e ∷ es) f h n i =
     )
 
 -- of a message of fewer than 2 ^ 63 bytes
-pub rows-fit : (ℓ : Limits) (m : List ℕ) → Bytes m → length m < 2 ^ 63 → (r : List Item) (x : Accepts ℓ m r)
+pub rows-fit : (ρ : DoubleRule) (ℓ : Limits) (m : List ℕ) → Bytes m → length m < 2 ^ 63
+    → (r : List Item) (x : Accepts ρ ℓ m r)
     → All Fits (rows (x .entries))
-rows-fit ℓ m b l r x =
-    let e = judged-done ℓ m (length m) (x .entries) (x .known) (x .done) .1 in
-    let reads = own-reads ℓ m b (length m) (x .entries) (x .known) e in
-    let y = reads-derived ℓ m (items (x .entries)) reads in
+rows-fit ρ ℓ m b l r x =
+    let e = judged-done ρ ℓ m (length m) (x .entries) (x .known) (x .done) .1 in
+    let reads = own-reads ρ ℓ m b (length m) (x .entries) (x .known) e in
+    let y = reads-derived ρ ℓ m (items (x .entries)) reads in
     let nothing : Within 0 start = record {
       references = omega arith;
       types = omega arith;
@@ -296,8 +299,8 @@ rows-fit ℓ m b l r x =
     } in
     entries-fit m l 0 (x .entries) (omega (
       arith,
-      rows-few ℓ m (items (x .entries)) reads,
+      rows-few ρ ℓ m (items (x .entries)) reads,
       length-map (x .entries) (λ (e : Entry Item). e .item),
-    )) (places ℓ m b (length m) (x .entries) (x .known) e)
-    (own-nested ℓ m b (length m) (x .entries) (x .known) e) (value-bounds ℓ (ℓ .containers) 0 start m
+    )) (places ρ ℓ m b (length m) (x .entries) (x .known) e)
+    (own-nested ρ ℓ m b (length m) (x .entries) (x .known) e) (value-bounds ρ ℓ (ℓ .containers) 0 start m
     (items (x .entries)) (y .known) (y .derived) nothing (omega arith) .narrow)

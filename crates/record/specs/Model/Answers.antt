@@ -5,6 +5,7 @@ use lib.{Dec.ltb, ListN.length, ListN.take, ListN.drop, ListN.getD}
 use Rattle.flow.specs.RefusalNumbers.{wrong-length, no-room, no-record}
 use Rattle.flow.specs.Flow.{pick, onSome, Outcome, Done, Fault, One, stored, overlay, Report}
 use Rattle.wire.specs.BigEndian.{eightAt, be}
+use Rattle.scalar.specs.Scalars.{DoubleRule}
 use Rattle.record.specs.Model.Items.{Item, Known, start, Limits}
 use Rattle.record.specs.Model.Reading.{message}
 use Rattle.record.specs.Model.Rows.{Row, row, rows}
@@ -20,17 +21,17 @@ pub data ReadResult : Type 0 where
 
 -- all refusals but that of room: an empty message, or one longer than may be, has a wrong length; then the first fault
 -- from left to right
-unfoldable pub judged : Limits → List ℕ → Outcome Known Item One
-judged ℓ [] = Fault wrong-length 0
-judged ℓ (b ∷ m) = pick (ltb (ℓ .longest) (length (b ∷ m))) (Fault wrong-length 0) (message ℓ start 0 (b ∷ m))
+unfoldable pub judged : DoubleRule → Limits → List ℕ → Outcome Known Item One
+judged ρ ℓ [] = Fault wrong-length 0
+judged ρ ℓ (b ∷ m) = pick (ltb (ℓ .longest) (length (b ∷ m))) (Fault wrong-length 0) (message ρ ℓ start 0 (b ∷ m))
 
 -- with `lent` rows: too few are refusal 9, which counts the rows needed, for a message otherwise accepted
 abbrev pub answered : (lent : ℕ) → Outcome Known Item One → ReadResult
 answered lent (Done n u es c) = pick (ltb lent (length es)) (Refuse no-room (length es) 0) (Accept (rows es) n)
 answered lent (Fault x o) = Refuse x 0 o
 
-abbrev pub read : Limits → (lent : ℕ) → List ℕ → ReadResult
-read ℓ lent m = answered lent (judged ℓ m)
+abbrev pub read : DoubleRule → Limits → (lent : ℕ) → List ℕ → ReadResult
+read ρ ℓ lent m = answered lent (judged ρ ℓ m)
 
 -- ---- the writer
 -- what writing comes to
@@ -96,16 +97,16 @@ abbrev pub readNumbers : ReadResult → Report
 readNumbers (Accept rs n) = record { number = 0; count = length rs; place = n }
 readNumbers (Refuse x k o) = record { number = x; count = k; place = o }
 
-abbrev pub readReport : Limits → Layout → List ℕ → List ℕ → Report
-readReport ℓ L m t = readNumbers (read ℓ (lentRows L t) m)
+abbrev pub readReport : DoubleRule → Limits → Layout → List ℕ → List ℕ → Report
+readReport ρ ℓ L m t = readNumbers (read ρ ℓ (lentRows L t) m)
 
 -- the table then holds the rows of an accepted message, and is else unchanged
 abbrev pub filled : Layout → List ℕ → ReadResult → List ℕ
 filled L t (Accept rs n) = overlay (L .width) (L .encode) t 0 rs
 filled L t (Refuse x k o) = t
 
-abbrev pub readTable : Limits → Layout → List ℕ → List ℕ → List ℕ
-readTable ℓ L m t = filled L t (read ℓ (lentRows L t) m)
+abbrev pub readTable : DoubleRule → Limits → Layout → List ℕ → List ℕ → List ℕ
+readTable ρ ℓ L m t = filled L t (read ρ ℓ (lentRows L t) m)
 
 -- ---- the writer's answer for the first n rows of a table: accepted are 0, the bytes written, 0
 abbrev pub writeNumbers : WriteResult → Report

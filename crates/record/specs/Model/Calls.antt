@@ -4,6 +4,7 @@ use mathlib.Core.{Path._≡_, List.List}
 use Prim.Native.Nat.{ℕ, _*_, _^_, _≤_, _<_}
 use lib.ListN.{length, drop}
 use Rattle.flow.specs.Flow.{Bytes, Report}
+use Rattle.scalar.specs.Scalars.{DoubleRule, Floats}
 use Rattle.record.specs.Model.Items.{Item, Limits}
 use Rattle.record.specs.Model.Rows.{Row, rows}
 use Rattle.record.specs.Model.Claims.{contentAt, ClaimAll}
@@ -12,11 +13,11 @@ use Rattle.record.specs.Model.Answers.{Layout, lentRows, rowsOf, readRep
 use Rattle.record.specs.Model.Terms.{Accepts}
 use Rattle.record.specs.Model.Hops.{Skippable}
 
--- the message m is read into the table t: the report, the table afterwards
-pub record ReadCall (ℓ : Limits) (L : Layout) (m t : List ℕ) (a : Report) (t′ : List ℕ) : Type 0 where
+-- the message m is read into the table t, by the rule ρ of 5f: the report, the table afterwards
+pub record ReadCall (ρ : DoubleRule) (ℓ : Limits) (L : Layout) (m t : List ℕ) (a : Report) (t′ : List ℕ) : Type 0 where
   pub bytes : Bytes m
-  pub report : a ≡ readReport ℓ L m t
-  pub table : t′ ≡ readTable ℓ L m t
+  pub report : a ≡ readReport ρ ℓ L m t
+  pub table : t′ ≡ readTable ρ ℓ L m t
 
 -- the first n rows of the table t, whose texts and bytes lie in the source s, are written into the output o: the
 -- report, the output afterwards
@@ -39,17 +40,17 @@ pub record Keeps (L : Layout) : Type 0 where
   pub again : (r : Row) → Fits r → L .decode (L .encode r) ≡ r
 
 -- the table t′ holds the record of the message m, accepted with the report a
-pub record Holding (ℓ : Limits) (L : Layout) (m t : List ℕ) (a : Report) (t′ : List ℕ) : Type 0 where
+pub record Holding (ρ : DoubleRule) (ℓ : Limits) (L : Layout) (m t : List ℕ) (a : Report) (t′ : List ℕ) : Type 0 where
   pub record-of : List Item
   -- the grammar reads the message as this record, within the limits, and the lent rows suffice
-  pub grammar : Message ℓ m record-of
+  pub grammar : Message ρ ℓ m record-of
   pub short : length m ≤ ℓ .longest
   pub enough : length record-of ≤ lentRows L t
   -- the report has its items and the message's length
   pub counted : a .count ≡ length record-of
   pub whole : a .place ≡ length m
   -- the rows are those of the reading, in message order, each with the place of its item; they claim the record
-  pub accepts : Accepts ℓ m record-of
+  pub accepts : Accepts ρ ℓ m record-of
   pub rows-are : rowsOf L (a .count) t′ ≡ rows (accepts .entries)
   pub claimed : ClaimAll (contentAt m) (rowsOf L (a .count) t′) record-of
   -- request 2026-07: each of them skips what it opens
@@ -57,12 +58,12 @@ pub record Holding (ℓ : Limits) (L : Layout) (m t : List ℕ) (a : Report) (t�
   -- the numbers past them stay
   pub past : drop (a .count * L .width) t′ ≡ drop (a .count * L .width) t
 
--- the message m has the record that the first n rows of the table t claim in the source s
+-- the message m, by the main rule, has the record that the first n rows of the table t claim in the source s
 pub record RecordOf (ℓ : Limits) (L : Layout) (s t : List ℕ) (n : ℕ) (m : List ℕ) : Type 0 where
   pub lent : n ≤ lentRows L t
   pub record-of : List Item
   pub claimed : ClaimAll (contentAt s) (rowsOf L n t) record-of
-  pub grammar : Message ℓ m record-of
+  pub grammar : Message Floats ℓ m record-of
 
 -- so has the message w, and none that has it, of any spelling, is shorter
 pub record ShortestOf (ℓ : Limits) (L : Layout) (s t : List ℕ) (n : ℕ) (w : List ℕ) : Type 0 where

@@ -1,5 +1,6 @@
 -- What the rows of a table claim: the items whose rows they are, with the contents that their places open.
-use mathlib.Core.{Path._≡_, Bool.Bool, Bool._||_, List.List, List.[], List._∷_, List.map, Option.Option, Option.none, Option.some}
+use mathlib.Core.{Path._≡_, Bool.Bool, Bool._||_, List.List, List.[], List._∷_, List.map}
+use mathlib.Core.{Option.Option, Option.none, Option.some}
 use Prim.Native.Nat.{ℕ}
 use lib.Dec.{eqb}
 use Rattle.flow.specs.Flow.{pick, within}

@@ -5,7 +5,7 @@ use lib.{Dec.ltb, Dec.eqb, ListN.length}
 use Rattle.flow.specs.RefusalNumbers.{negative, ungiven, over-ceiling, bytes-after}
 use Rattle.flow.specs.Flow.{pick, within, Done, Fault, Read, From, One, give, fail, byteAt, changing, asking, mapped}
 use Rattle.flow.specs.Flow.{headed, bind, after, many, untilEnd, precededBy}
-use Rattle.scalar.specs.Scalars.{isText, scalarFrom, intFrom, textFrom}
+use Rattle.scalar.specs.Scalars.{DoubleRule, isText, scalarFrom, intFrom, textFrom}
 use Rattle.record.specs.Model.Items.{Leaf, UntypedList, TypedList, UntypedMap, TypedMap, Object, Reference}
 use Rattle.record.specs.Model.Items.{Item, Val, Definition, ClassName, FieldName, TypeName, TypeNumber}
 use Rattle.record.specs.Model.Items.{Known, opened, typed, defined, Limits}
@@ -156,16 +156,30 @@ module _ (ℓ : Limits) (below : Option (Opening One)) (p : ℕ) where
   abbrev pub referenceFrom : Reader One
   referenceFrom = headed p (λ k. Val (Reference k)) (int (λ o. referenceTo p))
 
-  -- any other first byte b
-  abbrev pub leafFrom : ℕ → Reader One
-  leafFrom b = headed p (λ x. Val (Leaf x)) (scalarFrom p b)
+  -- any other first byte b; ρ: the rule of 5f
+  abbrev pub leafFrom : DoubleRule → ℕ → Reader One
+  leafFrom ρ b = headed p (λ x. Val (Leaf x)) (scalarFrom ρ p b)
 
 -- nothing after the record: a byte there is refusal 8
 abbrev pub ending : Reader One
 ending c at s = elim s [ [] ↦ Done 0 tt [] c | b ∷ t ↦ Fault bytes-after at ]
 
--- ---- messages
+-- ---- class definitions
 module _ (ℓ : Limits) where
+  -- the field names of a class, whose count n stands at o: too many are refusal 7 there. The class number is given
+  -- when they are read
+  abbrev pub fieldNames : ℕ → ℕ → Reader ℕ
+  fieldNames o n = cond (ltb (ℓ .fields) n) (fail over-ceiling o)
+      (after (many (name FieldName) n) (changing (defined n) (give n)))
+
+  -- a class definition, after its 43, at p: one too many is refusal 7 there
+  unfoldable pub definition : ℕ → Reader One
+  definition p = asking (λ c. cond (ltb (length (c .classes)) (ℓ .classes))
+      (headed p Definition (after (byteAt (name ClassName)) (count fieldNames)))
+      (fail over-ceiling p))
+
+-- ---- messages, by the rule of 5f
+module _ (ρ : DoubleRule) (ℓ : Limits) where
   -- a value with no definition before it, by its head, after its first byte b, at p
   unfoldable pub plainBy : Option (Opening One) → ValueHead → Opening One
   plainBy below (few-typed n) p b = fewTyped ℓ below p n
@@ -179,27 +193,15 @@ module _ (ℓ : Limits) where
   plainBy below (few-object k) p b = fewObject ℓ below p k
   plainBy below object p b = anyObject ℓ below p
   plainBy below reference p b = referenceFrom ℓ below p
-  plainBy below leaf p b = leafFrom ℓ below p b
+  plainBy below leaf p b = leafFrom ℓ below p ρ b
 
   unfoldable pub plainFrom : Option (Opening One) → Opening One
   plainFrom below p b = plainBy below (headOf b) p b
 
-  -- the field names of a class, whose count n stands at o: too many are refusal 7 there. The class number is given
-  -- when they are read
-  abbrev pub fieldNames : ℕ → ℕ → Reader ℕ
-  fieldNames o n = cond (ltb (ℓ .fields) n) (fail over-ceiling o)
-      (after (many (name FieldName) n) (changing (defined n) (give n)))
-
-  -- a class definition, after its 43, at p: one too many is refusal 7 there
-  unfoldable pub definition : ℕ → Reader One
-  definition p = asking (λ c. cond (ltb (length (c .classes)) (ℓ .classes))
-      (headed p Definition (after (byteAt (name ClassName)) (count fieldNames)))
-      (fail over-ceiling p))
-
   -- any number of class definitions, and then a value; `allowance` more containers may open
   unfoldable pub valueFrom : (allowance : ℕ) → Opening One
-  valueFrom zero = precededBy 0x43 definition (plainFrom none)
-  valueFrom (suc d) = precededBy 0x43 definition (plainFrom (some (valueFrom d)))
+  valueFrom zero = precededBy 0x43 (definition ℓ) (plainFrom none)
+  valueFrom (suc d) = precededBy 0x43 (definition ℓ) (plainFrom (some (valueFrom d)))
 
   -- a message: one record, and nothing after it
   unfoldable pub message : Reader One

@@ -8,6 +8,7 @@ use lib.ListN.{length, length-map}
 use borrow.Author.Tests.{lt-ltb, le-ltb}
 use Rattle.flow.specs.Tests.{split, pick-true, pick-false}
 use Rattle.flow.specs.Flow.{Entry, stored, Report}
+use Rattle.scalar.specs.Scalars.{DoubleRule, Floats}
 use Rattle.record.specs.Model.Items.{Item, Limits}
 use Rattle.record.specs.Model.Rows.{Row, rows}
 use Rattle.record.specs.Model.Claims.{contentAt}
@@ -23,21 +24,23 @@ abbrev pub answer : ℕ → ℕ → ℕ → Report
 answer number count place = record { number = number; count = count; place = place }
 
 -- a message's entries are as many as its items
-pub entries-length : {ℓ : Limits} {m : List ℕ} {r : List Item} (x : Accepts ℓ m r) → length r ≡ length (x .entries)
+pub entries-length : {ρ : DoubleRule} {ℓ : Limits} {m : List ℕ} {r : List Item} (x : Accepts ρ ℓ m r)
+    → length r ≡ length (x .entries)
 entries-length x = ap length (sym (x .reads-as)) ∙ length-map (x .entries) (λ (e : Entry Item). e .item)
 
 -- ---- reading
-module _ (ℓ : Limits) (L : Layout) (m t : List ℕ) (a : Report) (t′ : List ℕ) (g : ReadCall ℓ L m t a t′) where
+module _ (ρ : DoubleRule) (ℓ : Limits) (L : Layout) (m t : List ℕ) (a : Report) (t′ : List ℕ)
+    (g : ReadCall ρ ℓ L m t a t′) where
   -- the definitions' answer
   abbrev Answer : ReadResult
-  Answer = read ℓ (lentRows L t) m
+  Answer = read ρ ℓ (lentRows L t) m
 
   pub data ReadCases : Type 0 where
     misfit : Misfit ℓ m → a ≡ answer 1 0 0 → t′ ≡ t → ReadCases
     faulty : (x o : ℕ) → Located (length m) x o → a ≡ answer x 0 o → t′ ≡ t → ReadCases
-    few-rows : (r : List Item) (x : Accepts ℓ m r) → lentRows L t < length (x .entries)
+    few-rows : (r : List Item) (x : Accepts ρ ℓ m r) → lentRows L t < length (x .entries)
         → a ≡ answer 9 (length (x .entries)) 0 → t′ ≡ t → ReadCases
-    whole : (r : List Item) (x : Accepts ℓ m r) → length (x .entries) ≤ lentRows L t
+    whole : (r : List Item) (x : Accepts ρ ℓ m r) → length (x .entries) ≤ lentRows L t
         → a ≡ answer 0 (length (rows (x .entries))) (length m) → Answer ≡ Accept (rows (x .entries)) (length m)
         → ReadCases
 
@@ -48,7 +51,7 @@ module _ (ℓ : Limits) (L : Layout) (m t : List ℕ) (a : Report) (t′ : List 
   table-as z e = g .table ∙ ap (filled L t) e
 
   pub read-cases : ReadCases
-  read-cases = by-read ℓ (lentRows L t) m (g .bytes) (λ z. Answer ≡ z → ReadCases)
+  read-cases = by-read ρ ℓ (lentRows L t) m (g .bytes) (λ z. Answer ≡ z → ReadCases)
       (λ h e. misfit h (report-as (Refuse 1 0 0) e) (table-as (Refuse 1 0 0) e))
       (λ x o h e. faulty x o h (report-as (Refuse x 0 o) e) (table-as (Refuse x 0 o) e))
       (λ r x h e. few-rows r x h (report-as (Refuse 9 (length (x .entries)) 0) e)

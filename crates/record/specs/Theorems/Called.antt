@@ -1,7 +1,7 @@
 -- The proofs of the demands: Demands.antt states them.
 use mathlib.Core.Path.{_≡_, refl, sym, ap, subst, _∙_}
 use mathlib.Core.Logic.{_↔_, _⊎_, inl, inr}
-use mathlib.Core.List.{List}
+use mathlib.Core.List.{List, map}
 use mathlib.Core.Option.{Option, none, some}
 use Prim.Native.Nat.{ℕ, zero, suc, _*_, _/_, _^_, _≤_, _<_}
 use native.Mathlib.Omega.{arith}
@@ -9,6 +9,7 @@ use native.Mathlib.Nat.{le-trans, mul-le-mul-right, div-mul-le-self}
 use lib.ListN.{length, take, drop, length-map}
 use Rattle.flow.specs.Flow.{Bytes, Entry, Outcome, Done, Fault, One, Report}
 use Rattle.flow.specs.OverlayLaws.{stored-take, stored-behind, length-overlay, overlay-past}
+use Rattle.scalar.specs.Scalars.{DoubleRule, Floats, Thousandths}
 use Rattle.record.specs.Model.Items.{Item, Known, start, Limits}
 use Rattle.record.specs.Model.Rows.{Row, rows}
 use Rattle.record.specs.Model.Claims.{ContentMap, contentAt, ClaimItems, no-rows, a-row, ClaimAll}
@@ -29,6 +30,9 @@ use Rattle.record.specs.Theorems.SameTheorems.{same-exactly, one-message
 use Rattle.record.specs.Theorems.HopTheorems.{skippable}
 use Rattle.record.specs.Theorems.RowTheorems.{judged-done, own-rows, rows-no-longer, rows-back, rows-none}
 use Rattle.record.specs.Theorems.AnswerTheorems.{accepted-exactly, rows-suffice, rows-too-few, kept-holds}
+use Rattle.record.specs.Model.Terms.{rowInThousandths}
+use Rattle.record.specs.Laws.MainSpelling.{message-main}
+use Rattle.record.specs.Laws.ThousandthRows.{resultInThousandths, read-in-thousandths, report-in-thousandths}
 use Rattle.record.specs.Theorems.CallCases.{answer, ReadCases, misfit, faulty, few-rows, whole, read-cases}
 use Rattle.record.specs.Theorems.CallCases.{WriteCases, long-source, beyond, no-message, too-long, too-few, wrote}
 use Rattle.record.specs.Theorems.CallCases.{write-cases, entries-length}
@@ -45,9 +49,9 @@ place a = a .place
 
 -- ---- rows and items
 -- a message reads as one record
-one-reading : (ℓ : Limits) (m : List ℕ) (r q : List Item) → Message ℓ m r → Message ℓ m q → r ≡ q
-one-reading ℓ m r q x y =
-    go (message ℓ start 0 m) (derived-reads ℓ m r x .accepted) (derived-reads ℓ m q y .accepted)
+one-reading : (ρ : DoubleRule) (ℓ : Limits) (m : List ℕ) (r q : List Item) → Message ρ ℓ m r → Message ρ ℓ m q → r ≡ q
+one-reading ρ ℓ m r q x y =
+    go (message ρ ℓ start 0 m) (derived-reads ρ ℓ m r x .accepted) (derived-reads ρ ℓ m q y .accepted)
   where
     go : (o : Outcome Known Item One) → Accepted r o → Accepted q o → r ≡ q
     go (Done n u es c) a b = sym a ∙ b
@@ -76,27 +80,27 @@ rows-count L (suc n) t = ap suc (rows-count L n (drop (L .width) t))
 
 module _ (ℓ : Limits) (L : Layout) where
   -- ---- reading
-  module _ (m t : List ℕ) (a : Report) (t′ : List ℕ) (g : ReadCall ℓ L m t a t′) where
-    cases : ReadCases ℓ L m t a t′ g
-    cases = read-cases ℓ L m t a t′ g
+  module _ (ρ : DoubleRule) (m t : List ℕ) (a : Report) (t′ : List ℕ) (g : ReadCall ρ ℓ L m t a t′) where
+    cases : ReadCases ρ ℓ L m t a t′ g
+    cases = read-cases ρ ℓ L m t a t′ g
 
     -- the grammar reads the message as the record r, within the limits
     abbrev Within : List Item → Type 0
-    Within r = Message ℓ m r × (length m ≤ ℓ .longest)
+    Within r = Message ρ ℓ m r × (length m ≤ ℓ .longest)
 
-    accepts-within : (r : List Item) → Accepts ℓ m r → Within r
-    accepts-within r x = let y = accepted-exactly ℓ m (g .bytes) r .0 x in (y .1, y .0)
+    accepts-within : (r : List Item) → Accepts ρ ℓ m r → Within r
+    accepts-within r x = let y = accepted-exactly ρ ℓ m (g .bytes) r .0 x in (y .1, y .0)
 
-    within-accepts : (r : List Item) → Within r → Accepts ℓ m r
-    within-accepts r y = accepted-exactly ℓ m (g .bytes) r .1 (y .1, y .0)
+    within-accepts : (r : List Item) → Within r → Accepts ρ ℓ m r
+    within-accepts r y = accepted-exactly ρ ℓ m (g .bytes) r .1 (y .1, y .0)
 
-    report-of : (z : ReadResult) → read ℓ (lentRows L t) m ≡ z → a ≡ readNumbers z
+    report-of : (z : ReadResult) → read ρ ℓ (lentRows L t) m ≡ z → a ≡ readNumbers z
     report-of z e = g .report ∙ ap readNumbers e
 
     read-numbered : a .number ≤ 9
     read-numbered = go cases
       where
-        go : ReadCases ℓ L m t a t′ g → a .number ≤ 9
+        go : ReadCases ρ ℓ L m t a t′ g → a .number ≤ 9
         go (misfit h e u) = omega (arith, ap number e)
         go (faulty x o h e u) = omega (arith, ap number e, located-numbered h .1)
         go (few-rows r x h e u) = omega (arith, ap number e)
@@ -105,18 +109,18 @@ module _ (ℓ : Limits) (L : Layout) where
     read-unchanged : (a .number ≡ 0 → ⊥) → t′ ≡ t
     read-unchanged z = go cases
       where
-        go : ReadCases ℓ L m t a t′ g → t′ ≡ t
+        go : ReadCases ρ ℓ L m t a t′ g → t′ ≡ t
         go (misfit h e u) = u
         go (faulty x o h e u) = u
         go (few-rows r x h e u) = u
         go (whole r x h e q) = absurd (z (ap number e))
 
     read-accepted : (a .number ≡ 0)
-        ↔ ((r : List Item) × Message ℓ m r × (length m ≤ ℓ .longest) × (length r ≤ lentRows L t))
+        ↔ ((r : List Item) × Message ρ ℓ m r × (length m ≤ ℓ .longest) × (length r ≤ lentRows L t))
     read-accepted = (λ z. go z cases, back)
       where
-        go : a .number ≡ 0 → ReadCases ℓ L m t a t′ g
-            → (r : List Item) × Message ℓ m r × (length m ≤ ℓ .longest) × (length r ≤ lentRows L t)
+        go : a .number ≡ 0 → ReadCases ρ ℓ L m t a t′ g
+            → (r : List Item) × Message ρ ℓ m r × (length m ≤ ℓ .longest) × (length r ≤ lentRows L t)
         go z (misfit h e u) = absurd (omega (arith, ap number e))
         go z (faulty x o h e u) = absurd (omega (arith, ap number e, located-numbered h .0))
         go z (few-rows r x h e u) = absurd (omega (arith, ap number e))
@@ -124,30 +128,30 @@ module _ (ℓ : Limits) (L : Layout) where
             let y = accepts-within r x in
             (r, y .0, y .1, subst (λ (k : ℕ). k ≤ lentRows L t) (sym (entries-length x)) h)
 
-        back : (r : List Item) × Message ℓ m r × (length m ≤ ℓ .longest) × (length r ≤ lentRows L t) → a .number ≡ 0
+        back : (r : List Item) × Message ρ ℓ m r × (length m ≤ ℓ .longest) × (length r ≤ lentRows L t) → a .number ≡ 0
         back y =
             let x = within-accepts (y .0) (y .1, y .2) in
-            ap number (report-of _ (rows-suffice ℓ (lentRows L t) m (y .0) x
+            ap number (report-of _ (rows-suffice ρ ℓ (lentRows L t) m (y .0) x
             (subst (λ (k : ℕ). k ≤ lentRows L t) (entries-length x) (y .3))))
 
     read-refused-1 : (a .number ≡ 1) ↔ ((length m ≡ 0) ⊎ (ℓ .longest < length m))
     read-refused-1 = (
       λ z. go z cases,
-      λ h. ap number (report-of _ (ap (answered (lentRows L t)) (misfit-judged ℓ m h))),
+      λ h. ap number (report-of _ (ap (answered (lentRows L t)) (misfit-judged ρ ℓ m h))),
     )
       where
-        go : a .number ≡ 1 → ReadCases ℓ L m t a t′ g → (length m ≡ 0) ⊎ (ℓ .longest < length m)
+        go : a .number ≡ 1 → ReadCases ρ ℓ L m t a t′ g → (length m ≡ 0) ⊎ (ℓ .longest < length m)
         go z (misfit h e u) = h
         go z (faulty x o h e u) = absurd (omega (arith, ap number e, located-numbered h .0))
         go z (few-rows r x h e u) = absurd (omega (arith, ap number e))
         go z (whole r x h e q) = absurd (omega (arith, ap number e))
 
     read-refused-9 : (a .number ≡ 9)
-        ↔ ((r : List Item) × Message ℓ m r × (length m ≤ ℓ .longest) × (lentRows L t < length r))
+        ↔ ((r : List Item) × Message ρ ℓ m r × (length m ≤ ℓ .longest) × (lentRows L t < length r))
     read-refused-9 = (λ z. go z cases, back)
       where
-        go : a .number ≡ 9 → ReadCases ℓ L m t a t′ g
-            → (r : List Item) × Message ℓ m r × (length m ≤ ℓ .longest) × (lentRows L t < length r)
+        go : a .number ≡ 9 → ReadCases ρ ℓ L m t a t′ g
+            → (r : List Item) × Message ρ ℓ m r × (length m ≤ ℓ .longest) × (lentRows L t < length r)
         go z (misfit h e u) = absurd (omega (arith, ap number e))
         go z (faulty x o h e u) = absurd (omega (arith, ap number e, located-numbered h .1))
         go z (few-rows r x h e u) =
@@ -155,20 +159,20 @@ module _ (ℓ : Limits) (L : Layout) where
             (r, y .0, y .1, subst (λ (j : ℕ). lentRows L t < j) (sym (entries-length x)) h)
         go z (whole r x h e q) = absurd (omega (arith, ap number e))
 
-        back : (r : List Item) × Message ℓ m r × (length m ≤ ℓ .longest) × (lentRows L t < length r) → a .number ≡ 9
+        back : (r : List Item) × Message ρ ℓ m r × (length m ≤ ℓ .longest) × (lentRows L t < length r) → a .number ≡ 9
         back y =
             let x = within-accepts (y .0) (y .1, y .2) in
-            ap number (report-of _ (rows-too-few ℓ (lentRows L t) m (y .0) x
+            ap number (report-of _ (rows-too-few ρ ℓ (lentRows L t) m (y .0) x
             (subst (λ (j : ℕ). lentRows L t < j) (entries-length x) (y .3))))
 
-    read-needed : a .number ≡ 9 → (r : List Item) → Message ℓ m r → a .count ≡ length r
+    read-needed : a .number ≡ 9 → (r : List Item) → Message ρ ℓ m r → a .count ≡ length r
     read-needed z r y = go cases
       where
-        go : ReadCases ℓ L m t a t′ g → a .count ≡ length r
+        go : ReadCases ρ ℓ L m t a t′ g → a .count ≡ length r
         go (misfit h e u) = absurd (omega (arith, ap number e))
         go (faulty x o h e u) = absurd (omega (arith, ap number e, located-numbered h .1))
         go (few-rows q x h e u) =
-            ap count e ∙ sym (entries-length x) ∙ ap length (one-reading ℓ m q r (accepts-within q x .0) y)
+            ap count e ∙ sym (entries-length x) ∙ ap length (one-reading ρ ℓ m q r (accepts-within q x .0) y)
         go (whole q x h e w) = absurd (omega (arith, ap number e))
 
     read-no-place : (a .number ≡ 1) ⊎ (a .number ≡ 9) → a .place ≡ 0
@@ -187,7 +191,7 @@ module _ (ℓ : Limits) (L : Layout) where
         nonzero y (inl x) e = omega arith
         nonzero y (inr x) e = omega arith
 
-        go : (a .number < 2) ⊎ (8 < a .number) → ReadCases ℓ L m t a t′ g → a .place ≡ 0
+        go : (a .number < 2) ⊎ (8 < a .number) → ReadCases ρ ℓ L m t a t′ g → a .place ≡ 0
         go y (misfit h e u) = ap place e
         go y (faulty x o h e u) = not-located x o h (ap number e) y
         go y (few-rows r x h e u) = ap place e
@@ -196,7 +200,7 @@ module _ (ℓ : Limits) (L : Layout) where
     read-refused : (a .number ≡ 0 → ⊥) → (a .number ≡ 9 → ⊥) → a .count ≡ 0
     read-refused y z = go cases
       where
-        go : ReadCases ℓ L m t a t′ g → a .count ≡ 0
+        go : ReadCases ρ ℓ L m t a t′ g → a .count ≡ 0
         go (misfit h e u) = ap count e
         go (faulty x o h e u) = ap count e
         go (few-rows r x h e u) = absurd (z (ap number e))
@@ -209,7 +213,7 @@ module _ (ℓ : Limits) (L : Layout) where
         at x o at-end q = refl
         at x o (before-end i j l) q = absurd (omega arith)
 
-        go : ReadCases ℓ L m t a t′ g → a .place ≡ length m
+        go : ReadCases ρ ℓ L m t a t′ g → a .place ≡ length m
         go (misfit h e u) = absurd (omega (arith, ap number e))
         go (faulty x o h e u) = ap place e ∙ at x o h (sym (ap number e) ∙ z)
         go (few-rows r x h e u) = absurd (omega (arith, ap number e))
@@ -222,7 +226,7 @@ module _ (ℓ : Limits) (L : Layout) where
         at x o at-end q = absurd (omega arith)
         at x o (before-end i j l) q = l
 
-        go : ReadCases ℓ L m t a t′ g → a .place < length m
+        go : ReadCases ρ ℓ L m t a t′ g → a .place < length m
         go (misfit h e u) = absurd (omega (arith, ap number e))
         go (faulty x o h e u) =
             subst (λ (k : ℕ). k < length m) (sym (ap place e)) (at x o h (omega (arith, ap number e)))
@@ -231,12 +235,12 @@ module _ (ℓ : Limits) (L : Layout) where
 
     -- ---- an accepted message
     module _ (fits : ℓ .longest < 2 ^ 63) (keeps : Keeps L) where
-      read-holding : a .number ≡ 0 → Holding ℓ L m t a t′
+      read-holding : a .number ≡ 0 → Holding ρ ℓ L m t a t′
       read-holding z = go cases
         where
-          accepted : (r : List Item) (x : Accepts ℓ m r) → length (x .entries) ≤ lentRows L t
+          accepted : (r : List Item) (x : Accepts ρ ℓ m r) → length (x .entries) ≤ lentRows L t
               → a ≡ answer 0 (length (rows (x .entries))) (length m)
-              → read ℓ (lentRows L t) m ≡ Accept (rows (x .entries)) (length m) → Holding ℓ L m t a t′
+              → read ρ ℓ (lentRows L t) m ≡ Accept (rows (x .entries)) (length m) → Holding ρ ℓ L m t a t′
           accepted r x h e q = record {
             record-of = r;
             grammar = y .0;
@@ -247,7 +251,7 @@ module _ (ℓ : Limits) (L : Layout) where
             accepts = x;
             rows-are = held;
             claimed = claimed;
-            skips = skippable ℓ m r (y .0) (contentAt m) (rowsOf L (a .count) t′) claimed;
+            skips = skippable ρ ℓ m r (y .0) (contentAt m) (rowsOf L (a .count) t′) claimed;
             past = past;
           }
             where
@@ -259,14 +263,14 @@ module _ (ℓ : Limits) (L : Layout) where
 
               held : rowsOf L (a .count) t′ ≡ rows (x .entries)
               held = (λ i. rowsOf L (count (e i)) (g .table i))
-                  ∙ kept-holds ℓ L keeps m t (g .bytes) (omega (arith, y .1)) (rows (x .entries)) (length m) q
+                  ∙ kept-holds ρ ℓ L keeps m t (g .bytes) (omega (arith, y .1)) (rows (x .entries)) (length m) q
 
               claimed : ClaimAll (contentAt m) (rowsOf L (a .count) t′) r
               claimed =
-                  let d = judged-done ℓ m (length m) (x .entries) (x .known) (x .done) in
+                  let d = judged-done ρ ℓ m (length m) (x .entries) (x .known) (x .done) in
                   subst (λ (rs : List Row). ClaimAll (contentAt m) rs r) (sym held)
                   (subst (ClaimAll (contentAt m) (rows (x .entries))) (x .reads-as)
-                  (own-rows ℓ m (g .bytes) (length m) (x .entries) (x .known) (d .1)))
+                  (own-rows ρ ℓ m (g .bytes) (length m) (x .entries) (x .known) (d .1)))
 
               past : drop (a .count * L .width) t′ ≡ drop (a .count * L .width) t
               past =
@@ -279,13 +283,13 @@ module _ (ℓ : Limits) (L : Layout) where
                   (div-mul-le-self (length t) (L .width)))
                   ∙ ap (λ (k : ℕ). drop (k * L .width) t) (sym (ap count e))
 
-          go : ReadCases ℓ L m t a t′ g → Holding ℓ L m t a t′
+          go : ReadCases ρ ℓ L m t a t′ g → Holding ρ ℓ L m t a t′
           go (misfit h e u) = absurd (omega (arith, ap number e))
           go (faulty x o h e u) = absurd (omega (arith, ap number e, located-numbered h .0))
           go (few-rows r x h e u) = absurd (omega (arith, ap number e))
           go (whole r x h e q) = accepted r x h e q
 
-      pub of-read : demands.OfRead ℓ L m t a t′
+      pub of-read : demands.OfRead ρ ℓ L m t a t′
       of-read = record {
         numbered = read-numbered;
         unchanged = read-unchanged;
@@ -301,9 +305,9 @@ module _ (ℓ : Limits) (L : Layout) where
       }
 
   -- a table keeps its length, and so its rows
-  table-rows : (keeps : Keeps L) (m t : List ℕ) (a : Report) (t′ : List ℕ) → ReadCall ℓ L m t a t′
+  table-rows : (ρ : DoubleRule) (keeps : Keeps L) (m t : List ℕ) (a : Report) (t′ : List ℕ) → ReadCall ρ ℓ L m t a t′
       → lentRows L t′ ≡ lentRows L t
-  table-rows keeps m t a t′ g = ap (λ (n : ℕ). n / L .width) (ap length (g .table) ∙ go (read ℓ (lentRows L t) m))
+  table-rows ρ keeps m t a t′ g = ap (λ (n : ℕ). n / L .width) (ap length (g .table) ∙ go (read ρ ℓ (lentRows L t) m))
     where
       go : (x : ReadResult) → length (filled L t x) ≡ length t
       go (Accept rs n) = length-overlay (L .width) (L .encode) (keeps .sized) t 0 rs
@@ -325,7 +329,7 @@ module _ (ℓ : Limits) (L : Layout) where
       has-of m x = record {
         record-of = x .record-of;
         claimed = x .claimed;
-        read-as = derived-reads ℓ m (x .record-of) (x .grammar);
+        read-as = derived-reads Floats ℓ m (x .record-of) (x .grammar);
       }
 
       of-has : n ≤ lentRows L t → (m : List ℕ) → Has ℓ s Rows m → Of m
@@ -333,7 +337,7 @@ module _ (ℓ : Limits) (L : Layout) where
         lent = l;
         record-of = x .record-of;
         claimed = x .claimed;
-        grammar = reads-derived ℓ m (x .record-of) (x .read-as);
+        grammar = reads-derived Floats ℓ m (x .record-of) (x .read-as);
       }
 
       no-shorter : (w : List ℕ) → Short ≡ some w → (m : List ℕ) → Of m → length w ≤ length m
@@ -578,30 +582,30 @@ module _ (ℓ : Limits) (L : Layout) where
       abbrev r-of : List Item
       r-of = x .has .record-of
 
-      read-again : (t₂ : List ℕ) (a₂ : Report) (t₂′ : List ℕ) → ReadCall ℓ L w t₂ a₂ t₂′ → n ≤ lentRows L t₂
+      read-again : (t₂ : List ℕ) (a₂ : Report) (t₂′ : List ℕ) → ReadCall Floats ℓ L w t₂ a₂ t₂′ → n ≤ lentRows L t₂
           → (a₂ .number ≡ 0) × SameRecord s w (rowsOf L n t) (rowsOf L (a₂ .count) t₂′)
       read-again t₂ a₂ t₂′ g l =
           let k : length r-of ≡ n = claim-length (x .has .claimed) ∙ rows-count L n t in
-          let z = read-accepted w t₂ a₂ t₂′ g .1
+          let z = read-accepted Floats w t₂ a₂ t₂′ g .1
           (r-of, x .has .grammar, x .short, subst (λ (j : ℕ). j ≤ lentRows L t₂) (sym k) l) in
-          let y = read-holding w t₂ a₂ t₂′ g fits keeps z in (
+          let y = read-holding Floats w t₂ a₂ t₂′ g fits keeps z in (
             z,
             same-exactly s w (x .has .claimed) (rowsOf L (a₂ .count) t₂′) .1
                 (subst (ClaimAll (contentAt w) (rowsOf L (a₂ .count) t₂′))
-                (one-reading ℓ w (y .record-of) r-of (y .grammar) (x .has .grammar)) (y .claimed)),
+                (one-reading Floats ℓ w (y .record-of) r-of (y .grammar) (x .has .grammar)) (y .claimed)),
           )
 
-      shorter-none : (m tm : List ℕ) (am : Report) (tm′ : List ℕ) → ReadCall ℓ L m tm am tm′ → am .number ≡ 0
+      shorter-none : (m tm : List ℕ) (am : Report) (tm′ : List ℕ) → ReadCall Floats ℓ L m tm am tm′ → am .number ≡ 0
           → SameRecord s m (rowsOf L n t) (rowsOf L (am .count) tm′) → length w ≤ length m
       shorter-none m tm am tm′ g z e =
-          let y = read-holding m tm am tm′ g fits keeps z in
+          let y = read-holding Floats m tm am tm′ g fits keeps z in
           let q = one-claim (contentAt m) (y .claimed)
           (same-exactly s m (x .has .claimed) (rowsOf L (am .count) tm′) .0 e) in
           x .none-shorter m (record {
             lent = x .has .lent;
             record-of = r-of;
             claimed = x .has .claimed;
-            grammar = subst (Message ℓ m) q (y .grammar);
+            grammar = subst (Message Floats ℓ m) q (y .grammar);
           })
 
       pub of-shortest : demands.OfShortest ℓ L s t n w
@@ -609,12 +613,12 @@ module _ (ℓ : Limits) (L : Layout) where
 
     -- ---- a message that was read, written
     module _ (openFrom : ℕ) (most : openFrom ≤ 48) (m t : List ℕ) (a : Report) (t′ : List ℕ)
-        (g : ReadCall ℓ L m t a t′) (z : a .number ≡ 0) where
+        (g : ReadCall Floats ℓ L m t a t′) (z : a .number ≡ 0) where
       own : RecordOf ℓ L m t′ (a .count) m
       own =
-          let y = read-holding m t a t′ g fits keeps z in
+          let y = read-holding Floats m t a t′ g fits keeps z in
           record {
-            lent = omega (arith, y .enough, y .counted, table-rows keeps m t a t′ g);
+            lent = omega (arith, y .enough, y .counted, table-rows Floats keeps m t a t′ g);
             record-of = y .record-of;
             claimed = y .claimed;
             grammar = y .grammar;
@@ -625,7 +629,7 @@ module _ (ℓ : Limits) (L : Layout) where
       rewritten o c o′ h l = go (write-cases ℓ openFrom L m t′ (a .count) o c o′ h)
         where
           few : length m ≤ ℓ .longest
-          few = read-holding m t a t′ g fits keeps z .short
+          few = read-holding Floats m t a t′ g fits keeps z .short
 
           go : WriteCases ℓ openFrom L m t′ (a .count) o c o′ h → (c .number ≡ 0) × (c .count ≤ length m)
           go (long-source i e u) = absurd (omega (arith, few))
@@ -636,6 +640,73 @@ module _ (ℓ : Limits) (L : Layout) where
           go (too-few i j w q k v e u) = absurd (omega (arith, no-shorter openFrom most m t′ (a .count) w q m own))
           go (wrote i j w q k v e u) =
               (ap number e, omega (arith, ap count e, no-shorter openFrom most m t′ (a .count) w q m own))
+
+    -- ---- a message that was read by either rule of 5f, written
+    module _ (openFrom : ℕ) (most : openFrom ≤ 48) (ρ : DoubleRule) (m t : List ℕ) (a : Report) (t′ : List ℕ)
+        (g : ReadCall ρ ℓ L m t a t′) (z : a .number ≡ 0)
+        (o : List ℕ) (c : Report) (o′ : List ℕ) (h : WriteCall ℓ openFrom L m t′ (a .count) o c o′) where
+      some-has : (w : List ℕ) × RecordOf ℓ L m t′ (a .count) w
+      some-has =
+          let y = read-holding ρ m t a t′ g fits keeps z in
+          let x = message-main ρ ℓ m (y .record-of) (y .grammar) in (
+            x .0,
+            record {
+              lent = omega (arith, y .enough, y .counted, table-rows ρ keeps m t a t′ g);
+              record-of = y .record-of;
+              claimed = y .claimed;
+              grammar = x .1;
+            },
+          )
+
+      not-ten : c .number ≡ 10 → ⊥
+      not-ten d = go (write-cases ℓ openFrom L m t′ (a .count) o c o′ h)
+        where
+          go : WriteCases ℓ openFrom L m t′ (a .count) o c o′ h → ⊥
+          go (long-source i e u) = omega (arith, ap number e)
+          go (beyond i j e u) = omega (arith, some-has .1 .lent)
+          go (no-message i j q e u) = none-of openFrom most m t′ (a .count) q (some-has .0) (some-has .1)
+          go (too-long i j w q k e u) = omega (arith, ap number e)
+          go (too-few i j w q k v e u) = omega (arith, ap number e)
+          go (wrote i j w q k v e u) = omega (arith, ap number e)
+
+      back-main : c .number ≡ 0 → (t₂ : List ℕ) (a₂ : Report) (t₂′ : List ℕ)
+          → ReadCall Floats ℓ L (take (c .count) o′) t₂ a₂ t₂′ → a .count ≤ lentRows L t₂
+          → (a₂ .number ≡ 0) × SameRecord m (take (c .count) o′) (rowsOf L (a .count) t′) (rowsOf L (a₂ .count) t₂′)
+      back-main d t₂ a₂ t₂′ r l =
+          let w = written-back openFrom most m t′ (a .count) o c o′ h d .0 in
+          read-again m t′ (a .count) (take (c .count) o′) w t₂ a₂ t₂′ r l
+
+    -- ---- both rules of 5f
+    module _ (m t : List ℕ) (a : Report) (t′ : List ℕ) (g : ReadCall Floats ℓ L m t a t′)
+        (b : Report) (t″ : List ℕ) (h : ReadCall Thousandths ℓ L m t b t″) where
+      one-report : a ≡ b
+      one-report =
+          g .report
+          ∙ sym (report-in-thousandths m ℓ (read Floats ℓ (lentRows L t) m))
+          ∙ ap readNumbers (sym (read-in-thousandths m ℓ (lentRows L t)))
+          ∙ sym (h .report)
+
+      rows-told : a .number ≡ 0 → rowsOf L (a .count) t″ ≡ map (rowInThousandths m) (rowsOf L (a .count) t′)
+      rows-told z = go (read-cases Floats ℓ L m t a t′ g)
+        where
+          few : length m < 2 ^ 63
+          few = omega (arith, read-holding Floats m t a t′ g fits keeps z .short)
+
+          go : ReadCases Floats ℓ L m t a t′ g
+              → rowsOf L (a .count) t″ ≡ map (rowInThousandths m) (rowsOf L (a .count) t′)
+          go (misfit i e u) = absurd (omega (arith, ap number e))
+          go (faulty x o i e u) = absurd (omega (arith, located-numbered i .0, ap number e))
+          go (few-rows r x i e u) = absurd (omega (arith, ap number e))
+          go (whole r x i e q) =
+              let rs = rows (x .entries) in
+              let c : a .count ≡ length rs = ap count e in
+              let k : length (map (rowInThousandths m) rs) ≡ length rs = length-map rs (rowInThousandths m) in
+              let u = kept-holds Floats ℓ L keeps m t (g .bytes) few rs (length m) q in
+              let v = kept-holds Thousandths ℓ L keeps m t (h .bytes) few (map (rowInThousandths m) rs) (length m)
+              (read-in-thousandths m ℓ (lentRows L t) ∙ ap (resultInThousandths m ℓ) q) in
+              (λ i. rowsOf L (c i) (h .table i))
+              ∙ rw k at v
+              ∙ ap (map (rowInThousandths m)) (sym ((λ i. rowsOf L (c i) (g .table i)) ∙ u))
 
   -- ---- true copies
   module _ (openFrom : ℕ) (most : openFrom ≤ 48)
@@ -653,8 +724,8 @@ module _ (ℓ : Limits) (L : Layout) where
           cc,
       λ e. let x = written-back openFrom most s₁ t₁ n₁ o₁ a₁ o₁′ g₁ z₁ .0 .has in
           let y = written-back openFrom most s₂ t₂ n₂ o₂ a₂ o₂′ g₂ z₂ .0 .has in
-          let q = one-reading ℓ (take (a₂ .count) o₂′) (y .record-of) (x .record-of) (y .grammar)
-          (subst (λ (w : List ℕ). Message ℓ w (x .record-of)) e (x .grammar)) in
+          let q = one-reading Floats ℓ (take (a₂ .count) o₂′) (y .record-of) (x .record-of) (y .grammar)
+          (subst (λ (w : List ℕ). Message Floats ℓ w (x .record-of)) e (x .grammar)) in
           same-exactly s₁ s₂ (x .claimed) (rowsOf L n₂ t₂) .1
           (subst (ClaimAll (contentAt s₂) (rowsOf L n₂ t₂)) q (y .claimed)),
     )
@@ -662,11 +733,17 @@ module _ (ℓ : Limits) (L : Layout) where
 -- ---- the theorem
 pub theorem : demands.Theorem
 theorem ℓ fits openFrom most L keeps = record {
-  reading = λ m t a t′ g. of-read ℓ L m t a t′ g fits keeps;
+  reading = λ ρ m t a t′ g. of-read ℓ L ρ m t a t′ g fits keeps;
   writing = λ s t n o a o′ g. of-write ℓ L openFrom most s t n o a o′ g;
   shortening = λ s t n w x. of-shortest ℓ L fits keeps s t n w x;
   rewriting = λ m t a t′ g z. rewritten ℓ L fits keeps openFrom most m t a t′ g z;
+  rewriting-under = λ ρ m t a t′ g z o c o′ h. (
+    not-ten ℓ L fits keeps openFrom most ρ m t a t′ g z o c o′ h,
+    back-main ℓ L fits keeps openFrom most ρ m t a t′ g z o c o′ h,
+  );
+  telling = λ m t a t′ g b t″ h.
+      (one-report ℓ L fits keeps m t a t′ g b t″ h, rows-told ℓ L fits keeps m t a t′ g b t″ h);
   copying = λ s₁ t₁ n₁ o₁ a₁ o₁′ g₁ z₁ s₂ t₂ n₂ o₂ a₂ o₂′ g₂ z₂.
       copied ℓ L openFrom most s₁ t₁ n₁ o₁ a₁ o₁′ g₁ z₁ s₂ t₂ n₂ o₂ a₂ o₂′ g₂ z₂;
-  skipping = λ s t n m x. skippable ℓ m (x .record-of) (x .grammar) (contentAt s) (rowsOf L n t) (x .claimed);
+  skipping = λ s t n m x. skippable Floats ℓ m (x .record-of) (x .grammar) (contentAt s) (rowsOf L n t) (x .claimed);
 }

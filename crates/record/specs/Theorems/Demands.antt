@@ -1,13 +1,15 @@
 -- The demands, in their words, of calls that read and write whole messages. Model/Calls.antt has the terms; the proofs
 -- are in Called.antt.
-use mathlib.Core.{Path._≡_, Logic.{_↔_, _⊎_}, List.List}
+use mathlib.Core.{Path._≡_, Logic.{_↔_, _⊎_}, List.List, List.map}
 use Prim.Native.Nat.{ℕ, _^_, _≤_, _<_}
 use lib.ListN.{length, take, drop}
 use Rattle.flow.specs.RefusalNumbers.{wrong-length, cut, bytes-after, no-room, no-record}
 use Rattle.flow.specs.Flow.{Report}
+use Rattle.scalar.specs.Scalars.{DoubleRule, Floats, Thousandths}
 use Rattle.record.specs.Model.Items.{Item, Limits}
 use Rattle.record.specs.Model.Grammar.{Message}
 use Rattle.record.specs.Model.Answers.{Layout, lentRows, rowsOf}
+use Rattle.record.specs.Model.Terms.{rowInThousandths}
 use Rattle.record.specs.Model.Same.{SameRecord}
 use Rattle.record.specs.Model.Hops.{Skippable}
 use Rattle.record.specs.Model.Calls.{ReadCall, WriteCall, Keeps, Holding, RecordOf, ShortestOf}
@@ -16,23 +18,23 @@ abbrev answer : ℕ → ℕ → ℕ → Report
 answer number count place = record { number = number; count = count; place = place }
 
 -- of a call that reads: message, table, report, table afterwards
-pub record OfRead (ℓ : Limits) (L : Layout) (m t : List ℕ) (a : Report) (t′ : List ℕ) : Type 0 where
+pub record OfRead (ρ : DoubleRule) (ℓ : Limits) (L : Layout) (m t : List ℕ) (a : Report) (t′ : List ℕ) : Type 0 where
   -- demand 1: it accepts or gives one of the numbered refusals, and a refusal changes nothing
   pub numbered : a .number ≤ no-room
   pub unchanged : (a .number ≡ 0 → ⊥) → t′ ≡ t
   -- demand 2: it accepts exactly when the grammar reads the message as one record within the limits and the lent rows
   -- suffice
   pub accepted : (a .number ≡ 0)
-      ↔ ((r : List Item) × Message ℓ m r × (length m ≤ ℓ .longest) × (length r ≤ lentRows L t))
+      ↔ ((r : List Item) × Message ρ ℓ m r × (length m ≤ ℓ .longest) × (length r ≤ lentRows L t))
   -- and the table then holds that record
-  pub holds : a .number ≡ 0 → Holding ℓ L m t a t′
+  pub holds : a .number ≡ 0 → Holding ρ ℓ L m t a t′
   -- refusal 1 exactly when the message is empty or too long
   pub refused-1 : (a .number ≡ wrong-length) ↔ ((length m ≡ 0) ⊎ (ℓ .longest < length m))
   -- refusal 9 exactly when the message would be accepted, and has more rows than are lent; it counts them, and no other
   -- refusal counts
   pub refused-9 : (a .number ≡ no-room)
-      ↔ ((r : List Item) × Message ℓ m r × (length m ≤ ℓ .longest) × (lentRows L t < length r))
-  pub needed : a .number ≡ no-room → (r : List Item) → Message ℓ m r → a .count ≡ length r
+      ↔ ((r : List Item) × Message ρ ℓ m r × (length m ≤ ℓ .longest) × (lentRows L t < length r))
+  pub needed : a .number ≡ no-room → (r : List Item) → Message ρ ℓ m r → a .count ≡ length r
   pub counts-nothing : (a .number ≡ 0 → ⊥) → (a .number ≡ no-room → ⊥) → a .count ≡ 0
   -- 1 and 9 have no place; 2 has the message's length for its place, 3 to 8 a place inside the message
   pub no-place : (a .number ≡ wrong-length) ⊎ (a .number ≡ no-room) → a .place ≡ 0
@@ -72,23 +74,37 @@ pub record OfWrite (ℓ : Limits) (openFrom : ℕ) (L : Layout) (s t : List ℕ)
 -- of both, demand 3 over demand 2's reading: a shortest message is accepted and reads as the same record, and no
 -- accepted message that does is shorter
 pub record OfShortest (ℓ : Limits) (L : Layout) (s t : List ℕ) (n : ℕ) (w : List ℕ) : Type 0 where
-  pub written-reads : (t₂ : List ℕ) (a₂ : Report) (t₂′ : List ℕ) → ReadCall ℓ L w t₂ a₂ t₂′ → n ≤ lentRows L t₂
+  pub written-reads : (t₂ : List ℕ) (a₂ : Report) (t₂′ : List ℕ) → ReadCall Floats ℓ L w t₂ a₂ t₂′ → n ≤ lentRows L t₂
       → (a₂ .number ≡ 0) × SameRecord s w (rowsOf L n t) (rowsOf L (a₂ .count) t₂′)
-  pub no-shorter : (m tm : List ℕ) (am : Report) (tm′ : List ℕ) → ReadCall ℓ L m tm am tm′ → am .number ≡ 0
+  pub no-shorter : (m tm : List ℕ) (am : Report) (tm′ : List ℕ) → ReadCall Floats ℓ L m tm am tm′ → am .number ≡ 0
       → SameRecord s m (rowsOf L n t) (rowsOf L (am .count) tm′) → length w ≤ length m
 
 -- ---- the theorem
 -- of the limits ℓ, the threshold openFrom and tables in the layout L
 pub record Demanded (ℓ : Limits) (openFrom : ℕ) (L : Layout) : Type 0 where
-  pub reading : (m t : List ℕ) (a : Report) (t′ : List ℕ) → ReadCall ℓ L m t a t′ → OfRead ℓ L m t a t′
+  pub reading : (ρ : DoubleRule) (m t : List ℕ) (a : Report) (t′ : List ℕ) → ReadCall ρ ℓ L m t a t′
+      → OfRead ρ ℓ L m t a t′
   pub writing : (s t : List ℕ) (n : ℕ) (o : List ℕ) (a : Report) (o′ : List ℕ) → WriteCall ℓ openFrom L s t n o a o′
       → OfWrite ℓ openFrom L s t n o a o′
   pub shortening : (s t : List ℕ) (n : ℕ) (w : List ℕ) → ShortestOf ℓ L s t n w → OfShortest ℓ L s t n w
   -- read then write: the rows read of a message are accepted, given as many bytes as it has, and take no more (the same
   -- record: written-back, written-reads)
-  pub rewriting : (m t : List ℕ) (a : Report) (t′ : List ℕ) → ReadCall ℓ L m t a t′ → a .number ≡ 0
+  pub rewriting : (m t : List ℕ) (a : Report) (t′ : List ℕ) → ReadCall Floats ℓ L m t a t′ → a .number ≡ 0
       → (o : List ℕ) (c : Report) (o′ : List ℕ) → WriteCall ℓ openFrom L m t′ (a .count) o c o′ → length m ≤ length o
       → (c .number ≡ 0) × (c .count ≤ length m)
+  -- request 2026-11: read by either rule of 5f, then write. The rows are a record, so that 10 is not given; what is
+  -- written reads back, by the main rule, as the same record
+  pub rewriting-under : (ρ : DoubleRule) (m t : List ℕ) (a : Report) (t′ : List ℕ) → ReadCall ρ ℓ L m t a t′
+      → a .number ≡ 0 → (o : List ℕ) (c : Report) (o′ : List ℕ) → WriteCall ℓ openFrom L m t′ (a .count) o c o′
+      → (c .number ≡ no-record → ⊥)
+      × (c .number ≡ 0 → (t₂ : List ℕ) (a₂ : Report) (t₂′ : List ℕ) → ReadCall Floats ℓ L (take (c .count) o′) t₂ a₂ t₂′
+      → a .count ≤ lentRows L t₂
+      → (a₂ .number ≡ 0) × SameRecord m (take (c .count) o′) (rowsOf L (a .count) t′) (rowsOf L (a₂ .count) t₂′))
+  -- request 2026-11: both rules of 5f give one report, and an accepted message the same rows, but for the bits of its
+  -- doubles at 5f
+  pub telling : (m t : List ℕ) (a : Report) (t′ : List ℕ) → ReadCall Floats ℓ L m t a t′
+      → (b : Report) (t″ : List ℕ) → ReadCall Thousandths ℓ L m t b t″
+      → (a ≡ b) × (a .number ≡ 0 → rowsOf L (a .count) t″ ≡ map (rowInThousandths m) (rowsOf L (a .count) t′))
   -- true copies: two tables hold the same record exactly when the messages written are the same bytes
   pub copying : (s₁ t₁ : List ℕ) (n₁ : ℕ) (o₁ : List ℕ) (a₁ : Report) (o₁′ : List ℕ)
       → WriteCall ℓ openFrom L s₁ t₁ n₁ o₁ a₁ o₁′ → a₁ .number ≡ 0

@@ -16,8 +16,9 @@ use Rattle.scalar.specs.declared.Encoding.{Encoding}
 use Rattle.scalar.specs.declared.Encoding.the-variants.{Utf8, Binary}
 use Rattle.scalar.specs.Scalars.{stringFrom, stringAt, Num, Str}
 use Rattle.scalar.specs.Answers.{contentRead}
-use Rattle.scalar.specs.Grammar.{String, Spelt, a-string}
+use Rattle.scalar.specs.Grammar.{String, a-string}
 use Rattle.scalar.specs.TextLaws.{string-makes}
+use Rattle.scalar.specs.Scalars.{DoubleRule, Floats}
 use Rattle.record.specs.Model.Items.{Leaf, UntypedList, TypedList, UntypedMap, TypedMap, Object, Reference, Item}
 use Rattle.record.specs.Model.Items.{Val, Definition, ClassName, FieldName, TypeName, TypeNumber, Known, start}
 use Rattle.record.specs.Model.Items.{Limits}
@@ -30,7 +31,7 @@ use Rattle.record.specs.Model.Answers.{judged, shortestOf, Wrote}
 use Rattle.record.specs.Model.Terms.{write, Has, Accepted, Reads}
 use Rattle.record.specs.Laws.Meaning.{message-all}
 use Rattle.record.specs.Theorems.ItemTheorems.{no-longer, reads-back}
-use Rattle.record.specs.Laws.Forest.{Stands, Opens}
+use Rattle.record.specs.Laws.Forest.{Stands, SpeltByEither, Opens}
 use Rattle.record.specs.Laws.Places.{EntriesOpen, places}
 use Rattle.record.specs.Laws.Spans.{own-fifths}
 use Rattle.flow.specs.Flow.{onSome}
@@ -85,11 +86,12 @@ string-at k m p cs x =
         → contentRead (byteAt (stringFrom {C = One} {I = One} k) (tt {0}) (min p (length m)) (drop p m)) ≡ some cs
     go y = rw (x .2, y .1) refl
 
-spelt-string : (k : Encoding) (cs s : List ℕ) → Stands (λ w. Spelt w (Str k cs)) s → Stands (λ w. String k w cs) s
+spelt-string : (k : Encoding) (cs s : List ℕ) → Stands (λ w. SpeltByEither w (Str k cs)) s
+    → Stands (λ w. String k w cs) s
 spelt-string k cs s x = (x .0, x .1, x .2, go (x .3))
   where
-    go : {w : List ℕ} → Spelt w (Str k cs) → String k w cs
-    go (a-string y) = y
+    go : {w : List ℕ} → SpeltByEither w (Str k cs) → String k w cs
+    go (ρ, a-string y) = y
 
 content-is : (m : List ℕ) (p e : ℕ) (i : Item) → Opens (drop p m) i → contentAt m (itemRow p e i .kind) p
     ≡ some (contentOf i)
@@ -128,37 +130,40 @@ entries-claim m k (e ∷ es) h =
     }) (entries-claim m (suc k) es (h .2))
 
 -- a message's own rows claim the record that it reads as
-module _ (ℓ : Limits) (m : List ℕ) (bytes : Bytes m) (n : ℕ) (es : List (Entry Item)) (c : Known)
-    (e : message ℓ start 0 m ≡ Done n tt es c) where
+module _ (ρ : DoubleRule) (ℓ : Limits) (m : List ℕ) (bytes : Bytes m) (n : ℕ) (es : List (Entry Item)) (c : Known)
+    (e : message ρ ℓ start 0 m ≡ Done n tt es c) where
   pub own-rows : ClaimAll (contentAt m) (rows es) (items es)
-  own-rows = record { each = entries-claim m 0 es (places ℓ m bytes n es c e); fifths = own-fifths ℓ m bytes n es c e }
+  own-rows = record
+      { each = entries-claim m 0 es (places ρ ℓ m bytes n es c e); fifths = own-fifths ρ ℓ m bytes n es c e }
 
   pub own-record : recordOf (contentAt m) (rows es) ≡ some (items es)
   own-record = all-claimed (contentAt m) own-rows
 
-  pub own-reads : Reads ℓ m (items es)
+  pub own-reads : Reads ρ ℓ m (items es)
   own-reads = record { bytes = bytes; accepted = rw e refl }
 
 -- ---- what the writer makes of a message's own rows
 -- an accepted message is not longer than the ceiling
-pub judged-done : (ℓ : Limits) (m : List ℕ) (n : ℕ) (es : List (Entry Item)) (c : Known) → judged ℓ m ≡ Done n tt es c
-    → (length m ≤ ℓ .longest) × (message ℓ start 0 m ≡ Done n tt es c)
+pub judged-done : (ρ : DoubleRule) (ℓ : Limits) (m : List ℕ) (n : ℕ) (es : List (Entry Item)) (c : Known)
+    → judged ρ ℓ m ≡ Done n tt es c
+    → (length m ≤ ℓ .longest) × (message ρ ℓ start 0 m ≡ Done n tt es c)
 unfolding judged
-judged-done ℓ [] n es c e = absurd (let z : _≡_ {A = ℕ} 0 1 = cc in omega arith)
-judged-done ℓ (b ∷ m) n es c e =
+judged-done ρ ℓ [] n es c e = absurd (let z : _≡_ {A = ℕ} 0 1 = cc in omega arith)
+judged-done ρ ℓ (b ∷ m) n es c e =
     pick-either (λ (o : Outcome Known Item One). o ≡ Done n tt es c → (length (b ∷ m) ≤ ℓ .longest)
-    × (message ℓ start 0 (b ∷ m) ≡ Done n tt es c)) (ltb (ℓ .longest) (length (b ∷ m)))
+    × (message ρ ℓ start 0 (b ∷ m) ≡ Done n tt es c)) (ltb (ℓ .longest) (length (b ∷ m)))
     (λ t q. absurd (let z : _≡_ {A = ℕ} 0 1 = cc in omega arith)) (λ t q. (
       ltb-false (ℓ .longest) (length (b ∷ m)) t,
       q,
     )) e
 
-pub done-judged : (ℓ : Limits) (m : List ℕ) (n : ℕ) (es : List (Entry Item)) (c : Known) → length m ≤ ℓ .longest
-    → message ℓ start 0 m ≡ Done n tt es c
-    → judged ℓ m ≡ Done n tt es c
+pub done-judged : (ρ : DoubleRule) (ℓ : Limits) (m : List ℕ) (n : ℕ) (es : List (Entry Item)) (c : Known)
+    → length m ≤ ℓ .longest
+    → message ρ ℓ start 0 m ≡ Done n tt es c
+    → judged ρ ℓ m ≡ Done n tt es c
 unfolding judged message
-done-judged ℓ [] n es c l e = absurd (let z : _≡_ {A = ℕ} 0 1 = cc in omega arith)
-done-judged ℓ (b ∷ m) n es c l e = pick-false _ _ (le-ltb (ℓ .longest) (length (b ∷ m)) l) ∙ e
+done-judged ρ ℓ [] n es c l e = absurd (let z : _≡_ {A = ℕ} 0 1 = cc in omega arith)
+done-judged ρ ℓ (b ∷ m) n es c l e = pick-false _ _ (le-ltb (ℓ .longest) (length (b ∷ m)) l) ∙ e
 
 module _ (ℓ : Limits) (openFrom : ℕ) (most : openFrom ≤ 48) where
   -- the message m, accepted with the entries es, is written anew from its rows
@@ -170,53 +175,56 @@ module _ (ℓ : Limits) (openFrom : ℕ) (most : openFrom ≤ 48) where
     -- it is accepted, and has the same record
     pub entries : List (Entry Item)
     pub known : Known
-    pub reread : judged ℓ written ≡ Done (length written) tt entries known
+    pub reread : judged Floats ℓ written ≡ Done (length written) tt entries known
     pub same-record : recordOf (contentAt written) (rows entries) ≡ recordOf (contentAt m) (rows es)
     -- no message that has the same record is shorter
     pub shortest : (w : List ℕ) → Bytes w → (n : ℕ) (fs : List (Entry Item)) (c : Known)
-        → message ℓ start 0 w ≡ Done n tt fs c → recordOf (contentAt w) (rows fs) ≡ recordOf (contentAt m) (rows es)
+        → message Floats ℓ start 0 w ≡ Done n tt fs c
+        → recordOf (contentAt w) (rows fs) ≡ recordOf (contentAt m) (rows es)
         → length written ≤ length w
 
   -- demand 3: so is every message for which none of refusals 1 to 8 is given
-  pub rewrites : (m : List ℕ) → Bytes m → (n : ℕ) (es : List (Entry Item)) (c : Known) → judged ℓ m ≡ Done n tt es c
+  pub rewrites : (m : List ℕ) → Bytes m → (n : ℕ) (es : List (Entry Item)) (c : Known)
+      → judged Floats ℓ m ≡ Done n tt es c
       → Rewritten m es
   unfolding write shortestOf
-  rewrites m bytes n es c e = go (message ℓ start 0 w) refl (back .accepted)
+  rewrites m bytes n es c e = go (message Floats ℓ start 0 w) refl (back .accepted)
     where
-      done : (length m ≤ ℓ .longest) × (message ℓ start 0 m ≡ Done n tt es c)
-      done = judged-done ℓ m n es c e
+      done : (length m ≤ ℓ .longest) × (message Floats ℓ start 0 m ≡ Done n tt es c)
+      done = judged-done Floats ℓ m n es c e
 
       own : recordOf (contentAt m) (rows es) ≡ some (items es)
-      own = own-record ℓ m bytes n es c (done .1)
+      own = own-record Floats ℓ m bytes n es c (done .1)
 
       short : (w : List ℕ) × (spell ℓ openFrom (items es) ≡ some w) × (length w ≤ length m)
-      short = no-longer ℓ openFrom most m (items es) (own-reads ℓ m bytes n es c (done .1))
+      short = no-longer ℓ openFrom most m (items es) (own-reads Floats ℓ m bytes n es c (done .1))
 
       w : List ℕ
       w = short .0
 
-      back : Reads ℓ w (items es)
+      back : Reads Floats ℓ w (items es)
       back = reads-back ℓ openFrom most (items es) w (short .1)
 
       fits : length w ≤ ℓ .longest
       fits = omega (arith, short .2, done .0)
 
       least : (v : List ℕ) → Bytes v → (k : ℕ) (fs : List (Entry Item)) (c : Known)
-          → message ℓ start 0 v ≡ Done k tt fs c → recordOf (contentAt v) (rows fs) ≡ recordOf (contentAt m) (rows es)
+          → message Floats ℓ start 0 v ≡ Done k tt fs c
+          → recordOf (contentAt v) (rows fs) ≡ recordOf (contentAt m) (rows es)
           → length w ≤ length v
       least v b k fs c q same =
-          let a = own-record ℓ v b k fs c q in
+          let a = own-record Floats ℓ v b k fs c q in
           let is : items fs ≡ items es = cc (own) in
-          let p = no-longer ℓ openFrom most v (items fs) (own-reads ℓ v b k fs c q) in
+          let p = no-longer ℓ openFrom most v (items fs) (own-reads Floats ℓ v b k fs c q) in
           let i = p .1 in
           let j = short .1 in
           let x : p .0 ≡ w = cc in
           omega (arith, p .2, ap length x)
 
-      go : (o : Outcome Known Item One) → message ℓ start 0 w ≡ o → Accepted (items es) o → Rewritten m es
+      go : (o : Outcome Known Item One) → message Floats ℓ start 0 w ≡ o → Accepted (items es) o → Rewritten m es
       go (Fault x o) q a = absurd a
       go (Done k tt fs c′) q a =
-          let all = message-all ℓ w (back .bytes) k tt fs c′ q in
+          let all = message-all Floats ℓ w (back .bytes) k tt fs c′ q in
           record {
             written = w;
             wrote = λ lent l. pick-false _ _ (le-ltb (ℓ .longest) (length m) (done .0))
@@ -226,7 +234,8 @@ module _ (ℓ : Limits) (openFrom : ℕ) (most : openFrom ≤ 48) where
             entries = fs;
             known = c′;
             reread =
-                done-judged ℓ w (length w) fs c′ fits (subst (λ (z : ℕ). message ℓ start 0 w ≡ Done z tt fs c′) all q);
-            same-record = own-record ℓ w (back .bytes) k fs c′ q ∙ ap {B = Option (List Item)} some a ∙ sym own;
+                done-judged Floats ℓ w (length w) fs c′ fits
+                (subst (λ (z : ℕ). message Floats ℓ start 0 w ≡ Done z tt fs c′) all q);
+            same-record = own-record Floats ℓ w (back .bytes) k fs c′ q ∙ ap {B = Option (List Item)} some a ∙ sym own;
             shortest = least;
           }

@@ -5,7 +5,9 @@ use Prim.Native.Nat.{ℕ, zero, suc}
 use lib.Count.{leadingZeros}
 use lib.ListN.{length, replicate}
 use Rattle.flow.specs.Flow.{pick, Done, Fault}
-use Rattle.scalar.specs.Scalars.{scaled, whole, magnitude, widened, value, formsOf, formAt, shortest}
+use lib.Ieee as ieee
+use Rattle.scalar.specs.Scalars.{Floats, Thousandths, thousandth, thousandths, scaled, whole, magnitude, widened}
+use Rattle.scalar.specs.Scalars.{value, formsOf, formAt, shortest}
 use Rattle.scalar.specs.Scalars.{partHead, lastHeads, charLead, paired, stringFrom, stringAt, longestChunk, content}
 use Rattle.scalar.specs.Scalars.{shortestString, scalarFrom, intFrom, textFrom, shortestScalar}
 use Rattle.scalar.specs.Guesses.{wholeSize, wholeGuess, narrowMagnitude, narrowed, guess}
@@ -21,7 +23,7 @@ use Rattle.record.specs.Laws.Claimed.{ofKind, itemAt, ended}
 
 -- ---- the base
 abbrev pub baseRead : (lent : ℕ) → List ℕ → ReadResult
-baseRead = read base
+baseRead = read Floats base
 
 abbrev pub baseWrite : (lent : ℕ) → List ℕ → List Row → WriteResult
 baseWrite = write base baseOpenFrom
@@ -47,7 +49,7 @@ rewritten (Wrote w) = Becomes w
 rewritten (Refused x n) = IsRefused x 0
 
 abbrev pub shortened : List ℕ → Shortened
-shortened m = elim (judged base m) [
+shortened m = elim (judged Floats base m) [
   | Done n u es c ↦ rewritten (baseWrite (length m) m (rows es))
   | Fault x o ↦ IsRefused x o
 ]
@@ -433,7 +435,7 @@ fifths-hold = refl
 
 -- lengths: a message too long for the ceiling, fewer rows lent than needed; a source too long, a shortest message too
 -- long, fewer bytes lent than needed
-pub lengths : (read (baseTo 3) 9 (0x7b ∷ 0x90 ∷ 0x90 ∷ 0x90 ∷ []) ≡ Refuse 1 0 0)
+pub lengths : (read Floats (baseTo 3) 9 (0x7b ∷ 0x90 ∷ 0x90 ∷ 0x90 ∷ []) ≡ Refuse 1 0 0)
     × (baseRead 1 (0x79 ∷ 0x90 ∷ []) ≡ Refuse 9 2 0)
     × (write (baseTo 1) baseOpenFrom 9 (0x90 ∷ 0x90 ∷ []) [] ≡ Refused 1 0)
     × (write (baseTo 1) baseOpenFrom 9 [] (row 3 0 48 0 1 ∷ []) ≡ Refused 1 0)
@@ -444,3 +446,21 @@ unfolding judged message valueFrom plainFrom plainBy headOf definition typeFrom 
     objectCode shortestScalar shortest guess wholeGuess wholeSize narrowed narrowMagnitude shortestString content
     longestChunk
 lengths = (refl, refl, refl, refl, refl)
+
+-- ---- 2026-11, by the rule of thousandths: 1500 of them are 1.5, and -1 is -0.001; 0 is +0.0; beside them a double of
+-- another form, and the same message by the main rule
+abbrev readInThousandths : List ℕ → ReadResult
+readInThousandths m = read Thousandths base 9 m
+
+pub thousandths-read :
+    (readInThousandths (0x5f ∷ 0x00 ∷ 0x00 ∷ 0x05 ∷ 0xdc ∷ []) ≡ Accept (row 5 0 0x3ff8_0000_0000_0000 0 1 ∷ []) 5)
+    × (readInThousandths (0x5f ∷ 0xff ∷ 0xff ∷ 0xff ∷ 0xff ∷ []) ≡ Accept (row 5 0 0xbf50_624d_d2f1_a9fc 0 1 ∷ []) 5)
+    × (readInThousandths (0x5f ∷ 0x00 ∷ 0x00 ∷ 0x00 ∷ 0x00 ∷ []) ≡ Accept (row 5 0 0 0 1 ∷ []) 5)
+    × (readInThousandths (0x7a ∷ 0x5d ∷ 0x02 ∷ 0x5f ∷ 0x00 ∷ 0x00 ∷ 0x05 ∷ 0xdc ∷ [])
+    ≡ Accept (row 9 0 2 0 3 ∷ row 5 1 0x4000_0000_0000_0000 0 2 ∷ row 5 3 0x3ff8_0000_0000_0000 0 3 ∷ []) 8)
+    × (readInThousandths (0x5f ∷ 0x00 ∷ 0x00 ∷ 0x05 ∷ []) ≡ Refuse 2 0 4)
+    × (baseRead 9 (0x5f ∷ 0x41 ∷ 0x44 ∷ 0x00 ∷ 0x00 ∷ []) ≡ Accept (row 5 0 0x4028_8000_0000_0000 0 1 ∷ []) 5)
+unfolding judged message valueFrom plainFrom plainBy headOf definition typeFrom pick scalarFrom intFrom textFrom
+    stringFrom formsOf formAt value whole widened magnitude scaled leadingZeros partHead lastHeads charLead
+    thousandths thousandth ieee.ofBits ieee.mul ieee.ofInt ieee.round ieee.toBits
+thousandths-read = (refl, refl, refl, refl, refl, refl)
