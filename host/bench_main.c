@@ -1,13 +1,14 @@
 /*
  * Times the library and the plain C reader and writer of baseline/, or an older library that stands in for them (make
- * bench_before), side by side on the same messages: reading, writing the table that was read, and both in one. Each has a
- * table of its own, as an older library may lay out its rows otherwise.
+ * bench_before), side by side on the same messages: reading, writing the table that was read, both in one, and the
+ * length of the shortest message. Each has a table of its own, as an older library may lay out its rows otherwise.
  *
- *     bench                               prints a table; a ratio above 1 says that the library is faster
- *     bench -i INPUT JOB WHO TIMES        does one job so many times; JOB is read, write or rewrite, WHO library or baseline
+ *     bench                          prints a table; a ratio above 1 says that the library is faster
+ *     bench -i INPUT JOB WHO TIMES   does one job so many times; JOB is read, write, rewrite or length, WHO library or
+ *                                    baseline
  *
  * The second form is for counting instructions, as with valgrind --tool=callgrind: the counts for two values of TIMES
- * differ by what the calls take.
+ * differ by what the calls take. Compiled with NO_LENGTH it leaves out lengths, which an older library may not have.
  */
 #include <stdio.h>
 #include <stdlib.h>
@@ -16,8 +17,6 @@
 #include "baseline.h"
 #include "bench.h"
 #include "hessian.h"
-
-enum { JOBS = 3 };
 
 const char *const bench_name = "bench";
 
@@ -57,10 +56,30 @@ static uint64_t rewrite_by_baseline(void)
     return write_by_baseline();
 }
 
-static call *const jobs[JOBS][2] = {{read_by_library, read_by_baseline},
-                                    {write_by_library, write_by_baseline},
-                                    {rewrite_by_library, rewrite_by_baseline}};
-static const char *const job_names[JOBS] = {"read", "write", "rewrite"};
+#ifndef NO_LENGTH
+static uint64_t length_by_library(void)
+{
+    return hessian_shortest_length(message, message_len);
+}
+
+static uint64_t length_by_baseline(void)
+{
+    return baseline_shortest_length(message, message_len);
+}
+#endif
+
+static call *const jobs[][2] = {
+    {read_by_library, read_by_baseline},
+    {write_by_library, write_by_baseline},
+    {rewrite_by_library, rewrite_by_baseline},
+#ifndef NO_LENGTH
+    {length_by_library, length_by_baseline},
+#endif
+};
+
+enum { JOBS = sizeof jobs / sizeof jobs[0] };
+
+static const char *const job_names[] = {"read", "write", "rewrite", "length"};
 static const char *const who_names[2] = {"library", "baseline"};
 
 /* Builds an input and fills the tables with its rows. */

@@ -6,7 +6,7 @@
  * CASES and EXPECTED are stdin and stdout of record_vectors; crates/record_vectors/vectors.py says what their lines
  * mean. After them come COUNT random messages, valid and damaged, from SEED. Each is read by both rules of 5f: library
  * and baseline get the same message and the same table between guard bytes, at any alignment. Checked is that
- *   - answer and checksum are those of EXPECTED;
+ *   - answer, lengths and checksum are those of EXPECTED;
  *   - both readers give the same answer and leave the same bytes;
  *   - both rules give the same answer and the same rows, but for the bits of doubles at a 5f;
  *   - the fifth numbers of accepted rows are those that kinds and counts give, and lead through the record;
@@ -29,6 +29,8 @@
 #ifdef SELF
 #define hessian_read baseline_read
 #define hessian_read_thousandths baseline_read_thousandths
+#define hessian_shortest_length baseline_shortest_length
+#define hessian_shortest_length_thousandths baseline_shortest_length_thousandths
 #endif
 
 enum {
@@ -151,8 +153,8 @@ static bool same_but_doubles(const uint8_t *source, const uint8_t *one, const ui
     return true;
 }
 
-/* The line of EXPECTED as it is by these results. */
-static void line_of(const struct result *results, size_t lent, char *line, size_t size)
+/* The line of EXPECTED as it is by these results and lengths. */
+static void line_of(const struct result *results, const uint64_t *lengths, size_t lent, char *line, size_t size)
 {
     size_t used = 0;
     unsigned rule;
@@ -160,10 +162,12 @@ static void line_of(const struct result *results, size_t lent, char *line, size_
     for (rule = 0; rule < RULES; rule++) {
         const struct result *r = &results[rule];
 
-        used += (size_t)snprintf(line + used, size - used, "%s%u %zu %zu %" PRIu64 " ok", rule > 0 ? "; " : "",
+        used += (size_t)snprintf(line + used, size - used, "%u %zu %zu %" PRIu64 " %" PRIu64 " ok; ",
                                  number_of(r->answer), count_of(r->answer), place_of(r->answer),
+                                 number_of(r->answer) == 0 ? lengths[rule] : 0,
                                  checksum(lent_bytes(&r->table), lent));
     }
+    snprintf(line + used, size - used, "%" PRIu64 " %" PRIu64, lengths[FLOAT], lengths[THOUSANDTHS]);
 }
 
 /*
@@ -174,6 +178,7 @@ static uint64_t try_message(const uint8_t *source, size_t len, size_t table_len,
 {
     struct result results[RULES] = {try_rule(FLOAT, source, len, table_len),
                                     try_rule(THOUSANDTHS, source, len, table_len)};
+    uint64_t lengths[RULES] = {hessian_shortest_length(source, len), hessian_shortest_length_thousandths(source, len)};
     const uint8_t *one = lent_bytes(&results[FLOAT].table), *two = lent_bytes(&results[THOUSANDTHS].table);
     uint64_t answer = results[FLOAT].answer;
     size_t rows = number_of(answer) == 0 ? count_of(answer) : 0;
@@ -185,7 +190,7 @@ static uint64_t try_message(const uint8_t *source, size_t len, size_t table_len,
         show_difference("the rules give different rows", source, len, table_len);
     if (rows > 0 && !ends_right(one, rows))
         show_difference("a fifth number is wrong", source, len, table_len);
-    line_of(results, lent, line, sizeof line);
+    line_of(results, lengths, lent, line, sizeof line);
     if (expected != NULL && strcmp(line, expected) != 0) {
         snprintf(what, sizeof what, "library %s, expected %.200s", line, expected);
         show_difference(what, source, len, table_len);

@@ -4,7 +4,7 @@ reads it; and the record that a document is.
 import base64
 import struct
 
-from subcommand import hessian_format, numbered_rows, samples
+from subcommand import hessian_format, numbered_rows, samples, shortest_form
 
 KINDS = ["null", "false", "true", "int", "long", "double", "date", "text", "bytes", "list", "typed list", "map",
          "typed map", "object", "reference"]
@@ -80,9 +80,8 @@ class Reading:
         return {**({"defines": defines} if defines else {}), **members}, self.rows[i][4]
 
     def document(self, name):
-        form = shortest(self.message, self.thousandths)
         return {"state": "accepted", "name": name, "bytes": len(self.message), "rows": len(self.rows),
-                "shortest": None if form is None else len(form), "record": self.value(0)[0],
+                "shortest": len(shortest_form(self.message, self.rows)), "record": self.value(0)[0],
                 **({"thousandths": True} if self.thousandths else {})}
 
 
@@ -135,10 +134,8 @@ def build_holder(value):
 
 
 def shortest(message, thousandths=False):
-    """The shortest form of a record, by the main rule; None where it is too long."""
-    rows = numbered_rows(message, thousandths)
-    form = hessian_format.written(message, rows, len(rows))
-    return None if form == hessian_format.LENGTH else form
+    """The shortest form of a record, by the main rule."""
+    return shortest_form(message, numbered_rows(message, thousandths))
 
 
 def without_dates(value):

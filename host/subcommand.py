@@ -80,6 +80,13 @@ def numbered_rows(message, thousandths=False):
     return [counted_row(message, row) for row in rows] if thousandths else rows
 
 
+def shortest_form(message, rows):
+    """The shortest message of the rows of a message, however long it is."""
+    walk = hessian_format.Walk(message, rows)
+    walk.value(hessian_format.MOST_OPEN)
+    return b"".join(walk.pieces)
+
+
 def vectors(most=None):
     """The messages of record_vectors, each once; those of at most so many bytes."""
     found = {}

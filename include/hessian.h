@@ -1,12 +1,12 @@
 /*
- * Hessian 2.0 records: read a message into a table of rows, write a table as its shortest message, and copy out the
- * texts and byte strings that rows name. docs/FORMAT.md has the format and every rule.
+ * Hessian 2.0 records: read a message into a table of rows, write a table as its shortest message, say how long that
+ * is, and copy out the texts and byte strings that rows name. docs/FORMAT.md has the format and every rule.
  *
  * Every function may be handed any bytes. It ends, touches nothing beyond what it was lent, and answers a number, a
- * count and a place. A refusal changes nothing that was lent. The functions keep no state, use no heap, and may be
- * called from several threads at once. Pointers need no alignment; one may be null where its length is 0. What is read
- * and what is written may not overlap. A call takes less than 32 KiB of stack, as measured with 32 open containers. The
- * library is compiled for x86-64.
+ * count and a place, or a length. A refusal changes nothing that was lent. The functions keep no state, use no heap,
+ * and may be called from several threads at once. Pointers need no alignment; one may be null where its length is 0.
+ * What is read and what is written may not overlap. A call takes less than 32 KiB of stack, as measured with 32 open
+ * containers. The library is compiled for x86-64.
  */
 #ifndef HESSIAN_H
 #define HESSIAN_H
@@ -18,7 +18,7 @@
 extern "C" {
 #endif
 
-#define HESSIAN_VERSION "1.2"
+#define HESSIAN_VERSION "1.3"
 
 /* The longest message, in bytes. A message has no more rows than bytes, so a table of so many rows is always enough. */
 #define HESSIAN_LONGEST 262144u
@@ -117,12 +117,27 @@ uint64_t hessian_read_thousandths(const uint8_t *message, size_t message_len, ui
 uint64_t hessian_write(const uint8_t *source, size_t source_len, const uint8_t *table, size_t table_len, uint64_t rows,
                        uint8_t *output, size_t output_len);
 
+/*
+ * The length of the shortest message of the record that a message holds: the bytes that hessian_write would write of
+ * what hessian_read reads. Rewriting the message saves message_len less this, which is never below 0. The answer is a
+ * plain number: at least 1 where the message is accepted, and 0 where hessian_read, with rows enough, refuses it. No
+ * table is needed.
+ */
+uint64_t hessian_shortest_length(const uint8_t *message, size_t message_len);
+
+/*
+ * The same for messages that hessian_read_thousandths reads: the bytes that hessian_write, which has the main rule
+ * alone, would write of those rows. They may be more than the message has, nearly twice as many, and more than
+ * HESSIAN_LONGEST: then hessian_write refuses the rows (HESSIAN_LENGTH), and the answer is this length all the same.
+ */
+uint64_t hessian_shortest_length_thousandths(const uint8_t *message, size_t message_len);
+
 /* The parts of an answer of hessian_read, hessian_read_thousandths and hessian_write. */
 #define HESSIAN_NUMBER(answer) ((unsigned)((uint64_t)(answer) >> 48))
 #define HESSIAN_COUNT(answer) ((size_t)((uint64_t)(answer) >> 24 & 0xffffffu))
 #define HESSIAN_PLACE(answer) ((size_t)((uint64_t)(answer) & 0xffffffu))
 
-/* An answer of the other functions. */
+/* The answer of hessian_content. */
 typedef struct {
     uint64_t number; /* enum hessian_refusal */
     uint64_t count;

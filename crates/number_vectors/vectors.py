@@ -2,9 +2,9 @@
 """Writes the cases of number_vectors, stdin, and what it is to print, stdout: `python3 vectors.py` rewrites both, and
 with `--to FOLDER` writes them there.
 
-What a form stands for says ../vectors/hessian_format.py. The shortest form of a value is sought here among all forms
-that stand for it, those of up to three bytes decoded one by one, and held to the one that is said there. The shapes of
-stdin's and stdout's lines are described in src/main.rt.
+What a form stands for says ../vectors/hessian_format.py. The shortest form of a value, and so the length that reading any
+form of it tells, is sought here among all forms that stand for it, those of up to three bytes decoded one by one, and
+held to the one that is said there. The shapes of stdin's and stdout's lines are described in src/main.rt.
 """
 import datetime
 import math
@@ -36,13 +36,13 @@ def read(sort, message, at):
 
 
 # ---- the shortest form
-# of each sort, the shortest of all forms of up to three bytes
+# of each sort and value, all forms of up to three bytes, the shorter first
 SHORT = {sort: {} for sort in range(DATE + 1)}
 for kind, first, last, follow, worth in sorted(NUMBER_FORMS, key=lambda form: form[3]):
     for code in range(first, last + 1) if follow <= 2 else ():
         for n in range(256**follow):
             rest = n.to_bytes(follow, "big")
-            SHORT[kind].setdefault(worth(code, rest) % WORD, bytes([code]) + rest)
+            SHORT[kind].setdefault(worth(code, rest) % WORD, []).append(bytes([code]) + rest)
 
 
 def nearest_float(value):
@@ -71,12 +71,15 @@ def longer(sort, value):
     return []
 
 
+def forms_of(sort, value):
+    """All forms of the value."""
+    forms = SHORT[sort].get(value, []) + longer(sort, value)
+    return [f for f in forms if read(sort, f, 0) == ("value", value, len(f))]
+
+
 def shortest(sort, value):
     """The bytes of the shortest form, or None."""
-    forms = [SHORT[sort][value]] if value in SHORT[sort] else []
-    forms += longer(sort, value)
-    forms = [f for f in forms if read(sort, f, 0) == ("value", value, len(f))]
-    form = min(forms, key=len, default=b"")
+    form = min(forms_of(sort, value), key=len, default=b"")
     assert form == number_form(sort, value), (sort, value)
     return form or None
 
@@ -100,6 +103,13 @@ def read_at(sort, message, at):
 
 def write_case(sort, value):
     add(WRITE, sort, 0, (value % WORD).to_bytes(8, "big"))
+
+
+def every_form(sort, value):
+    """Writes the value, and reads each of its forms."""
+    write_case(sort, value)
+    for form in forms_of(sort, value % WORD):
+        read_case(sort, form)
 
 
 def both(sort, message):
@@ -180,22 +190,22 @@ for sort in range(7):
 # ---- both sides of each boundary
 for edge in (-(2**63), -(2**32), -(2**31), -(2**18), -(2**11), -16, -8, 0, 16, 48, 2**11, 2**18, 2**31, 2**32, 2**63):
     for value in range(edge - 1, edge + 2):
-        write_case(INT, value)
-        write_case(LONG, value)
+        every_form(INT, value)
+        every_form(LONG, value)
 for value in (0x0123456789ABCDEF, 0xFEDCBA9876543210, 2**62, -(2**62), 10**9, -(10**9), 3 * 10**9, -3 * 10**9, 10**18, -(10**18)):
-    write_case(INT, value)
-    write_case(LONG, value)
+    every_form(INT, value)
+    every_form(LONG, value)
 for sort in (NULL, FALSE, TRUE):
     for value in (0, 1, 0x4E, 2**31, 2**32, 2**63, -1):
-        write_case(sort, value)
+        every_form(sort, value)
 
 for minutes in (0, 1, -1, 60, 14910351, -14910351, 2**31 - 1, 2**31, -(2**31), -(2**31) - 1, 2**32 - 1, 2**32, -(2**32), 2**40):
-    for off in (-1, 0, 1, 59999):
-        write_case(DATE, minutes * 60000 + off)
+    for off in (-1, 0, 1, 32, 59999):
+        every_form(DATE, minutes * 60000 + off)
 # the last whole minutes of 64 bits
 for value in ((2**63 - 1) // 60000 * 60000, -(2**63 // 60000 * 60000)):
     for off in (-1, 0, 1):
-        write_case(DATE, value + off)
+        every_form(DATE, value + off)
 for u in (0, 1, 0xFFFFFFFF, 0x7FFFFFFF, 0x80000000, 0x80000001, 0x00FFFFFF, 0x01000000):
     both(DATE, b"\x4b" + u.to_bytes(4, "big"))
 for u in (0, 1, 59999, 60000, 60001, 2**63 - 1, 2**63, 2**64 - 1, 2**64 - 60000):
@@ -215,16 +225,16 @@ whole = [0, 1, 2, 3, 100, 126, 127, 128, 129, 255, 256, 257, 32766, 32767, 32768
 whole += [2**24 - 1, 2**24, 2**24 + 1, 2**24 + 2, 2**31 - 1, 2**31, 2**32 - 1, 2**32, 2**32 + 1, 2**32 + 127, 2**53 - 1, 2**53, 10**15]
 for n in whole:
     for x in (float(n), -float(n)):
-        write_case(DOUBLE, bits(x))
+        every_form(DOUBLE, bits(x))
 for n in (1, 127, 128, 32767, 32768):
     for x in (float(n), -float(n)):
-        for off in (-1, 1):
-            write_case(DOUBLE, bits(x) + off)
+        for off in (-1, 1, 2**28, 2**29, 2**36, 2**37):
+            every_form(DOUBLE, bits(x) + off)
 for x in (
     0.5, 0.25, 0.75, 1.5, 126.5, 127.5, 128.5, 32767.5, 32768.5, 0.1, 0.3, 12.25, math.pi, 1e-5, 1e10, 1e38, 1e39, 1e300, 1e-300,
     1e-38, 1e-40, 1e-45, 1e-46,
 ):
-    write_case(DOUBLE, bits(x))
+    every_form(DOUBLE, bits(x))
 
 # floats of 32 bits: each as a double, and the doubles next to it
 floats = [
@@ -239,10 +249,10 @@ for u in floats:
         rest = (u + sign).to_bytes(4, "big")
         both(DOUBLE, b"\x5f" + rest)
     value = widened(u.to_bytes(4, "big"))
-    write_case(DOUBLE, value + 1)
-    write_case(DOUBLE, value + 2**28)
+    every_form(DOUBLE, value + 1)
+    every_form(DOUBLE, value + 2**28)
     if value:
-        write_case(DOUBLE, value - 1)
+        every_form(DOUBLE, value - 1)
 # powers of two: the least doubles and floats, where the normal ones begin, and past the last float
 for power in (
     -1074, -1073, -1023, -1022, -151, -150, -149, -148, -147, -127, -126, -125, -1, 33, 63, 126, 127, 128, 129, 1023,
@@ -251,12 +261,12 @@ for power in (
 # what would round to the next float, or past the last
 last = widened(bytes.fromhex("7f7fffff"))
 for value in (last, last + 1, last + 2**28 - 1, last + 2**28, last + 2**29 - 1, last + 2**29):
-    write_case(DOUBLE, value)
-    write_case(DOUBLE, value + 2**63)
+    every_form(DOUBLE, value)
+    every_form(DOUBLE, value + 2**63)
 # below the normal range of doubles, and the last of all
 for value in (1, 2, 3, 2**29, 2**51, 2**52 - 1, 2**52, 2**52 + 1, 0x7FEFFFFFFFFFFFFF):
-    write_case(DOUBLE, value)
-    write_case(DOUBLE, value + 2**63)
+    every_form(DOUBLE, value)
+    every_form(DOUBLE, value + 2**63)
 # NaNs: those whose last 29 bits are 0 narrow, unless nothing is left of the fraction
 for fraction in (
     1, 2, 2**28, 2**29 - 1, 2**29, 2**29 + 1, 3 * 2**28, 2**30, 2**50, 2**51 - 2**29, 2**51 - 1, 2**51, 2**51 + 1, 2**51 + 2**28,
@@ -313,7 +323,9 @@ def shown(case):
             return "none 0 short ok rest ok"
         return f"{form.hex()} {len(form)} short ok rest ok back ok"
     what, first, second = read(sort, data[:n], data[9] if operation == READ_AT else 0)
-    return f"{first:016x} {second}" if what == "value" else f"refused {first} {second}"
+    if what == "refused":
+        return f"refused {first} {second}"
+    return f"{first:016x} {second} {len(shortest(sort, first))}"
 
 
 lines = [(case.hex(), shown(case)) for case in CASES]

@@ -5,14 +5,18 @@ with `--to FOLDER` writes them there.
 A case is a line: how many numbers are lent, in decimal, and the message in groups, one space before each. A group is
 bytes, two hexadecimal digits each; `*` and a number after them say how often they stand there.
 
-What is printed for it is a line: number, count and place of the answer; the checksum of the whole lent table after
-the call; and `ok`, where the numbers past the accepted rows, or after a refusal the whole table, are unchanged; and
-behind `; ` the same of a second call, by the rule of thousandths (2026-11). Before a call number i of the table is
-0xb1a0000000000000 + i. The checksum starts at 7, and the high and then the low 32 bits of each number of the table, h,
-take it from s to s * 1000003 + h, modulo 2^31 - 1.
+What is printed for it is a line: number, count and place of the answer, and the length of the shortest message of the
+record (2026-06), which is 0 of each refusal; the checksum of the whole lent table after the call; and `ok`, where the
+numbers past the accepted rows, or after a refusal the whole table, are unchanged. Behind `; ` stands the same of a
+second call, by the rule of thousandths (2026-11); and behind another `; ` the length by the main rule and that by the
+rule of thousandths, as they are answered without a table: 0 only where the message is refused whatever is lent.
 
-The reader is that of ../vectors/hessian_format.py. Most cases are given with their answers, and each random message is
-made together with its rows. A row has four numbers here; `ends` gives the fifth ones.
+Before a call number i of the table is 0xb1a0000000000000 + i. The checksum starts at 7, and the high and then the low
+32 bits of each number of the table, h, take it from s to s * 1000003 + h, modulo 2^31 - 1.
+
+Reader and writer are those of ../vectors/hessian_format.py; what the writer writes gives the lengths. Most cases are
+given with their answers, and each random message is made together with its rows. A row has four numbers here; `ends`
+gives the fifth ones.
 """
 import os
 import sys
@@ -20,16 +24,19 @@ import sys
 sys.dont_write_bytecode = True
 sys.path.insert(0, os.path.join(os.path.dirname(os.path.abspath(__file__)), "../vectors"))
 from hessian_cases import (  # noqa: E402
-    BEETLE, BROKEN, CARS, CODES, COLORS, EDGES, LINKED, LONE, NO_FIELDS, ONE_FIELD, PAIRS, SMILE, TOUR, TYPES, Chance,
-    Maker, arguments, checksum, chunked, class_of, data_of, each, groups, raw, some, text_of, write_files,
+    BEETLE, BROKEN, CARS, CODES, COLORS, DOUBLE_LENGTHS, EDGES, INT_LENGTHS, LINKED, LONE, LONG_LENGTHS, NAN_LENGTHS,
+    NO_FIELDS, ONE_FIELD, PAIRS, SMILE, TOUR, TYPES, Chance, Maker, arguments, checksum, chunked, class_of, data_of,
+    each, groups, raw, some, text_of, write_files,
 )
 from hessian_format import (  # noqa: E402
-    BYTES, COLLECTIONS, DOUBLE, LONGEST, MOST_OPEN, OBJECTS, TEXT, THOUSANDTHS, WORD, bits, bytes_heads, ends, fits,
-    halves, int_form, int_forms, judged, long_forms, text_heads, wide,
+    BYTES, COLLECTIONS, DOUBLE, LONGEST, LONGEST_CHUNK, MOST_OPEN, OBJECTS, TEXT, THOUSANDTHS, THREE, bits, bytes_heads,
+    ends, fits, halves, int_form, int_forms, joined, judged, long_forms, shortest, shortest_length, tabled, text_heads,
+    units_of, wide,
 )
 
 LENT = 8000
 ROW = 5
+MOST_INPUT = 400000
 
 # ---- lines
 PATTERN = [0xB1A0000000000000 + i for i in range(LENT)]
@@ -45,17 +52,24 @@ for t in PATTERN:
     UNTOUCHED.append(summed([t], UNTOUCHED[-1]))
 
 
-def answer(read, size, lent):
-    """What is to be printed of a call, by what is read, the message's size, and the numbers lent."""
+def answer(read, length, size, lent):
+    """What is to be printed of a call, by what is read, the length of the shortest message, the message's size, and the
+    numbers lent."""
     if isinstance(read, tuple):
-        return f"{read[0]} 0 {read[1]} {UNTOUCHED[lent]} ok"
+        return f"{read[0]} 0 {read[1]} 0 {UNTOUCHED[lent]} ok"
     if lent // ROW < len(read):
-        return f"9 {len(read)} 0 {UNTOUCHED[lent]} ok"
-    table = [n % WORD for row, end in zip(read, ends(read)) for n in (*row, end)]
-    return f"0 {len(read)} {size} {summed(table + PATTERN[len(table) : lent])} ok"
+        return f"9 {len(read)} 0 0 {UNTOUCHED[lent]} ok"
+    table = [n for row in tabled(read) for n in row]
+    return f"0 {len(read)} {size} {length} {summed(table + PATTERN[len(table) : lent])} ok"
 
 
 CASES = {}
+
+
+def both_rules(data, of):
+    """What a message comes to by the main rule and by that of thousandths. Without a 5f they are the same."""
+    main = of(data)
+    return main, of(data, THOUSANDTHS) if b"\x5f" in data else main
 
 
 def case(data, lent=None):
@@ -65,9 +79,9 @@ def case(data, lent=None):
         rows = 7 if isinstance(read, tuple) else len(read)
         lent = ROW * rows + len(CASES) % 13
     lent = min(lent, LENT)
-    # the rules are the same without a 5f
-    both = read, judged(data, THOUSANDTHS) if b"\x5f" in data else read
-    CASES.setdefault(" ".join([str(lent), *groups(data)]), "; ".join(answer(r, len(data), lent) for r in both))
+    lengths = both_rules(data, shortest_length)
+    answers = [answer(*found, len(data), lent) for found in zip(both_rules(data, judged), lengths)]
+    CASES.setdefault(" ".join([str(lent), *groups(data)]), "; ".join([*answers, "{} {}".format(*lengths)]))
     return read
 
 
@@ -524,10 +538,10 @@ for code in (0x90, 0x40, 0x5A, 0x57, 0x79):
 refused(chunked(270000, BYTES), 1, 0)
 
 # ---- how many numbers are lent
-assert answer(judged(raw("57 90 91 5a")), 4, 15).startswith("0 3 4 ")
-assert answer(judged(raw("57 90 91 5a")), 4, 14) == f"9 3 0 {UNTOUCHED[14]} ok"
-assert answer(judged(raw("90")), 1, 4) == f"9 1 0 {UNTOUCHED[4]} ok"
-assert answer(judged(raw("90 90")), 2, 0) == "8 0 1 7 ok"
+assert answer(judged(raw("57 90 91 5a")), 3, 4, 15).startswith("0 3 4 3 ")
+assert answer(judged(raw("57 90 91 5a")), 3, 4, 14) == f"9 3 0 0 {UNTOUCHED[14]} ok"
+assert answer(judged(raw("90")), 1, 1, 4) == f"9 1 0 0 {UNTOUCHED[4]} ok"
+assert answer(judged(raw("90 90")), 0, 2, 0) == "8 0 1 0 7 ok"
 for message in (*each("90 | 57 90 91 5a | 48 5a | 72 00 4e 4e | D 79 60"), *map(raw, (TOUR, BEETLE, COLORS, LINKED))):
     needed = ROW * len(judged(message))
     for lent in (0, 1, 3, 4, 5, 9, needed // 2, *range(needed - 6, needed + 7), needed + 40, LENT - 1, LENT):
@@ -639,6 +653,184 @@ def counts():
 for n in counts():
     case(wide(0x5F, n, 4), ROW)
 
+
+# ---- 2026-06: the length of the shortest message
+def measured(message, length, thousandths=None):
+    """A message that is accepted, and how long the shortest message of its record is; by the rule of thousandths as
+    long, where no other length is named."""
+    data = data_of(message)
+    read, lengths = case(data), both_rules(data, shortest_length)
+    assert isinstance(read, list), (data[:99].hex(), read)
+    assert lengths == (length, length if thousandths is None else thousandths), (data[:99].hex(), lengths)
+
+
+# numbers in each form, in a list
+for n, length in INT_LENGTHS.items():
+    for form in int_forms(n):
+        measured(b"\x79" + form, 1 + length)
+for n, length in LONG_LENGTHS.items():
+    for form in long_forms(n):
+        measured(b"\x79" + form, 1 + length)
+for n, length in {**{bits(x): length for x, length in DOUBLE_LENGTHS.items()}, **NAN_LENGTHS, bits(-0.0): 5}.items():
+    measured(b"\x79" + wide(0x44, n, 8), 1 + length)
+for n, length in ((0, 1), (1, 1), (2, 2), (-1, 2), (127, 2), (-128, 2), (128, 3), (-129, 3), (32767, 3), (-32768, 3)):
+    measured(b"\x79" + wide(0x5E, n, 2), 1 + length)
+    if fits(n, 8):
+        measured(b"\x79" + wide(0x5D, n, 1), 1 + length)
+for n in (0, 1, -1, 2**31 - 1, -(2**31)):
+    measured(b"\x79" + wide(0x4B, n, 4), 6)
+    measured(b"\x79" + wide(0x4A, 60000 * n, 8), 6)
+    for rest in (-1, 1):
+        measured(b"\x79" + wide(0x4A, 60000 * n + rest, 8), 10)
+for n in (60000 * 2**31, -60000 * (2**31 + 1), 60000 * 2**40, 2**63 - 1, -(2**63)):
+    measured(b"\x79" + wide(0x4A, n, 8), 10)
+
+
+# texts and bytes in many chunks
+def heads(kind, units):
+    """The bytes that the heads of so many units take, where no pair stands at a cut."""
+    full = max(units - 1, 0) // LONGEST_CHUNK
+    rest = units - LONGEST_CHUNK * full
+    return 3 * full + (1 if rest < (32 if kind == TEXT else 16) else 2 if rest < 1024 else 3)
+
+
+def cut(content, size):
+    return [content[i : i + size] for i in range(0, len(content), size)]
+
+
+assert [heads(TEXT, n) for n in (0, 31, 32, 1024, 65535, 65536, 131070, 131071)] == [1, 1, 2, 3, 3, 4, 6, 7]
+SIZES = [0, 1, 15, 16, 31, 32, 1023, 1024, 65534, 65535, 65536, 65550, 65551, 65566, 65567, 66558, 66559]
+for n in SIZES + [131069, 131070, 131071, 131101, 131102, 200000]:
+    for kind in (TEXT, BYTES):
+        length = n + heads(kind, n)
+        measured(joined(kind, [b"", b"", b"a" * min(n, 65535), b"", *cut(b"a" * (n - 65535), 40000), b""]), length)
+        for size in ([1, 13] if n < 65534 else [13] if n % 65535 < 2 else []) + [20001, 65534, 65535]:
+            if size < n:
+                measured(joined(kind, cut(b"a" * n, size), THREE), length)
+for kind in (TEXT, BYTES):
+    measured(joined(kind, cut(b"a" * 262000, 60000)), 262012)
+    measured(joined(kind, cut(b"a" * 262132, 65533)), 262144)
+for c, n in (("\u00e9", 65536), ("\u20ac", 65535), ("\u20ac", 65536)):
+    parts = [(c * units).encode() for units in (32768, n - 32768)]
+    measured(joined(TEXT, parts, THREE), len(c.encode()) * n + heads(TEXT, n))
+
+
+def in_six(content):
+    """The content with each SMILE as a pair of halves."""
+    return content.replace(SMILE.encode(), halves(SMILE))
+
+
+def paired(parts, length):
+    """A text of these chunks, with each SMILE in four bytes and in six, and how long its shortest form is."""
+    parts = [part.encode() for part in parts if part]
+    for spell in (bytes, in_six):
+        measured(joined(TEXT, parts, spell=spell), length)
+
+
+# a pair is not cut: where the 65,535th unit is the first half of one, the chunk has 65,534
+for at in range(65532, 65537):
+    for pairs in (1, 2):
+        first = 65534 if at in (65534, 65536 - 2 * pairs) else 65535
+        for units in (at + 2 * pairs, 65534 + 32, 65534 + 1024, 65534 + 65536):
+            rest = units - at - 2 * pairs
+            length = at + 4 * pairs + rest + (3 + heads(TEXT, units - first) if units > 65535 else 3)
+            paired(["a" * (at - 1), "a" + SMILE * pairs, *cut("b" * rest, 65535)], length)
+            paired(["a" * 40000, "a" * (at - 40000) + SMILE, SMILE * (pairs - 1), *cut("b" * rest, 33333)], length)
+# the same at the second cut, which comes earlier where the first one does
+for first in (65534, 65535):
+    start = "a" * 65534 + (SMILE if first == 65534 else "abb")
+    for at in range(first + 65533, first + 65537):
+        second = 65534 if at == first + 65534 else 65535
+        for rest in (1, 30):
+            length = at + 2 * (first == 65534) + 4 + rest + 6 + heads(TEXT, at + 2 + rest - first - second)
+            filler = "b" * (at - units_of(TEXT, start.encode()))
+            paired(["a" * 30000, start[30000:], *cut(filler, 50000), SMILE + "c" * rest], length)
+# nothing but pairs: each chunk has 65,534 units
+for n, length in ((1, 1), (15, 1), (16, 2), (511, 2), (512, 3), (32767, 3), (32768, 4), (43000, 6)):
+    paired([SMILE * (n // 3), SMILE * (n - n // 3)], 4 * n + length)
+# an odd unit before them, and it has 65,535
+for n, length in ((32767, 3), (32768, 4)):
+    measured(joined(TEXT, [f"x{SMILE * 9999}".encode(), SMILE.encode() * (n - 9999)]), 1 + 4 * n + length)
+measured(joined(TEXT, [SMILE.encode() * n for n in (1, 32767, 32765)]), 4 * 65533 + 6)
+
+# names: of types, of classes and of fields
+NAMES = [(text_heads(5)[-1] + b"name1", 6), (raw("52 0000 52 0002 'na' 52 0000 30 03 'me1'"), 6), (raw("53 0000"), 1)]
+NAMES += [(joined(TEXT, cut(b"a" * n, 13)), n + heads(TEXT, n)) for n in (31, 32, 1024, 65535, 65536)]
+NAMES += [(raw("52 0002 eda0bdedb880 53 0002 f09f9880"), 9)]
+NAMES += [(joined(TEXT, [b"a" * 65533, f"a{SMILE}".encode()], spell=in_six), 65542)]
+for name, length in NAMES:
+    measured(b"\x70" + name, 1 + length)
+    measured(b"\x56" + name + raw("49 00000001 90"), 2 + length)
+    measured(b"\x55" + name + raw("90 91 5a"), 3 + length)
+    measured(b"\x4d" + name + raw("c801 91 5a"), 4 + length)
+    measured(b"\x43" + name + raw("90 4e"), 3 + length)
+    measured(raw("43 00 49 00000002 01 'a'") + name + raw("4f c800 90 91"), 8 + length)
+
+# lists and maps: open and counted, with types spelled out and by number
+for n in (0, 1, 3, 6, 7, 8, 9, 46, 47, 48, 49, 300):
+    length = n + (1 if n < 8 else 2)
+    measured(b"\x7a" + b"\x57" + b"\x90" * n + b"\x5a\x90", 2 + length)
+    measured(b"\x55\x53\x00\x01t" + b"\x90" * n + b"\x5a", 2 + length)
+    measured(raw("7a 70 01 't' 55 49 00000000") + b"\x90" * n + b"\x5a", 5 + length)
+    measured(raw("79 48") + b"\x90" * 2 * n + b"\x5a", 1 + 2 * n + 2)
+    measured(raw("4d 52 0000 01 't'") + b"\x90" * 2 * n + b"\x5a", 2 + 2 * n + 2)
+    measured(raw("7a 4d 00 5a 4d c800") + b"\x90" * 2 * n + b"\x5a", 4 + 2 * n + 3)
+    for form in int_forms(n):
+        measured(b"\x79\x58" + form + b"\x4e" * n, 1 + length)
+        measured(b"\x56\x01t" + form + b"\x4e" * n, 2 + length)
+        measured(raw("7a 4d 01 't' 5a 56 d40000") + form + b"\x4e" * n, 6 + length)
+measured(b"\x57" * 32 + b"\x5a" * 32, 32)
+measured(raw("58 91") * 31 + raw("58 90"), 32)
+measured(raw("58 d40002") + raw("57 90 90 5a") * 2, 7)
+for number, length in ((0, 1), (47, 1), (48, 2), (255, 2)):
+    for form in int_forms(number):
+        measured(b"\x57" + b"\x70\x00" * 256 + b"\x70" + form + b"\x5a", 2 + 512 + 1 + length)
+        measured(b"\x57" + b"\x70\x00" * 256 + b"\x4d" + form + raw("90 90 5a 5a"), 2 + 512 + 4 + length)
+
+# objects and classes
+for number, length in ((0, 1), (14, 1), (15, 1), (16, 2), (47, 2), (48, 3), (255, 3)):
+    for form in int_forms(number):
+        measured(NO_FIELDS * (number + 1) + b"\x4f" + form, 3 * (number + 1) + length)
+        measured(NO_FIELDS * number + raw("43 00 d40001 00 57 4f") + form + b"\x91\x5a", 3 * number + 4 + 2 + length)
+for n, length in ((0, 1), (1, 1), (3, 1), (15, 1), (16, 1), (47, 1), (48, 2), (255, 2), (256, 2)):
+    for form in int_forms(n):
+        measured(b"\x43\x53\x00\x01C" + form + b"\x30\x00" * n + b"\x4e", 3 + length + n + 1)
+        measured(b"\x43\x00" + form + b"\x01f" * n + b"\x4f\x90" + b"\xc8\x00" * n, 2 + length + 2 * n + 1 + n)
+# definitions by themselves, before and inside
+measured("43 30 01 'C' 49 00000001 53 0001 'f' 90", 7)
+measured("57 43 30 01 'C' c801 30 01 'f' 90 F D 91 5a", 16)
+measured("43 00 c801 00 60 43 00 c800 43 00 90 4f d40002", 12)
+measured("48 43 00 c800 c800 43 00 c800 c800 5a", 10)
+
+# references, after so many values
+for number, length in ((0, 1), (47, 1), (48, 2), (1000, 2), (2047, 2), (2048, 3), (9999, 3)):
+    for form in int_forms(number):
+        measured(b"\x57" + b"\x78" * number + b"\x51" + form + b"\x5a", (2 if number else 1) + number + 1 + length)
+measured(b"\x57" + (b"\x78" * 20 + raw("51 49 00000013")) * 10 + b"\x5a", 2 + 10 * 22)
+measured("7b 51 49 00000000 79 51 d40001 51 c801", 8)
+
+# 5f by both rules
+BY_COUNT = {1000: 1, 2000: 2, -1000: 2, 127000: 2, -128000: 2, 128000: 3, -129000: 3, 32767000: 3, -32768000: 3}
+BY_COUNT.update({500: 5, -500: 5, 125: 5, 1500: 5, 127500: 5, 32768000: 5, -32769000: 5, 2147483000: 5, 33250: 5})
+BY_COUNT.update({1: 9, -1: 9, 9: 9, 100: 9, 999: 9, 1001: 9, -32767999: 9, 2**31 - 1: 9, -(2**31): 9})
+for n, length in BY_COUNT.items():
+    measured(b"\x79" + wide(0x5F, n, 4), 6, 1 + length)
+    measured(b"\x7a" + wide(0x5F, n, 4) * 2, 11, 1 + 2 * length)
+measured("5f 00000000", 1)
+for n, length in ((0x3F800000, 1), (0x40000000, 2), (0xC3000000, 2), (0x43000000, 3), (0xC7000000, 3), (0x47000000, 5)):
+    measured(wide(0x5F, n, 4), length, 9)
+measured("7f 5f 3f800000 5f 000003e8 5f 3fc00000 44 3ff0000000000000 5d 01 5e 07d0 90", 18, 26)
+measured("48 01 'a' 5f 000007d0 01 'b' 5f 000001f4 44 3ff8000000000000 5f 00000009 5a", 26, 27)
+measured("43 30 01 'C' c802 01 'x' 01 'y' 4f d40000 5f 0001e848 5f 00000001", 19, 20)
+# beyond the ceiling, where the writer refuses 1
+for n in (8, 9):
+    measured(b"\x57" + raw("5f 00000009") * 29126 + b"\x90" * n + b"\x5a", 5 * 29126 + n + 2, LONGEST - 8 + n)
+for n in (0, 1, 2, 3, 500, 1500):
+    start, end = (bytes([0x79 + n]), b"") if n < 7 else (b"\x57", b"\x5a")
+    doubles = raw("5f 00000009") * n
+    content = chunked(LONGEST - 8 - len(start + doubles + end), TEXT)
+    measured(start + content + doubles + end, LONGEST - 8, LONGEST - 8 + 4 * n)
+
 # ---- random messages
 chance = Chance(1)
 
@@ -652,6 +844,8 @@ while made < 530:
     made += 1
     assert judged(message) == [tuple(row) for row in maker.rows], message.hex()
     assert ends(judged(message)) == maker.ends, message.hex()
+    found = shortest(message, tabled(judged(message)))
+    assert len(message) >= len(found) == shortest_length(found), message.hex()
     lent = ROW * rows + chance.choice((0, 1, 2, 3, 4, 9, 40, -1, -5, -ROW * rows, -ROW * chance.below(rows + 1)))
     case(message, max(0, lent))
     # a byte changed, the message cut short, a byte inserted
@@ -660,4 +854,5 @@ while made < 530:
     case(message[:at], ROW * rows + chance.below(8))
     case(message[:at] + chance.byte() + message[at:], ROW * rows + chance.below(8))
 
+assert sum(len(line) + 1 for line in CASES) <= MOST_INPUT
 write_files(arguments(__file__).to, [*CASES.items()])

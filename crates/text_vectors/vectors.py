@@ -4,8 +4,8 @@ with `--to FOLDER` writes them there. `python3 vectors.py N K` writes each N-th 
 the interpreter of `rt try` stops after so many steps, which are too few for all, and enough for each part of six.
 
 What a string stands for, and its shortest form, say ../vectors/hessian_format.py. Here that is held to Unicode's table
-of byte sequences, with a row for pairs of halves, and to the least length that any cut into chunks has. The shapes of
-stdin's and stdout's lines are described in src/main.rt.
+of byte sequences, with a row for pairs of halves, and to the least length that any cut into chunks has, which is the
+length that reading says. The shapes of stdin's and stdout's lines are described in src/main.rt.
 """
 import collections
 import os
@@ -133,9 +133,14 @@ def heads_take(kind, may):
     return min(least[i] + HEAD_SIZES[kind][n - i] for i in range(max(0, n - LONGEST_CHUNK), n + 1))
 
 
+def least(kind, content):
+    """The fewest bytes that any chunks of the content take."""
+    return len(content) + heads_take(kind, cuts(kind, content))
+
+
 def shortest(kind, content):
     form = string_form(kind, content)
-    assert len(form) - len(content) == heads_take(kind, cuts(kind, content))
+    assert len(form) == least(kind, content)
     assert read(kind, form, 0) == ("content", content, len(form))
     return form
 
@@ -165,7 +170,7 @@ def shown(kind, message, at):
         return f"refused {answer[1]} {answer[2]} none ok"
     _, content, size = answer
     form = shortest(kind, content)
-    sizes = f"{units_of(kind, content)} {len(content)} {size} {len(form)}"
+    sizes = f"{units_of(kind, content)} {len(content)} {size} {least(kind, content)} {len(form)}"
     return f"{sizes}{segments(form)} rest ok back ok short ok"
 
 
@@ -511,6 +516,35 @@ case(TEXT, joined(TEXT, [EURO * 20000, EURO * 20000])[:-1] + b"\x00")
 case(TEXT, joined(TEXT, [SMILE * 10000, SMILE * 12000])[:-4])
 case(TEXT, head(TEXT, PART, LONGEST_CHUNK) + SMILE * 32768 + b"\x00")
 case(TEXT, b"a" * 66000, 65000)
+
+# ---- 2026-06: where the parts of the shortest form are cut, whatever the chunks that are read
+# byte strings, in odd chunks
+for n, *counts in (
+    (LONGEST_CHUNK, 1, 0, 65533), (LONGEST_CHUNK + 1, 3, 65532), (LONGEST_CHUNK + 1, 65534, 1), (131070, 1, LONGEST_CHUNK),
+    (131070, 65534, 65534, 1), (131071, 7, LONGEST_CHUNK), (131071, LONGEST_CHUNK, 65534, 1), (131071, 32767, 32769, 65534),
+):
+    case(BYTES, cut_into(BYTES, marked(n), *counts))
+# a pair at the cut, in the middle of a chunk, and where a chunk ends one or two units before the cut or at it
+for p in (LONGEST_CHUNK - 1, LONGEST_CHUNK, LONGEST_CHUNK + 1):
+    for first in (first for first in (5, 65533, 65534, LONGEST_CHUNK) if first != p + 1):
+        case(TEXT, cut_into(TEXT, b"a" * p + SMILE + b"bc", first))
+# where the first part has one unit less, so has the second cut; and a pair there
+for p, *counts in ((131068, 1, LONGEST_CHUNK), (131069, 40000, 65000), (131070, 65534, 65000)):
+    start = b"a" * (LONGEST_CHUNK - 1) + SMILE
+    case(TEXT, cut_into(TEXT, start + b"b" * (p - LONGEST_CHUNK - 1) + SMILE + EURO, *counts))
+# the same pairs in six bytes, and runs of other characters before them
+for text in (b"a" * 25534 + SMILE + b"z", b"a" * 25535 + SMILE, EURO + b"a" * 25533 + SMILE * 2):
+    case(TEXT, joined(TEXT, [b"a" * 40000, text], spell=in_six))
+for odd in (b"", b"a"):
+    begun, ended = head(TEXT, PART, 36000), head(TEXT, THREE, 36000 + len(odd)) + odd
+    spelled(TEXT, (begun, 1), (in_six(SMILE), 18000), (ended, 1), (in_six(SMILE), 18000))
+# a fault before the cut, at it, and behind it
+for fault in (b"\x80", SMILE[:3] + b"a", b"\xed\xb0\x80", b"\xed\xa0\xbda", b"\xed"):
+    case(TEXT, joined(TEXT, [b"a" * 65530, b""])[:-1] + head(TEXT, THREE, 20) + b"b" * 4 + fault + b"c" * 12)
+    case(TEXT, joined(TEXT, [b"a" * 65530, b""])[:-1] + head(TEXT, THREE, 20) + b"b" * 4 + SMILE + fault + b"c" * 12)
+case(TEXT, joined(TEXT, [b"a" * 65530, b""])[:-1] + head(TEXT, THREE, 6) + b"b" * 4 + SMILE[:2])
+case(TEXT, joined(TEXT, [b"a" * 65530, b""])[:-1] + head(TEXT, THREE, 5) + b"b" * 4 + SMILE)
+case(TEXT, joined(TEXT, [b"a" * 65530, b""])[:-1] + head(TEXT, THREE, 5) + b"b" * 4 + in_six(SMILE))
 
 # ---- what is a case in other words, and what is none
 spelled(TEXT, (b"\x0c", 1), (b"ab", 6))

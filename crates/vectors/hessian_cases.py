@@ -38,18 +38,20 @@ def checksum(numbers, s=7):
 
 
 # ---- messages as lines spell them
+# of each width: as often as may be the same bytes
+REPEATED = {width: re.compile(rb"(.{%d})\1*" % width, re.DOTALL) for width in range(1, 17)}
+
+
 @functools.lru_cache(maxsize=16)
 def groups(data):
     """The message in groups. Bytes are repeated where that is shorter."""
     words, plain, at = [], b"", 0
     while at < len(data):
         best = 4, 0, 0
-        for width in range(1, 17):
-            unit, end = data[at : at + width], at + width
-            while data.startswith(unit, end):
-                end += width
-            times = (end - at) // width
-            best = max(best, (2 * width * (times - 1) - len(f"* {times}"), width, end - at))
+        for width, pattern in REPEATED.items():
+            if found := pattern.match(data, at):
+                times = (found.end() - at) // width
+                best = max(best, (2 * width * (times - 1) - len(f"* {times}"), width, found.end() - at))
         _, width, size = best
         if width:
             words += ([plain.hex()] if plain else []) + [f"{data[at : at + width].hex()}*{size // width}"]
@@ -113,6 +115,18 @@ TOUR = """57 4e 46 54 91 c930 d50000 49 00040000 e1 f900 3d0000 59 00040000 4c 0
     55 01 't' 92 5a 56 90 91 93 71 90 94 48 95 96 5a 4d 90 97 98 5a 43 01 'C' 91 01 'f' 60 99 4f 90 9a 51 90 5a"""
 # a text of the most bytes that a message has, most of them in pairs of halves
 PAIRS = raw("52 fffe") + halves(SMILE) * 32767 + raw("53 5558 'abcd'") + halves(SMILE) * 10922
+
+# numbers at the bounds of forms: how long the shortest form of each int, long, double, and double by its bits is
+INT_LENGTHS = {0: 1, 47: 1, 48: 2, 2047: 2, 2048: 3, 262143: 3, 262144: 5, 2**31 - 1: 5}
+INT_LENGTHS.update({-1: 1, -16: 1, -17: 2, -2048: 2, -2049: 3, -262144: 3, -262145: 5, -(2**31): 5})
+LONG_LENGTHS = {0: 1, 15: 1, 16: 2, 2047: 2, 2048: 3, 262143: 3, 262144: 5, 2**31 - 1: 5, 2**31: 9, 2**63 - 1: 9}
+LONG_LENGTHS.update({-1: 1, -8: 1, -9: 2, -2048: 2, -2049: 3, -262144: 3, -262145: 5, -(2**31): 5, -(2**31) - 1: 9})
+DOUBLE_LENGTHS = {0.0: 1, 1.0: 1, -1.0: 2, 2.0: 2, 127.0: 2, 128.0: 3, -128.0: 2, -129.0: 3, 32767.0: 3, 32768.0: 5}
+DOUBLE_LENGTHS.update({-32768.0: 3, -32769.0: 5, 0.5: 5, -0.5: 5, 12.25: 5, 0.1: 9, 2.0**127: 5, 2.0**128: 9})
+DOUBLE_LENGTHS.update({2.0**-149: 5, 2.0**-150: 9, 16777215.0: 5, 16777217.0: 9, 1e300: 9, 5e-324: 9, -(2.0**-126): 5})
+DOUBLE_LENGTHS.update({3 * 2.0**-149: 5, 3 * 2.0**-150: 9, float("inf"): 5, float("-inf"): 5})
+DOUBLE_LENGTHS.update({2.0**-126 - 2.0**-149: 5, 2.0**-126 - 2.0**-150: 9, 127.5: 5, 1.1: 9})
+NAN_LENGTHS = {0x7FF0000020000000: 5, 0x7FF0000010000000: 9, 0xFFF8000000000000: 5, 0x7FF8000000000001: 9}
 
 # characters of each size
 EDGES = [0x00, 0x7F, 0x80, 0x7FF, 0x800, 0xFFF, 0x1000, 0xCFFF, 0xD000, 0xD7FF, 0xE000, 0xFFFF]

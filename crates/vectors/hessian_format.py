@@ -1,10 +1,10 @@
 """The format of Hessian 2.0 records: what each form stands for, the rows of a message, the shortest message of rows.
 
-The generators of vectors, crates/*_vectors/vectors.py, take it from here. It is written from 01, 2026-04, 2026-07,
-2026-11 and docs/DECISIONS.md, and shares nothing with the code that is tested. UTF-8, UTF-16 and doubles are Python's
-own. What is said here is held to other computations by the generators: number_vectors seeks the shortest of all forms
-of a number, text_vectors goes by Unicode's table and by the least length of any cut into chunks, record_vectors makes
-random messages together with their rows, and write_vectors reads back what is written.
+The generators of vectors, crates/*_vectors/vectors.py, take it from here. It is written from 01, 2026-04, 2026-06,
+2026-07, 2026-11 and docs/DECISIONS.md, and shares nothing with the code that is tested. UTF-8, UTF-16 and doubles are
+Python's own. What is said here is held to other computations by the generators: number_vectors seeks the shortest of
+all forms of a number, text_vectors goes by Unicode's table and by the least length of any cut into chunks,
+record_vectors makes random messages together with their rows, and write_vectors reads back what is written.
 
 A row has four numbers here, kind, place, first and second; `ends` gives the fifth ones.
 """
@@ -424,14 +424,21 @@ def characters(m, units):
     return bytes(content)
 
 
-def string(m, kind):
-    """The content of a text or of bytes."""
-    content, last = [], False
+@functools.lru_cache(maxsize=256)
+def string_from(data, place, kind):
+    """The content of the text, or bytes, that opens at this place of a message, and the place after it."""
+    m, content, last = Message(data, place), [], False
     while not last:
         code, (first, more, last) = m.due(CHUNKS[kind])
         n = int.from_bytes(bytes([code - first]) + m.take(more), "big")
         content.append(characters(m, n) if kind == TEXT else m.take(n))
-    return b"".join(content)
+    return b"".join(content), m.at
+
+
+def string(m, kind):
+    """The content of a text or of bytes."""
+    content, m.at = string_from(m.data, m.at, kind)
+    return content
 
 
 def text(m, kind):
@@ -577,12 +584,17 @@ def ends(rows):
     return found
 
 
+def tabled(rows):
+    """The rows of a message as a table has them: with their fifth numbers, each number in 64 bits."""
+    return [tuple(n % WORD for n in (*row, end)) for row, end in zip(rows, ends(rows))]
+
+
 # ---- writing
 @functools.lru_cache(maxsize=4096)
 def string_at(source, place, kind):
     """The content of the text, or bytes, that opens at this place, and its shortest form; or None."""
     try:
-        content = string(Message(source, place), kind)
+        content, _ = string_from(source, place, kind)
     except Refused:
         return None
     return content, string_form(kind, content)
@@ -743,15 +755,28 @@ class Walk:
             (self.list if kind <= TYPED_LIST else self.map if kind <= TYPED_MAP else self.object)(allowance - 1)
 
 
+def shortest(source, rows):
+    """The shortest message of rows of five numbers, however long it is. NoRecord, where they are none."""
+    walk = Walk(source, rows)
+    walk.value(MOST_OPEN)
+    need(walk.at == len(rows))
+    return b"".join(walk.pieces)
+
+
 def written(source, rows, claimed):
     """The shortest message of the first rows; or the refusal 1 or 10, whatever output is lent."""
     if len(source) > LONGEST:
         return LENGTH
-    walk = Walk(source, rows[:claimed])
     try:
         need(claimed <= len(rows))
-        walk.value(MOST_OPEN)
-        need(walk.at == claimed)
+        found = shortest(source, rows[:claimed])
     except NoRecord:
         return NO_RECORD
-    return b"".join(walk.pieces) if sum(map(len, walk.pieces)) <= LONGEST else LENGTH
+    return found if len(found) <= LONGEST else LENGTH
+
+
+@functools.lru_cache(maxsize=16)
+def shortest_length(data, rule=FLOAT):
+    """The length of the shortest message of what is read by a rule of 5f (2026-06); 0 of what is refused."""
+    rows = judged(data, rule)
+    return len(shortest(data, tabled(rows))) if isinstance(rows, list) else 0

@@ -25,8 +25,9 @@ import sys
 sys.dont_write_bytecode = True
 sys.path.insert(0, os.path.join(os.path.dirname(os.path.abspath(__file__)), "../vectors"))
 from hessian_cases import (  # noqa: E402
-    BEETLE, BROKEN, CARS, COLORS, EDGES, LINKED, LONE, NO_FIELDS, PAIRS, TOUR, TYPES, Chance, Maker, arguments,
-    checksum, chunked, class_of, data_of, each, groups, raw, some, text_of, write_files,
+    BEETLE, BROKEN, CARS, COLORS, DOUBLE_LENGTHS, EDGES, INT_LENGTHS, LINKED, LONE, LONG_LENGTHS, NAN_LENGTHS,
+    NO_FIELDS, PAIRS, TOUR, TYPES, Chance, Maker, arguments, checksum, chunked, class_of, data_of, each, groups, raw,
+    some, text_of, write_files,
 )
 from hessian_format import (  # noqa: E402
     BYTES, LONGEST, MOST_OPEN, STRINGS, TEXT, TEXTS, WORD, bytes_heads, date_form, double_form, ends, halves, int_form,
@@ -198,9 +199,9 @@ for n in AROUND:
 for n in AROUND + [2**63 - 1, 2**31, -(2**31) - 1, -(2**63)]:
     for form in long_forms(n):
         rewrites(form, long_form(n))
-for n, size in ((47, 1), (48, 2), (2047, 2), (2048, 3), (262143, 3), (262144, 5), (-16, 1), (-17, 2), (-262145, 5)):
+for n, size in INT_LENGTHS.items():
     assert len(int_form(n)) == size
-for n, size in ((15, 1), (16, 2), (2048, 3), (262144, 5), (2**31, 9), (-8, 1), (-9, 2), (-(2**31) - 1, 9)):
+for n, size in LONG_LENGTHS.items():
     assert len(long_form(n)) == size
 for n in (0, 1, -1, 2**31 - 1, 2**31, -(2**31), -(2**31) - 1, 2**40):
     for rest in (-1, 0, 1):
@@ -214,11 +215,7 @@ def double(x):
     return int.from_bytes(struct.pack(">d", x), "big")
 
 
-FORMS = {0.0: 1, 1.0: 1, -1.0: 2, 2.0: 2, 127.0: 2, 128.0: 3, -128.0: 2, -129.0: 3, 32767.0: 3, 32768.0: 5, -32768.0: 3}
-FORMS.update({-32769.0: 5, 0.5: 5, -0.5: 5, 12.25: 5, 0.1: 9, 2.0**127: 5, 2.0**128: 9, 2.0**-149: 5, 2.0**-150: 9})
-FORMS.update({16777215.0: 5, 16777217.0: 9, 1e300: 9, 5e-324: 9, -(2.0**-126): 5, 3 * 2.0**-149: 5, 3 * 2.0**-150: 9})
-FORMS.update({float("inf"): 5, float("-inf"): 5, 2.0**-126 - 2.0**-149: 5, 2.0**-126 - 2.0**-150: 9, 127.5: 5, 1.1: 9})
-for x, size in FORMS.items():
+for x, size in DOUBLE_LENGTHS.items():
     assert len(double_form(double(x))) == size, x
     rewrites(wide(0x44, double(x), 8), double_form(double(x)))
 for n in (0, 1, 2, -1, 127, -128):
@@ -229,7 +226,7 @@ for single in (1, 3, 0x7FFFFF, 0x800000, 0x7F800001, 0x7FBFFFFF, 0x7FC00000, 0x7
     for sign in (0, 1 << 31):
         rewrites(wide(0x5F, sign | single, 4))
 # NaNs with and without a float, doubles next to a float's
-for bits, size in ((0x7FF0000020000000, 5), (0x7FF0000010000000, 9), (0xFFF8000000000000, 5), (0x7FF8000000000001, 9)):
+for bits, size in NAN_LENGTHS.items():
     assert len(double_form(bits)) == size
     rewrites(wide(0x44, bits, 8), double_form(bits))
 for bits in (1, WORD - 1, 0x7FF0000000000001, 0x3FF0000000000001, 0x36A0000000000001, 0x369FFFFFFFFFFFFF, 0x47EFFFFFE0000001):

@@ -1,6 +1,6 @@
 /*
- * A plain C reader and writer of Hessian 2.0 messages, and a copier of their texts and byte strings, independent of the
- * library: to measure its speed and check its answers.
+ * A plain C reader and writer of Hessian 2.0 messages, the length of what is written, and a copier of their texts and
+ * byte strings, independent of the library: to measure its speed and check its answers.
  */
 #ifndef BASELINE_H
 #define BASELINE_H
@@ -32,6 +32,15 @@ uint64_t baseline_read_thousandths(const uint8_t *message, size_t message_len, u
  */
 uint64_t baseline_write(const uint8_t *source, size_t source_len, const uint8_t *table, size_t table_len, uint64_t rows,
                         uint8_t *output, size_t output_len);
+
+/*
+ * The length of the shortest message of the record that a message holds, also where it is more than a message may have;
+ * 0 where baseline_read, with rows enough, refuses the message.
+ */
+uint64_t baseline_shortest_length(const uint8_t *message, size_t message_len);
+
+/* The same of what baseline_read_thousandths reads, written by the main rule. */
+uint64_t baseline_shortest_length_thousandths(const uint8_t *message, size_t message_len);
 
 struct baseline_answer {
     uint64_t number, count, place;

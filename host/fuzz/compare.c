@@ -68,7 +68,8 @@ static uint8_t *copy_of(const uint8_t *bytes, size_t len)
 static bool differ(const char *what, uint64_t library, uint64_t plain)
 {
     fprintf(stderr, "fuzz: %s: library %u %zu %zu, plain %u %zu %zu\n", what, HESSIAN_NUMBER(library),
-            HESSIAN_COUNT(library), HESSIAN_PLACE(library), HESSIAN_NUMBER(plain), HESSIAN_COUNT(plain), HESSIAN_PLACE(plain));
+            HESSIAN_COUNT(library), HESSIAN_PLACE(library), HESSIAN_NUMBER(plain), HESSIAN_COUNT(plain),
+            HESSIAN_PLACE(plain));
     return false;
 }
 
@@ -148,14 +149,18 @@ static bool take_back(struct given *g)
 
 /* ---- the reader */
 
-/* A rule of 5f: the library's reader and the plain one. */
+/* A rule of 5f: the library's reader and the plain one, and the lengths that they say. */
 struct rule {
     uint64_t (*library)(const uint8_t *message, size_t message_len, uint8_t *table, size_t table_len);
     uint64_t (*plain)(const uint8_t *message, size_t message_len, uint8_t *table, size_t table_len);
+    uint64_t (*library_length)(const uint8_t *message, size_t message_len);
+    uint64_t (*plain_length)(const uint8_t *message, size_t message_len);
 };
 
-static const struct rule float_rule = {hessian_read, baseline_read};
-static const struct rule thousandths_rule = {hessian_read_thousandths, baseline_read_thousandths};
+static const struct rule float_rule = {hessian_read, baseline_read, hessian_shortest_length, baseline_shortest_length};
+static const struct rule thousandths_rule = {hessian_read_thousandths, baseline_read_thousandths,
+                                             hessian_shortest_length_thousandths,
+                                             baseline_shortest_length_thousandths};
 
 /* Reads with both, into a table of so many bytes. Its rows are copied to `rows`, unless that is NULL. */
 static bool compare_read(const struct rule *rule, const uint8_t *data, size_t size, size_t table_len, uint8_t **rows,
@@ -175,6 +180,21 @@ static bool compare_read(const struct rule *rule, const uint8_t *data, size_t si
         *rows = copy_of(l.library, stored);
     free(l.plain);
     return same;
+}
+
+/* The length of the shortest message by both; 0 exactly where the message is refused, as the reader's answer says. */
+static bool compare_length(const struct rule *rule, const uint8_t *data, size_t size, uint64_t answer)
+{
+    struct given message = give(&message_fence, data, size);
+    uint64_t length = rule->library_length(message.library, size), plain = rule->plain_length(message.plain, size);
+
+    if (!take_back(&message))
+        return differ("the message is changed", length, 0);
+    if (length != plain)
+        return differ("length", length, plain);
+    if ((length > 0) != (HESSIAN_NUMBER(answer) == HESSIAN_ACCEPTED))
+        return differ("a length where there is none, or none", length, answer);
+    return true;
 }
 
 /* The rows a message needs; 0 where it is refused. */
@@ -423,6 +443,14 @@ static bool compare_altered(const struct input *in)
     return same;
 }
 
+/* Whether so many bytes were written as the library's length says; or it says that these would be too many. */
+static bool has_length(const struct input *in, const struct rule *rule, uint64_t written)
+{
+    uint64_t length = rule->library_length(in->source, in->source_len);
+
+    return HESSIAN_NUMBER(written) == HESSIAN_LENGTH ? length > LONGEST : length == HESSIAN_COUNT(written);
+}
+
 /* Writes the rows of a message. What the main rule reads becomes no longer; by the other rule it may, and too long. */
 static bool compare_rewriting(const struct input *in, const struct rule *rule)
 {
@@ -436,6 +464,8 @@ static bool compare_rewriting(const struct input *in, const struct rule *rule)
         same = differ("rows of a message are not written", written, 0);
     if (same && rule == &float_rule && HESSIAN_COUNT(written) > in->source_len)
         same = differ("the shortest form is longer", HESSIAN_COUNT(written), in->source_len);
+    if (same && !has_length(in, rule, written))
+        same = differ("the shortest form has another length", HESSIAN_COUNT(written), in->source_len);
     free(shortest);
     return same;
 }
@@ -471,6 +501,8 @@ static bool compare_thousandths(const struct input *in, uint64_t expected)
     counted.table = table;
     if (answer != expected)
         same = differ("the rules answer differently", answer, expected);
+    else if (!compare_length(&thousandths_rule, in->source, in->source_len, answer))
+        same = false;
     else if (HESSIAN_NUMBER(answer) == HESSIAN_ACCEPTED)
         same = same_but_doubles(in, table) ? compare_rewriting(&counted, &thousandths_rule)
                                            : differ("the rules give different rows", answer, expected);
@@ -489,7 +521,8 @@ static bool compare_message(const uint8_t *data, size_t size)
     if (!same || !compare_read(&float_rule, data, size, rows * ROW_SIZE, &table, &answer))
         return false;
     in.table = table;
-    same = compare_thousandths(&in, answer) && compare_contents(&in, HESSIAN_NUMBER(answer) == 0 ? rows : 0, true);
+    same = compare_length(&float_rule, data, size, answer) && compare_thousandths(&in, answer) &&
+           compare_contents(&in, HESSIAN_NUMBER(answer) == 0 ? rows : 0, true);
     if (same && HESSIAN_NUMBER(answer) == 0)
         same = compare_rewriting(&in, &float_rule) && compare_after(&in) && compare_altered(&in);
     free(table);

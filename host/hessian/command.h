@@ -18,7 +18,7 @@ struct command {
     int (*run)(const struct command *self, int argc, char **argv); /* argv[0] is the name; the status */
 };
 
-extern const struct command copies_command, show_command, shorten_command, rows_command;
+extern const struct command copies_command, ledger_command, show_command, shorten_command, rows_command;
 
 /* ---- options */
 

@@ -20,7 +20,7 @@ _hessian_argument() { # COMMAND OPTION WORD
         compopt -o nospace 2>/dev/null
         _hessian_words "$3" "$before"{kept,copy,refused}
         ;;
-    copies--include | copies--exclude | show--limit | show--elements) ;;
+    copies--include | copies--exclude | ledger--include | ledger--exclude | show--limit | show--elements) ;;
     show--color) _hessian_words "$3" auto always never ;;
     shorten-o | shorten--output) _hessian_files "$3" ;;
     *) return 1 ;;
@@ -28,7 +28,7 @@ _hessian_argument() { # COMMAND OPTION WORD
 }
 
 _hessian() {
-    local commands='copies show shorten rows'
+    local commands='copies ledger show shorten rows'
     local command=${COMP_WORDS[1]} word=${COMP_WORDS[COMP_CWORD]} before=${COMP_WORDS[COMP_CWORD - 1]} i
     COMPREPLY=()
     if [ "$COMP_CWORD" -eq 1 ]; then
@@ -49,6 +49,9 @@ _hessian() {
     copies-*)
         _hessian_words "$word" --only= --print0 --pairs -q --summary --json --include= --exclude= -0 --time \
             --thousandths -h --help
+        ;;
+    ledger-*)
+        _hessian_words "$word" -q --summary --json --csv --include= --exclude= -0 --thousandths -h --help
         ;;
     show-*) _hessian_words "$word" --limit= --elements= --no-places --color --json --thousandths -h --help ;;
     shorten-*) _hessian_words "$word" -o --output= --thousandths -h --help ;;

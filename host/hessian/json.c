@@ -29,16 +29,16 @@ void json_close(struct json *j, char bracket)
     j->begun = true;
 }
 
-void json_null(struct json *j, const char *key)
-{
-    json_key(j, key);
-    fputs("null", j->out);
-}
-
 void json_number(struct json *j, const char *key, uint64_t n)
 {
     json_key(j, key);
     fprintf(j->out, "%" PRIu64, n);
+}
+
+void json_signed(struct json *j, const char *key, int64_t n)
+{
+    json_key(j, key);
+    fprintf(j->out, "%" PRId64, n);
 }
 
 void json_truth(struct json *j, const char *key, bool truth)

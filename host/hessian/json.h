@@ -22,9 +22,9 @@ void json_key(struct json *j, const char *key);
 void json_open(struct json *j, char bracket);
 void json_close(struct json *j, char bracket);
 
-/* A key and its value: null, a number, true or false, a text. */
-void json_null(struct json *j, const char *key);
+/* A key and its value: a number, one that may be below 0, true or false, a text. */
 void json_number(struct json *j, const char *key, uint64_t n);
+void json_signed(struct json *j, const char *key, int64_t n);
 void json_truth(struct json *j, const char *key, bool truth);
 void json_text(struct json *j, const char *key, const char *text);
 

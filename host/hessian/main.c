@@ -5,7 +5,8 @@
 #include "command.h"
 #include "hessian.h"
 
-static const struct command *const commands[] = {&copies_command, &show_command, &shorten_command, &rows_command};
+static const struct command *const commands[] = {&copies_command, &ledger_command, &show_command, &shorten_command,
+                                                 &rows_command};
 
 enum { COMMANDS = sizeof commands / sizeof commands[0] };
 

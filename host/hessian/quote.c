@@ -171,3 +171,20 @@ void put_json(FILE *out, const char *text)
 {
     put_json_bytes(out, (const uint8_t *)text, strlen(text));
 }
+
+/* ---- CSV */
+
+void put_csv(FILE *out, const char *text)
+{
+    if (strpbrk(text, ",\"\r\n") == NULL) {
+        fputs(text, out);
+        return;
+    }
+    putc('"', out);
+    for (; *text != '\0'; text++) {
+        if (*text == '"')
+            putc('"', out);
+        putc(*text, out);
+    }
+    putc('"', out);
+}

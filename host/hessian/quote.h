@@ -26,4 +26,7 @@ void put_json_bytes(FILE *out, const uint8_t *bytes, size_t len);
 
 void put_json(FILE *out, const char *text);
 
+/* A field of CSV as RFC 4180 has it: as it is, or quoted where it has commas, line ends or quotes, which are doubled. */
+void put_csv(FILE *out, const char *text);
+
 #endif

@@ -191,6 +191,18 @@ void rewrite(struct record *r)
     r->seconds += now() - start;
 }
 
+uint64_t shortest_length(const struct record *r)
+{
+    return (r->thousandths ? hessian_shortest_length_thousandths : hessian_shortest_length)(r->message, r->len);
+}
+
+bool read_shortest(struct record *r)
+{
+    uint64_t answer = hessian_read(r->shortest, r->shortest_len, r->table, TABLE_LEN);
+
+    return HESSIAN_NUMBER(answer) == HESSIAN_ACCEPTED && HESSIAN_COUNT(answer) == r->rows;
+}
+
 bool too_long_shortest(const struct record *r)
 {
     return r->thousandths && r->by_writer && r->number == HESSIAN_LENGTH;

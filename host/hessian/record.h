@@ -57,6 +57,15 @@ const char *load_descriptor(struct record *r, int descriptor);
 void rewrite(struct record *r);
 
 /*
+ * The length of the shortest form as the library says it without writing it: also where that is longer than
+ * HESSIAN_LONGEST; 0 where the message is refused when it is read.
+ */
+uint64_t shortest_length(const struct record *r);
+
+/* Reads the shortest form into rows, which take the place of the message's; whether they are as many. */
+bool read_shortest(struct record *r);
+
+/*
  * Whether it was read, and only its shortest form was refused, as longer than HESSIAN_LONGEST: five bytes of
  * thousandths may become nine. By the main rule no record is such.
  */

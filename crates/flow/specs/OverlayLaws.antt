@@ -99,6 +99,11 @@ stored-apart l i j a b h =
     ) (sets-apart l i j a b h))
 
 -- ---- tables
+-- with no entries laid over, a table is itself
+pub overlay-none : {A : Type 0} (width : ℕ) (encode : A → List ℕ) (t : List ℕ) (k : ℕ) → overlay width encode t k [] ≡ t
+unfolding overlay
+overlay-none width encode t k = refl
+
 module _ {A : Type 0} (width : ℕ) (encode : A → List ℕ) (sized : (x : A) → length (encode x) ≡ width) where
   pub length-flat : (xs : List A) → length (flat width encode xs) ≡ length xs * width
   unfolding flat

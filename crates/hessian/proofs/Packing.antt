@@ -20,7 +20,8 @@ use Rattle.writer.specs.Answers as writes
 use Rattle.hessian.specs.Packed.{packed, answer, ReadGives, WriteGives}
 
 -- ---- reading
-module _ (ρ : DoubleRule) (m t : List ℕ) (r : ReadAnswer) (t′ : List ℕ) (g : ReadCall ρ base asBytes m t (report r) t′) where
+module _ (ρ : DoubleRule) (m t : List ℕ) (r : ReadAnswer) (t′ : List ℕ)
+    (g : ReadCall ρ base asBytes m t (report r) t′) where
   small : (r′ : ReadAnswer) → r ≡ r′ → (report r′ .count ≤ base .longest) × (report r′ .place ≤ base .longest)
   small r′ h =
       let s = answer-small ρ base (lentRows asBytes t) m (g .bytes) in
@@ -29,11 +30,11 @@ module _ (ρ : DoubleRule) (m t : List ℕ) (r : ReadAnswer) (t′ : List ℕ) (
       let p = ap (λ (x : Report). x .place) f in
       (omega (arith, s .0), omega (arith, s .1))
 
-  pub rows-small : (n k : ℕ) → r ≡ Accepted n k → n ≤ base .longest
-  rows-small n k h = small (Accepted n k) h .0
+  pub rows-small : (n k w : ℕ) → r ≡ Accepted n k w → n ≤ base .longest
+  rows-small n k w h = small (Accepted n k w) h .0
 
-  pub length-small : (n k : ℕ) → r ≡ Accepted n k → k ≤ base .longest
-  length-small n k h = small (Accepted n k) h .1
+  pub length-small : (n k w : ℕ) → r ≡ Accepted n k w → k ≤ base .longest
+  length-small n k w h = small (Accepted n k w) h .1
 
   pub place-small : (x o : ℕ) → r ≡ Refused x o → o ≤ base .longest
   place-small x o h = small (Refused x o) h .1
@@ -44,8 +45,8 @@ module _ (ρ : DoubleRule) (m t : List ℕ) (r : ReadAnswer) (t′ : List ℕ) (
   packed-as : (r′ : ReadAnswer) → r ≡ r′ → (v : ℕ) → v ≡ packed (report r′) → ReadGives ρ m t v t′
   packed-as r′ h v q = record { report = report r; call = g; as-one = q ∙ ap packed (ap report (sym h)) }
 
-  pub packed-accepted : (n k v : ℕ) → r ≡ Accepted n k → v ≡ packed (answer 0 n k) → ReadGives ρ m t v t′
-  packed-accepted n k v h q = packed-as (Accepted n k) h v q
+  pub packed-accepted : (n k w v : ℕ) → r ≡ Accepted n k w → v ≡ packed (answer 0 n k) → ReadGives ρ m t v t′
+  packed-accepted n k w v h q = packed-as (Accepted n k w) h v q
 
   pub packed-refused : (x o v : ℕ) → r ≡ Refused x o → v ≡ packed (answer x 0 o) → ReadGives ρ m t v t′
   packed-refused x o v h q = packed-as (Refused x o) h v q

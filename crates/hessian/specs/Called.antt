@@ -1,7 +1,8 @@
 -- The proofs of the demands: Demands.antt states them.
 use mathlib.Core.Path.{_≡_, refl, sym, ap, subst, _∙_}
 use mathlib.Core.List.{List}
-use Prim.Native.Nat.{ℕ, _+_, _*_, _/_, _%_, _^_, _≤_}
+use mathlib.Core.Logic.{_↔_}
+use Prim.Native.Nat.{ℕ, _+_, _*_, _/_, _%_, _^_, _≤_, _<_}
 use native.Mathlib.Omega.{arith}
 use lib.ListN.{length}
 use Rattle.scalar.specs.Scalars.{DoubleRule, Floats, Thousandths}
@@ -24,13 +25,13 @@ pub of-bytes : demands.OfBytes
 of-bytes = theorem base (omega arith) baseOpenFrom (omega arith) asBytes bytes-keep
 
 pub of-reader-read : demands.OfReaderRead
-of-reader-read ρ m t r t′ g = of-numbers .reading ρ m t _ t′ g
+of-reader-read ρ m t r t′ g = (of-numbers .reading ρ m t _ t′ (g .call), of-numbers .measuring ρ m t _ _ t′ g)
 
 pub of-writer-write : demands.OfWriterWrite
 of-writer-write s t n o r o′ g = of-numbers .writing s t n o _ o′ g
 
 pub of-reader-read-bytes : demands.OfReaderReadBytes
-of-reader-read-bytes ρ m t r t′ g = of-bytes .reading ρ m t _ t′ g
+of-reader-read-bytes ρ m t r t′ g = (of-bytes .reading ρ m t _ t′ (g .call), of-bytes .measuring ρ m t _ _ t′ g)
 
 pub of-writer-write-bytes : demands.OfWriterWriteBytes
 of-writer-write-bytes s t n o r o′ g = of-bytes .writing s t n o _ o′ g
@@ -82,6 +83,23 @@ hessian-shortest s t n w x =
 pub hessian-rewritten : demands.HessianRewritten
 hessian-rewritten m t a t′ g z o c o′ h l =
     of-bytes .rewriting m t _ t′ (read-call Floats m t a t′ g) z o _ o′ (write-call m t′ (unpacked a .count) o c o′ h) l
+
+pub hessian-length : demands.HessianLength
+hessian-length ρ m n l t a t′ g =
+    let call = read-call ρ m t a t′ g in
+    let alone = of-bytes .lengths ρ m t _ t′ call in
+    let said = of-bytes .measuring ρ m t _ _ t′ (record { call = call; shortest = refl }) in
+    let e = l .length in
+    record {
+      refused = subst (λ (k : ℕ). (k ≡ 0) ↔ ((unpacked a .number ≡ 0 → ⊥) × (unpacked a .number ≡ 9 → ⊥))) (sym e)
+          (alone .refused);
+      no-longer = λ q. subst (λ (k : ℕ). k ≤ length m) (sym e) (alone .no-longer q);
+      written = λ z o c o′ h.
+          subst (λ (k : ℕ). (k ≤ base .longest → k ≤ length o → unpacked c ≡ answer 0 k 0)
+          × (base .longest < k → unpacked c ≡ answer 1 0 0)
+          × (k ≤ base .longest → length o < k → unpacked c ≡ answer 9 k 0)) (said .measured z ∙ sym e)
+          (said .written z o _ o′ (write-call m t′ (unpacked a .count) o c o′ h));
+    }
 
 pub hessian-copies : demands.HessianCopies
 hessian-copies s₁ t₁ n₁ o₁ a₁ o₁′ g₁ z₁ s₂ t₂ n₂ o₂ a₂ o₂′ g₂ z₂ =

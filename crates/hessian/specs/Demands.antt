@@ -1,11 +1,11 @@
 -- The demands, of each public function that reads or writes whole messages: instances of record's theorem
--- (Theorems/Demands.antt), for 01's limits and threshold. A call is what its function promises: ReadCall and WriteCall
--- of the answer's report, and for C ReadGives, WriteGives and ContentGives (Packed.antt). The proofs are in
--- Called.antt.
+-- (Theorems/Demands.antt), for 01's limits and threshold. A call is what its function promises: MeasuredCall and
+-- WriteCall of the answer's report (and length), and for C ReadGives, LengthGives, WriteGives and ContentGives
+-- (Packed.antt). The proofs are in Called.antt.
 use mathlib.Core.{Path._≡_, Logic._↔_, Bool.true, List.List, List.map}
-use Prim.Native.Nat.{ℕ, _≤_}
+use Prim.Native.Nat.{ℕ, _≤_, _<_}
 use lib.ListN.{length, take}
-use Rattle.flow.specs.RefusalNumbers.{no-record}
+use Rattle.flow.specs.RefusalNumbers.{wrong-length, no-room, no-record}
 use Rattle.flow.specs.Flow.{stored}
 use Rattle.scalar.specs.Scalars.{DoubleRule, Floats, Thousandths}
 use Rattle.record.specs.Model.Items.{Item}
@@ -15,19 +15,22 @@ use Rattle.record.specs.Model.Answers.{base, baseOpenFrom, asNumbers, asBytes, 
 use Rattle.record.specs.Model.Terms.{rowInThousandths}
 use Rattle.record.specs.Model.Same.{SameRecord}
 use Rattle.record.specs.Model.Hops.{Skippable}
-use Rattle.record.specs.Model.Calls.{ReadCall, WriteCall, RecordOf, ShortestOf}
-use Rattle.record.specs.Theorems.Demands.{OfRead, OfWrite, Demanded}
+use Rattle.record.specs.Model.Calls.{MeasuredCall, WriteCall, RecordOf, ShortestOf}
+use Rattle.record.specs.Theorems.Demands.{OfRead, OfLength, OfWrite, Demanded}
 use Rattle.reader.specs.declared.ReadAnswer.{ReadAnswer}
 use Rattle.reader.specs.Answers as reader
 use Rattle.writer.specs.declared.WriteAnswer.{WriteAnswer}
 use Rattle.writer.specs.Answers as writer
 use Rattle.hessian.specs.declared.HessianAnswer.{HessianAnswer}
-use Rattle.hessian.specs.Packed.{unpacked, answer, answerReport, ReadGives, WriteGives, ContentGives}
+use Rattle.hessian.specs.Packed.{unpacked, answer, answerReport, ReadGives, LengthGives, WriteGives}
+use Rattle.hessian.specs.Packed.{ContentGives}
 
 -- ---- reader::read and read_thousandths, each by its rule of 5f, and writer::write, on tables of numbers
 abbrev pub OfReaderRead : Type 0
 OfReaderRead = (ρ : DoubleRule) (m t : List ℕ) (r : ReadAnswer) (t′ : List ℕ)
-    → ReadCall ρ base asNumbers m t (reader.report r) t′ → OfRead ρ base asNumbers m t (reader.report r) t′
+    → MeasuredCall ρ base asNumbers m t (reader.report r) (reader.shortest r) t′
+    → OfRead ρ base asNumbers m t (reader.report r) t′
+    × OfLength ρ base baseOpenFrom asNumbers m (reader.report r) (reader.shortest r) t′
 
 abbrev pub OfWriterWrite : Type 0
 OfWriterWrite = (s t : List ℕ) (n : ℕ) (o : List ℕ) (r : WriteAnswer) (o′ : List ℕ)
@@ -41,7 +44,9 @@ OfNumbers = Demanded base baseOpenFrom asNumbers
 -- ---- reader::read_bytes and read_bytes_thousandths, and writer::write_bytes, on C's tables
 abbrev pub OfReaderReadBytes : Type 0
 OfReaderReadBytes = (ρ : DoubleRule) (m t : List ℕ) (r : ReadAnswer) (t′ : List ℕ)
-    → ReadCall ρ base asBytes m t (reader.report r) t′ → OfRead ρ base asBytes m t (reader.report r) t′
+    → MeasuredCall ρ base asBytes m t (reader.report r) (reader.shortest r) t′
+    → OfRead ρ base asBytes m t (reader.report r) t′
+    × OfLength ρ base baseOpenFrom asBytes m (reader.report r) (reader.shortest r) t′
 
 abbrev pub OfWriterWriteBytes : Type 0
 OfWriterWriteBytes = (s t : List ℕ) (n : ℕ) (o : List ℕ) (r : WriteAnswer) (o′ : List ℕ)
@@ -95,6 +100,22 @@ HessianTold = (m t : List ℕ) (a : ℕ) (t′ : List ℕ) → ReadGives Floats 
     → (unpacked a ≡ unpacked b)
     × (unpacked a .number ≡ 0
     → rowsOf asBytes (unpacked a .count) t″ ≡ map (rowInThousandths m) (rowsOf asBytes (unpacked a .count) t′))
+
+-- request 2026-06: of the length n of a message, beside a call that reads it. It is 0 exactly where reading refuses with
+-- another number than 9; by the main rule it is never more than the message has; with room, hessian_write writes so many
+-- bytes, where the ceiling is passed it refuses 1, and with less room 9, which counts them
+pub record OfHessianLength (ρ : DoubleRule) (m : List ℕ) (n a : ℕ) (t′ : List ℕ) : Type 0 where
+  pub refused : (n ≡ 0) ↔ ((unpacked a .number ≡ 0 → ⊥) × (unpacked a .number ≡ no-room → ⊥))
+  pub no-longer : ρ ≡ Floats → n ≤ length m
+  pub written : unpacked a .number ≡ 0 → (o : List ℕ) (c : ℕ) (o′ : List ℕ)
+      → WriteGives m t′ (unpacked a .count) o c o′
+      → (n ≤ base .longest → n ≤ length o → unpacked c ≡ answer 0 n 0)
+      × (base .longest < n → unpacked c ≡ answer wrong-length 0 0)
+      × (n ≤ base .longest → length o < n → unpacked c ≡ answer no-room n 0)
+
+abbrev pub HessianLength : Type 0
+HessianLength = (ρ : DoubleRule) (m : List ℕ) (n : ℕ) → LengthGives ρ m n
+    → (t : List ℕ) (a : ℕ) (t′ : List ℕ) → ReadGives ρ m t a t′ → OfHessianLength ρ m n a t′
 
 -- true copies: two tables hold the same record exactly when the messages written are the same bytes
 abbrev pub HessianCopies : Type 0

@@ -7,7 +7,7 @@ use Rattle.scalar.specs.Scalars.{DoubleRule}
 use Rattle.flow.specs.Flow.{Report}
 use Rattle.scalar.specs.Answers.{reportOf, outputOf}
 use Rattle.record.specs.Model.Claims.{namedContent}
-use Rattle.record.specs.Model.Answers.{base, baseOpenFrom, asBytes}
+use Rattle.record.specs.Model.Answers.{base, baseOpenFrom, asBytes, shortestLength}
 use Rattle.record.specs.Model.Calls.{ReadCall, WriteCall}
 use Rattle.hessian.specs.declared.HessianAnswer.{HessianAnswer}
 
@@ -28,6 +28,11 @@ pub record ReadGives (ρ : DoubleRule) (m t : List ℕ) (a : ℕ) (t′ : List �
   pub report : Report
   pub call : ReadCall ρ base asBytes m t report t′
   pub as-one : a ≡ packed report
+
+-- 2026-06: hessian_shortest_length, and by the other rule of 5f hessian_shortest_length_thousandths, of the message m
+-- answers n, the length of the record's shortest message; 0 where reading with rows enough is refused
+pub record LengthGives (ρ : DoubleRule) (m : List ℕ) (n : ℕ) : Type 0 where
+  pub length : n ≡ shortestLength ρ base baseOpenFrom m
 
 -- hessian_write of the source s, the first n rows of the table t and the output o answers a and leaves the output o′
 pub record WriteGives (s t : List ℕ) (n : ℕ) (o : List ℕ) (a : ℕ) (o′ : List ℕ) : Type 0 where

@@ -1,6 +1,6 @@
 // The C interface: include/hessian.h declares these functions. A table crosses as bytes, eight big-endian bytes a
-// number, and the answer of the reader and of the writer as one number, of the others as a struct. What a call gives
-// stands in specs/Packed.antt, what follows from it in specs/Demands.antt.
+// number, and the answer of the reader and of the writer as one number, a length as it is, other answers as a struct.
+// What a call gives stands in specs/Packed.antt, what follows from it in specs/Demands.antt.
 use reader::ReadAnswer;
 use record::kinds::BYTES;
 use record::kinds::CLASS_NAME;
@@ -19,7 +19,8 @@ ghost use Rattle.record.specs.Model.Claims.{isTextKind};
 ghost use lib.ListN.{length};
 ghost use Rattle.scalar.specs.Scalars.{Floats, Thousandths, stringAt};
 ghost use Rattle.scalar.specs.Answers.{contentRead, reportOf, outputOf};
-ghost use Rattle.hessian.specs.Packed.{packed, answer, answerReport, ReadGives, WriteGives, ContentGives};
+ghost use Rattle.hessian.specs.Packed.{packed, answer, answerReport, ReadGives, LengthGives, WriteGives};
+ghost use Rattle.hessian.specs.Packed.{ContentGives};
 
 // Number, count and place of an answer.
 #[repr(C)]
@@ -43,7 +44,11 @@ pub extern "C" fn hessian_read(message: &[u8], table: &mut [u8]) -> u64
     ensures { λ r. ⌜ ReadGives Floats (now (message .entry)) (now (table .entry)) r (now (table .exit)) ⌝ }
 {
     match reader::read_bytes(message, table) {
-        ReadAnswer::Accepted { rows, length } => pack(0, rows, length),
+        ReadAnswer::Accepted {
+            rows,
+            length,
+            shortest: _,
+        } => pack(0, rows, length),
         ReadAnswer::Refused { number, place } => pack(number, 0, place),
         ReadAnswer::TooFew { needed } => pack(ROOM, needed, 0),
     }
@@ -55,10 +60,30 @@ pub extern "C" fn hessian_read_thousandths(message: &[u8], table: &mut [u8]) -> 
     ensures { λ r. ⌜ ReadGives Thousandths (now (message .entry)) (now (table .entry)) r (now (table .exit)) ⌝ }
 {
     match reader::read_bytes_thousandths(message, table) {
-        ReadAnswer::Accepted { rows, length } => pack(0, rows, length),
+        ReadAnswer::Accepted {
+            rows,
+            length,
+            shortest: _,
+        } => pack(0, rows, length),
         ReadAnswer::Refused { number, place: at } => pack(number, 0, at),
         ReadAnswer::TooFew { needed: rows } => pack(ROOM, rows, 0),
     }
+}
+
+// The length of the shortest message of the record in the message; 0 where it is refused.
+#[no_mangle]
+pub extern "C" fn hessian_shortest_length(message: &[u8]) -> u64
+    ensures { λ r. ⌜ LengthGives Floats (now (message .entry)) r ⌝ }
+{
+    reader::shortest_length(message)
+}
+
+// The same, where 5f counts thousandths.
+#[no_mangle]
+pub extern "C" fn hessian_shortest_length_thousandths(message: &[u8]) -> u64
+    ensures { λ r. ⌜ LengthGives Thousandths (now (message .entry)) r ⌝ }
+{
+    reader::shortest_length_thousandths(message)
 }
 
 // Writes the shortest message of the first `rows` rows of the table, whose texts and bytes lie in the source, into the

@@ -2,8 +2,8 @@
 //
 // A case is a line of 24 hexadecimal digits: a byte that is 16 times the operation and the sort, by its row's kind; a
 // byte n; and ten bytes of data.
-//   0 read: the first n bytes of data are a message. The value at its start and its size, or the refusal's number and
-//   place.
+//   0 read: the first n bytes of data are a message. The value at its start, its size and the length of its shortest
+//   form, or the refusal's number and place; and `differs` where a function of numbers::direct answers otherwise.
 //   1 write: the first 8 bytes of data are a value. Its shortest form or `none`, its length, and what storing it keeps.
 //   2 chart: the first byte of data is a first byte. Its entry.
 //   3 read at: as 0, at the place that is the last byte of data.
@@ -11,12 +11,16 @@
 use libc::STDIN_FILENO;
 use libc::STDOUT_FILENO;
 use numbers::NumberRead;
+use numbers::direct;
 use scalar::Sort;
 use scalar::Written;
 ghost use Prim.Native.Nat.{_≤_};
 
 // What a buffer holds before anything is stored.
 const BLANK: u8 = 0xee;
+
+// How much is read of standard input.
+const LONGEST: usize = 0x2_0000;
 
 // Where the value is stored in a larger buffer.
 const PLACE: usize = 3;
@@ -67,10 +71,16 @@ fn say_bytes(bytes: &[u8; 16], from: usize, count: usize) {
 
 fn say_read(read: NumberRead) {
     match read {
-        NumberRead::Value { value, size } => {
+        NumberRead::Value {
+            value,
+            size,
+            shortest,
+        } => {
             io::print_hex(STDOUT_FILENO, value, 16);
             say(b" ");
             say_number(size as u64);
+            say(b" ");
+            say_number(shortest as u64);
         }
         NumberRead::Refused { number, place } => {
             say(b"refused ");
@@ -81,10 +91,68 @@ fn say_read(read: NumberRead) {
     }
 }
 
-// The value at the place `at` of the message that is the first n bytes of data.
+fn is_value(read: NumberRead, v: u64, n: usize, length: usize) -> bool {
+    match read {
+        NumberRead::Value {
+            value,
+            size,
+            shortest,
+        } => value == v && size == n && shortest == length,
+        NumberRead::Refused {
+            number: _,
+            place: _,
+        } => false,
+    }
+}
+
+fn is_refused(read: NumberRead, x: u8, at: usize) -> bool {
+    match read {
+        NumberRead::Value {
+            value: _,
+            size: _,
+            shortest: _,
+        } => false,
+        NumberRead::Refused { number, place } => number == x && place == at,
+    }
+}
+
+fn same(read: NumberRead, other: NumberRead) -> bool {
+    match other {
+        NumberRead::Value {
+            value,
+            size,
+            shortest,
+        } => is_value(read, value, size, shortest),
+        NumberRead::Refused { number, place } => is_refused(read, number, place),
+    }
+}
+
+// The functions of numbers::direct for this sort say the same.
+fn same_directly(read: NumberRead, sort: Sort, message: &[u8], at: usize) -> bool {
+    match sort {
+        Sort::Int => same(read, direct::read_int(message, at))
+            && same(read, direct::read_wide_int(message, at)),
+        Sort::Long => same(read, direct::read_long(message, at))
+            && same(read, direct::read_wide_long(message, at)),
+        Sort::Double => same(read, direct::read_double(message, at)),
+        Sort::Date => same(read, direct::read_date(message, at)),
+        _ => same(read, direct::read_single(sort, message, at)),
+    }
+}
+
+// The value at the place `at` of the message.
+fn read_message(sort: Sort, message: &[u8], at: usize) {
+    let read = numbers::read_number(sort, message, at);
+    say_read(read);
+    if !same_directly(read, sort, message, at) {
+        say(b" differs");
+    }
+}
+
+// The same of the message that is the first n bytes of data.
 fn read_case(sort: Sort, data: &[u8], n: usize, at: usize) {
     if n <= data.len() {
-        say_read(numbers::read_number(sort, &data[0..n], at));
+        read_message(sort, &data[0..n], at);
     } else {
         say(b"bad");
     }
@@ -149,15 +217,14 @@ fn all_refused(sort: Sort, value: u64, length: usize) -> bool {
     refused(sort, value, length, PLACE, PLACE - 1)
 }
 
-// The value and its size are read again.
+// The value and its size, which is the length of its shortest form, are read again.
 fn read_again(sort: Sort, value: u64, length: usize, out: &[u8; 16]) -> bool {
-    match numbers::read_number(sort, out, PLACE) {
-        NumberRead::Value { value: v, size } => v == value && size == length,
-        NumberRead::Refused {
-            number: _,
-            place: _,
-        } => false,
-    }
+    is_value(
+        numbers::read_number(sort, out, PLACE),
+        value,
+        length,
+        length,
+    )
 }
 
 // The form that is stored in `out`, and what was kept.
@@ -280,7 +347,7 @@ fn run_all(input: &[u8]) {
 }
 
 fn main() {
-    let mut input = io::large_buffer();
+    let mut input = [0u8; LONGEST];
     let n = io::read_full(STDIN_FILENO, &mut input);
     run_all(&input[..n]);
 }

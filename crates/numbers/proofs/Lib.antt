@@ -1,4 +1,5 @@
 pub mod Reading
-pub mod Loads
 pub mod Writing
 pub mod Shortest
+pub mod LengthLaws
+pub mod Loads

@@ -32,9 +32,8 @@ use Rattle.scalar.specs.FormLaws.{forms-null, forms-false, forms-true, forms-in
 use Rattle.scalar.specs.FormLaws.{shortest-none, shortest-first}
 use Rattle.scalar.specs.NumberLaws.{tried, EachForm, IsNumber, number-fact, shortest-is}
 use Rattle.numbers.specs.Answers.{Takes, Good, spelled, orElse, present, Writes}
-use Rattle.scalar.specs.Answers.{report, reportOf, outputOf, lengthOf}
+use Rattle.scalar.specs.Answers.{report, reportOf, outputOf}
 use Rattle.scalar.specs.AnswerLaws.{report-none, report-stored, report-over, output-none, output-some}
-use Rattle.scalar.specs.AnswerLaws.{length-none, length-some}
 
 -- ---- one form
 -- what stands before the k lowest bytes is the quotient
@@ -182,9 +181,6 @@ written-forms v e f h = rw (e, f) (h .says, h .holds)
 -- ---- what is made of a spelling r, where o is what it spells
 module _ {r : Spelling} {o : Option (List ℕ)} (e : spelled r ≡ o) where
   module _ (q : r ≡ answer.Absent) where
-    pub absent-length : 0 ≡ lengthOf o
-    absent-length = sym (ap lengthOf (sym e ∙ ap spelled q) ∙ length-none)
-
     pub absent-written : (l : List ℕ) (at : ℕ) → Writes o l at NoSuchForm l
     absent-written l at = written-none l at (sym e ∙ ap spelled q)
 
@@ -194,9 +190,6 @@ module _ {r : Spelling} {o : Option (List ℕ)} (e : spelled r ≡ o) where
 
     one-more : k + 1 ≡ length (c ∷ be k u)
     one-more = omega (arith, be-length k u)
-
-    pub form-length : k + 1 ≡ lengthOf o
-    form-length = one-more ∙ sym (ap lengthOf spells ∙ length-some (c ∷ be k u))
 
     module _ (l : List ℕ) (at : ℕ) {l′ : List ℕ} {t : Bool}
         (h : (t ≡ leb (at + suc k) (length l)) × (l′ ≡ stored l at (c ∷ be k u))) where

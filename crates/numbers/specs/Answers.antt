@@ -3,7 +3,7 @@ use mathlib.Core.Path.{_≡_}
 use mathlib.Core.Bool.{Bool, true, false}
 use mathlib.Core.List.{List, [], _∷_}
 use mathlib.Core.Option.{Option, none, some}
-use Prim.Native.Nat.{ℕ, _+_, _-_, _^_, _≤_, _<_}
+use Prim.Native.Nat.{ℕ, _+_, _-_, _*_, _%_, _^_, _≤_, _<_}
 use lib.Dec.{leb}
 use lib.ListN.{length, take, drop}
 use Rattle.flow.specs.Flow.{pick, Done, Fault}
@@ -15,7 +15,7 @@ use Rattle.scalar.specs.declared.Rule.the-variants.{Exactly, Plain, Offset, Sig
 use Rattle.scalar.specs.declared.Rule.the-variants.{WholeByte, WholePair, Float}
 use Rattle.scalar.specs.declared.Written.{Written}
 use Rattle.scalar.specs.Scalars.{value, Form, form, formsOf}
-use Rattle.scalar.specs.Answers.{report, reportOf, outputOf}
+use Rattle.scalar.specs.Answers.{numberAt, lengthRead, numberLengthAt, report, reportOf, outputOf}
 use Rattle.numbers.specs.declared.NumberRead.{NumberRead}
 use Rattle.numbers.specs.declared.NumberRead.the-variants.{Value, Refused}
 use Rattle.numbers.specs.declared.stores.Codes.{Codes}
@@ -24,14 +24,33 @@ use Rattle.numbers.specs.declared.Spelling.the-variants as spelling
 
 -- a value read, and the bytes it takes; or a refusal's number and place
 abbrev pub told : NumberRead → Answer ℕ
-told (Value v n) = Done n v [] tt
+told (Value v n w) = Done n v [] tt
 told (Refused x o) = Fault x o
+
+-- 2026-06: the bytes of its shortest form; a refusal has 0
+abbrev pub toldLength : NumberRead → ℕ
+toldLength (Value v n w) = w
+toldLength (Refused x o) = 0
+
+-- what reading a value of the kind s at the place p of the message m answers
+pub record NumberMet (s : Sort) (m : List ℕ) (p : ℕ) (r : NumberRead) : Type 0 where
+  pub says : told r ≡ numberAt s m p
+  pub shortest : toldLength r ≡ numberLengthAt s m p
 
 -- ---- inside the code
 -- reading the form with k bytes after the first, which is at p and holds u
 abbrev pub formRead : List ℕ → ℕ → ℕ → ℕ → Rule → Answer ℕ
 formRead m p k u r =
     pick (leb (length m - p) k) (Fault 2 (length m)) (Done (k + 1) (value r (joined u (take k (drop (p + 1) m)))) [] tt)
+
+-- what reading that form, of a value of the kind s, answers
+pub record FormMet (s : Sort) (m : List ℕ) (p k u : ℕ) (x : Rule) (r : NumberRead) : Type 0 where
+  pub says : told r ≡ formRead m p k u x
+  pub shortest : toldLength r ≡ lengthRead s (told r)
+
+-- the number whose two's complement is v is one from −d to d − 1
+abbrev pub Within : ℕ → ℕ → Type 0
+Within d v = (v + d) % 2 ^ 64 < 2 * d
 
 -- the bytes that a spelling is
 abbrev pub spelled : Spelling → Option (List ℕ)
@@ -62,13 +81,15 @@ pub record Writes (o : Option (List ℕ)) (l : List ℕ) (at : ℕ) (r : Written
   pub says : report r ≡ reportOf o (length l) at
   pub holds : l′ ≡ outputOf o l at
 
--- a kind whose forms of one, two and three bytes have these codes: int or long
+-- a kind whose forms of one, two and three bytes have these codes, and whose next has five: int or long
 pub record HasCodes (s : Sort) (c : Codes) : Type 0 where
+  pub five : ℕ
   pub others : List Form
   pub forms : formsOf s ≡
       form (c .one) (c .count) 0 (Offset (c .zero))
       ∷ form (c .two) 16 1 (Offset 0x800)
       ∷ form (c .three) 8 2 (Offset 0x4_0000)
+      ∷ form five 1 4 Signed
       ∷ others
   pub one-fits : c .one + c .count ≤ 256
   pub zero-fits : c .zero ≤ 256

@@ -3,6 +3,7 @@
 pub mod chart;
 pub mod direct;
 pub mod doubles;
+mod lengths;
 pub(crate) mod signed;
 mod stores;
 
@@ -24,14 +25,22 @@ ghost use Rattle.scalar.specs.declared.Rule.the-variants as Rule;
 ghost use Rattle.scalar.specs.declared.Sort.the-variants as Sort;
 ghost use Rattle.scalar.specs.Scalars.{value as valueOf, form, formsOf, formAt, shortest};
 ghost use Rattle.scalar.specs.Guesses.{guess as guessOf};
-ghost use Rattle.scalar.specs.Answers.{numberAt, lengthOf, report, reportOf, outputOf};
-ghost use Rattle.numbers.specs.Answers.{Takes, Good, told, spelled, orElse, present, wholeForms, Writes};
+ghost use Rattle.scalar.specs.Answers.{lengthOf, report, reportOf, outputOf};
+ghost use Rattle.numbers.specs.Answers.{NumberMet, Takes, Good, spelled, orElse, present, wholeForms, Writes};
 ghost use Rattle.scalar.specs.NumberLaws.{tried};
 
-// What reading a value at a place finds: the value and the bytes that it takes; or a refusal's number and place.
+// What reading a value at a place finds: the value, the bytes that it takes and those of its shortest form; or a
+// refusal's number and place.
 pub enum NumberRead {
-    Value { value: u64, size: usize },
-    Refused { number: u8, place: usize },
+    Value {
+        value: u64,
+        size: usize,
+        shortest: usize,
+    },
+    Refused {
+        number: u8,
+        place: usize,
+    },
 }
 
 // A form's first byte, and the lowest `more` bytes of `rest` after it; or the value has no form of its kind.
@@ -210,7 +219,7 @@ fn value_of(rule: Rule, u: u64) -> u64
 
 // The value of this kind at the place `at` of the message.
 pub fn read_number(sort: Sort, message: &[u8], at: usize) -> NumberRead
-    ensures { λ r. ⌜ told r ≡ numberAt sort (now (message .entry)) at ⌝ }
+    ensures { λ r. ⌜ NumberMet sort (now (message .entry)) at r ⌝ }
 {
     let len = message.len();
     if len <= at {
@@ -232,9 +241,11 @@ pub fn read_number(sort: Sort, message: &[u8], at: usize) -> NumberRead
                     place: len,
                 };
             }
+            let value = value_of(rule, wire::number_at(message, at + 1, more, held));
             NumberRead::Value {
-                value: value_of(rule, wire::number_at(message, at + 1, more, held)),
+                value,
                 size: more + 1,
+                shortest: number_length(sort, value),
             }
         }
     }
@@ -464,13 +475,14 @@ fn spell(sort: Sort, v: u64) -> Spelling
 pub fn number_length(sort: Sort, value: u64) -> usize
     ensures { λ r. ⌜ r ≡ lengthOf (shortest (formsOf sort) value) ⌝ }
 {
-    match spell(sort, value) {
-        Spelling::Form {
-            code: _,
-            more,
-            rest: _,
-        } => more + 1,
-        Spelling::Absent => 0,
+    match sort {
+        Sort::Null => lengths::single_length(0x4e, value),
+        Sort::False => lengths::single_length(0x46, value),
+        Sort::True => lengths::single_length(0x54, value),
+        Sort::Int => lengths::int_length(value),
+        Sort::Long => lengths::long_length(value),
+        Sort::Double => lengths::double_by_forms(value),
+        Sort::Date => lengths::date_length(value),
     }
 }
 

@@ -1,6 +1,7 @@
 // Numbers with a sign, and their two's complement in 64 bits.
 ghost use mathlib.Core.Path.{_≡_};
 ghost use Prim.Native.Nat.{_+_, _*_, _%_, _^_, _<_, _≤_};
+ghost use lib.Dec.{ltb};
 ghost use lib.IntN.{pos, _-ℤ_, _*ℤ_};
 ghost use lib.Signed.{quotZ};
 ghost use mir.Syntax.{w32, w64};
@@ -47,6 +48,14 @@ pub(crate) fn less(u: u64, k: u64) -> u64
     ensures { λ r. ⌜ r ≡ ofZ w64 (pos u -ℤ pos k) ⌝ }
 {
     bits_of((u as i64) - (k as i64))
+}
+
+// Whether the number whose two's complement is v is one from -d to d - 1.
+pub(crate) fn within(v: u64, d: u64) -> bool
+    requires { ⌜ d < 2 ^ 63 ⌝ }
+    ensures { λ r. ⌜ r ≡ ltb ((v + d) % 2 ^ 64) (2 * d) ⌝ }
+{
+    std::num::wrapping_add_u64(v, d) < 2 * d
 }
 
 // So many minutes of 32 bits, with their sign, in milliseconds.

@@ -23,6 +23,22 @@ pub struct Codes {
     pub three: u8,
 }
 
+pub(crate) const INT_CODES: Codes = Codes {
+    one: 0x80,
+    count: 64,
+    zero: 0x10,
+    two: 0xc0,
+    three: 0xd0,
+};
+
+pub(crate) const LONG_CODES: Codes = Codes {
+    one: 0xd8,
+    count: 24,
+    zero: 8,
+    two: 0xf0,
+    three: 0x38,
+};
+
 // ---- bytes
 
 fn store_one(out: &mut [u8], at: usize, a: u8) -> Written
@@ -134,34 +150,20 @@ fn write_whole(sort: Sort, codes: Codes, value: u64, out: &mut [u8], at: usize) 
 pub(crate) fn write_int(value: u64, out: &mut [u8], at: usize) -> Written
     ensures { λ r. ⌜ Writes (shortest (formsOf sort.Int) value) (now (out .entry)) at r (now (out .exit)) ⌝ }
 {
-    let codes = Codes {
-        one: 0x80,
-        count: 64,
-        zero: 0x10,
-        two: 0xc0,
-        three: 0xd0,
-    };
-    write_whole(Sort::Int, codes, value, out, at)
+    write_whole(Sort::Int, INT_CODES, value, out, at)
 }
 
 pub(crate) fn write_long(value: u64, out: &mut [u8], at: usize) -> Written
     ensures { λ r. ⌜ Writes (shortest (formsOf sort.Long) value) (now (out .entry)) at r (now (out .exit)) ⌝ }
 {
-    let codes = Codes {
-        one: 0xd8,
-        count: 24,
-        zero: 8,
-        two: 0xf0,
-        three: 0x38,
-    };
-    write_whole(Sort::Long, codes, value, out, at)
+    write_whole(Sort::Long, LONG_CODES, value, out, at)
 }
 
-// A double. Those of the shorter forms are multiples of 2 ^ 21.
+// A double. Those of the shorter forms are multiples of 2 ^ 29.
 pub(crate) fn write_double(value: u64, out: &mut [u8], at: usize) -> Written
     ensures { λ r. ⌜ Writes (shortest (formsOf sort.Double) value) (now (out .entry)) at r (now (out .exit)) ⌝ }
 {
-    if value % 0x20_0000 == 0 {
+    if value % 0x2000_0000 == 0 {
         return crate::write_form(Sort::Double, value, out, at);
     }
     store_nine(out, at, 0x44, value)

@@ -66,7 +66,11 @@ fn say_rows(table: &[u64], rows: usize) {
 fn print_rows(message: &[u8]) {
     let mut table = [0u64; TABLE];
     match reader::read(message, &mut table) {
-        ReadAnswer::Accepted { rows, length: _ } => say_rows(&table, rows),
+        ReadAnswer::Accepted {
+            rows,
+            length: _,
+            shortest: _,
+        } => say_rows(&table, rows),
         ReadAnswer::Refused { number, place } => say_refused(number, place),
         ReadAnswer::TooFew { needed: _ } => say_refused(ROOM, 0),
     }

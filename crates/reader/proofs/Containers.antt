@@ -12,11 +12,14 @@ use lib.ListN.{length, take, getD, set, length-set}
 use lib.Seq.{getD-set-same, getD-set-other, take-set-le}
 use mir.Syntax.{w64}
 use mir.Val.{Fits}
-use borrow.Author.Tests.{le-leb, lt-leb, eq-eqb, ne-eqb}
+use borrow.Author.Tests.{le-leb, lt-leb, lt-ltb, le-ltb, eq-eqb, ne-eqb}
+use Rattle.scalar.specs.declared.Sort.the-variants.{Int}
+use Rattle.scalar.specs.Scalars.{formsOf, shortest}
+use Rattle.scalar.specs.Answers.{lengthOf}
 use Rattle.flow.specs.Flow.{pick}
 use Rattle.flow.specs.Tests.{pick-true, pick-false}
 use Rattle.record.specs.declared.Group.{Group}
-use Rattle.record.specs.declared.Group.the-variants.{Counted, Open, Pairs}
+use Rattle.record.specs.declared.Group.the-variants.{Counted, Fields, Open, Pairs}
 use Rattle.record.specs.Model.Items.{opened, typed}
 use Rattle.record.specs.Model.Rows.{Row, row, itemRow}
 use Rattle.record.specs.ForReader.ReadLoops.{closes, stops, past, parts}
@@ -33,11 +36,16 @@ use Rattle.record.specs.Laws.KnownArray.{one-reference, references-more, types-
 use Rattle.record.specs.Laws.KnownArray.{one-type}
 use Rattle.record.specs.Laws.KnownArray.{references-same, known-typed, kept-typed, knownIn, Kept, typesSlot}
 use Rattle.record.specs.Laws.KnownArray.{referencesSlot}
+use Rattle.record.specs.Laws.RowLengths.{listLength, few-length, more-length, objectLength, number-most}
+use Rattle.record.specs.Laws.RowLengths.{rowLength, row-length-moved, list-row-length, typed-list-row-length}
+use Rattle.record.specs.Laws.RowLengths.{map-row-length, typed-map-row-length, object-row-length}
 use Rattle.reader.specs.declared.Spot.{Spot}
+use Rattle.reader.specs.Contracts.{summed, added, HolderLength}
 use Rattle.reader.specs.Contracts.{groupOf, groupNumbers, StoresRow, StoresRows, typeOf, typeRows, typeTag}
 use Rattle.reader.specs.Contracts.{typeSecond, TypeRoom, EntersHolder, HolderFits, OpensHolder, HeadNeeds}
 use Rattle.reader.specs.Contracts.{HeadFits, ByHeadMet}
 use Rattle.reader.proofs.Tables.{stores-none, stores-single}
+use Rattle.reader.proofs.Gathering.{added-after}
 
 -- ---- where values stop
 module _ (m : List ℕ) (p : ℕ) where
@@ -158,6 +166,83 @@ pub stores-row-same : {t b t′ b′ : List ℕ} {k : ℕ} {r x : Row} → r ≡
     → StoresRow t b k x t′ b′
 stores-row-same {t} {b} {t′} {b′} {k} e h = subst (λ (r : Row). StoresRow t b k r t′ b′) e h
 
+-- no row of a double; the bytes that are its own
+pub holder-kind : (g : GroupNumbers) (of : TypeItem) (given i p e : ℕ) → holderRow (groupOf g) of given i p e .kind ≡ 5 → ⊥
+holder-kind g of given i p e h = go (groupOf g) of h
+  where
+    go : (g : Group) (of : TypeItem) → holderRow g of given i p e .kind ≡ 5 → ⊥
+    go (Counted n) Untyped h = omega arith
+    go (Counted n) (Named u b) h = omega arith
+    go (Counted n) (Numbered k) h = omega arith
+    go (Fields k n) of h = omega arith
+    go Open Untyped h = omega arith
+    go Open (Named u b) h = omega arith
+    go Open (Numbered k) h = omega arith
+    go Pairs Untyped h = omega arith
+    go Pairs (Named u b) h = omega arith
+    go Pairs (Numbered k) h = omega arith
+
+module _ (g : GroupNumbers) (i : ℕ) where
+  abbrev Own : ℕ → Group → Type 0
+  Own n h = (m : List ℕ) (p e given : ℕ) (of : TypeItem) → n ≡ rowLength m (holderRow h of given i p e)
+
+  own-list : (n : ℕ) → n ≡ listLength i → (h : Group) → (h ≡ Open) ⊎ (h ≡ Counted (g .count)) → Own n h
+  own-list n q h (inl z) m p e given Untyped = rw (q, z) (sym (list-row-length m p i 0 e))
+  own-list n q h (inl z) m p e given (Named u b) = rw (q, z) (sym (typed-list-row-length m p i given e))
+  own-list n q h (inl z) m p e given (Numbered k) = rw (q, z) (sym (typed-list-row-length m p i k e))
+  own-list n q h (inr z) m p e given Untyped = rw (q, z) (sym (list-row-length m p i 0 e))
+  own-list n q h (inr z) m p e given (Named u b) = rw (q, z) (sym (typed-list-row-length m p i given e))
+  own-list n q h (inr z) m p e given (Numbered k) = rw (q, z) (sym (typed-list-row-length m p i k e))
+
+  own-map : Own 2 Pairs
+  own-map m p e given Untyped = sym (map-row-length m p (i / 2) 0 e)
+  own-map m p e given (Named u b) = sym (typed-map-row-length m p (i / 2) given e)
+  own-map m p e given (Numbered k) = sym (typed-map-row-length m p (i / 2) k e)
+
+  own-object : (n k f : ℕ) → n ≡ objectLength k → Own n (Fields k f)
+  own-object n k f q m p e given of = q ∙ sym (object-row-length m p k i e)
+
+  -- by the tests of the code
+  listed : (n : ℕ) → n ≡ listLength i → (s : ℕ) → (s ≡ 1 → ⊥) → s < 3
+      → Own n (groupOf (groupNumbers s (g .count) (g .class)))
+  listed n q zero y l = own-list n q (Counted (g .count)) (inr refl)
+  listed n q (suc zero) y l = absurd (y refl)
+  listed n q (suc (suc zero)) y l = own-list n q Open (inl refl)
+  listed n q (suc (suc (suc s))) y l = absurd (omega arith)
+
+  pub length-few : (g .shape ≡ 1 → ⊥) → g .shape < 3 → i < 8 → HolderLength g i 1
+  length-few y l h = record { own = listed 1 (sym (few-length i h)) (g .shape) y l }
+
+  pub length-many : (g .shape ≡ 1 → ⊥) → g .shape < 3 → 8 ≤ i → HolderLength g i 2
+  length-many y l h = record { own = listed 2 (sym (more-length i h)) (g .shape) y l }
+
+  pub length-pairs : 3 ≤ g .shape → HolderLength g i 2
+  length-pairs l = record { own = go (g .shape) l }
+    where
+      go : (s : ℕ) → 3 ≤ s → Own 2 (groupOf (groupNumbers s (g .count) (g .class)))
+      go zero l = absurd (omega arith)
+      go (suc zero) l = absurd (omega arith)
+      go (suc (suc zero)) l = absurd (omega arith)
+      go (suc (suc (suc s))) l = own-map
+
+  by-fields : (n : ℕ) → n ≡ objectLength (g .class) → g .shape ≡ 1 → HolderLength g i n
+  by-fields n q l = record { own = go (g .shape) l }
+    where
+      go : (s : ℕ) → s ≡ 1 → Own n (groupOf (groupNumbers s (g .count) (g .class)))
+      go zero l = absurd (omega arith)
+      go (suc zero) l = own-object n (g .class) (g .count) q
+      go (suc (suc s)) l = absurd (omega arith)
+
+  pub length-object : g .shape ≡ 1 → g .class < 16 → HolderLength g i 1
+  length-object l h = by-fields 1 (rw (lt-ltb (g .class) 16 h) refl) l
+
+  pub wide-fits : (n : ℕ) → n ≡ lengthOf (shortest (formsOf Int) (g .class)) → Fits w64 (1 + n)
+  wide-fits n e = omega (arith, number-most Int (g .class))
+
+  pub length-wide : g .shape ≡ 1 → 16 ≤ g .class → (n : ℕ) → n ≡ lengthOf (shortest (formsOf Int) (g .class))
+      → HolderLength g i (1 + n)
+  length-wide l h n e = by-fields (1 + n) (rw (le-ltb (g .class) 16 h) (omega (arith, e))) l
+
 -- ---- the rows of types
 module _ (k p : ℕ) (of : TypeItem) (l : k + length (typeRows p of) < 2 ^ 64) where
   pub named-fits : (u n : ℕ) → of ≡ Named u n → Fits w64 (k + 1)
@@ -228,33 +313,60 @@ module _ (ks : List ℕ) (s : Spot) (q : ℕ) (of : TypeItem) (w : HolderFits ks
   pub enter-fits : Kept ks × (getD ks referencesSlot 0 + 1 < 2 ^ 64) × TypeRoom of (getD ks typesSlot 0)
   enter-fits = (w .kept, omega (arith, w .references-few, w .longer, w .fits), w .room)
 
-  pub type-rows-fit : s .row + 1 + length (typeRows (s .at + 1) of) < 2 ^ 64
-  type-rows-fit = omega (arith, w .rows-few, w .longer, w .fits)
+  pub type-rows-fit : (n : ℕ) → n ≡ s .row + 1 → n + length (typeRows (s .at + 1) of) < 2 ^ 64
+  type-rows-fit n e = omega (arith, w .rows-few, w .longer, w .fits)
 
-  pub rows-fit : (more : ℕ) (ks′ : List ℕ) → EntersHolder ks of more ks′ → Fits w64 (s .row + 1 + more)
-  rows-fit more ks′ e = omega (arith, w .rows-few, w .longer, w .fits, e .rows (s .at + 1))
+  pub rows-fit : (n : ℕ) → n ≡ s .row + 1 → (more : ℕ) (ks′ : List ℕ) → EntersHolder ks of more ks′ → Fits w64 (n + more)
+  rows-fit n e more ks′ i = omega (arith, w .rows-few, w .longer, w .fits, i .rows (s .at + 1))
 
 -- ---- `by_head`
-module _ (t b ks : List ℕ) (s : Spot) (h : Head) where
-  pub head-refused : (x o : ℕ) → h ≡ head.Refused x o → ByHeadMet t b ks s h (beginning.Refused x o) t b ks
+module _ (m t b ks : List ℕ) (s : Spot) (h : Head) (w : ℕ) where
+  pub head-refused : (x o : ℕ) → h ≡ head.Refused x o → ByHeadMet m t b ks s h w (beginning.Refused x o) t b ks
   head-refused x o e = rw e (record { says = refl })
 
-  pub head-leaf : (k x y q : ℕ) → h ≡ head.Leaf k x y q
+  pub head-leaf : (k x y q n : ℕ) → h ≡ head.Leaf k x y q n
       → (t′ b′ : List ℕ) → StoresRow t b (s .row) (row k (s .at) x y (s .row + 1)) t′ b′
-      → ByHeadMet t b ks s h (beginning.Leaf (record { at = q; row = s .row + 1 })) t′ b′ ks
-  head-leaf k x y q e t′ b′ l = rw e (record { says = (refl, refl, stores-single l) })
+      → (j : ℕ) → j ≡ added w m (s .shortest) (row k (s .at) x y (s .row + 1))
+      → ByHeadMet m t b ks s h w (beginning.Leaf (record { at = q; row = s .row + 1; shortest = j })) t′ b′ ks
+  head-leaf k x y q n e t′ b′ l j i = rw (e, i) (record {
+    says = (
+      ap (λ (z : ℕ). beginning.Leaf (record { at = q; row = s .row + 1; shortest = z }))
+          (added-after w m (s .shortest) k (s .at) x y (s .row + 1) 1),
+      refl,
+      stores-single l,
+    );
+  })
 
-  pub head-holder : (g : GroupNumbers) (q : ℕ) (of : TypeItem) → h ≡ head.Holder g q of
-      → (r : Beginning) (t′ b′ ks′ : List ℕ) → OpensHolder t b ks s g q of r t′ b′ ks′
-      → ByHeadMet t b ks s h r t′ b′ ks′
-  head-holder g q of e r t′ b′ ks′ w = rw e (record { says = w })
+  pub head-holder : (g : GroupNumbers) (q : ℕ) (of : TypeItem) (n : ℕ) → h ≡ head.Holder g q of n
+      → (j : ℕ) → j ≡ summed w (s .shortest) n
+      → (r : Beginning) (t′ b′ ks′ : List ℕ)
+      → OpensHolder t b ks s g (record { at = q; row = s .row + 1; shortest = j }) of r t′ b′ ks′
+      → ByHeadMet m t b ks s h w r t′ b′ ks′
+  head-holder g q of n e j i r t′ b′ ks′ y = rw e (record {
+    says = subst (λ (z : ℕ). OpensHolder t b ks s g (record { at = q; row = s .row + 1; shortest = z }) of r t′ b′ ks′)
+        i y;
+  })
 
-  pub head-defined : h ≡ head.Definition → (r : Beginning) → ByHeadMet t b ks s h r t b ks
+  pub head-defined : h ≡ head.Definition → (r : Beginning) → ByHeadMet m t b ks s h w r t b ks
   head-defined e r = rw e (record { says = tt })
 
-module _ (ks : List ℕ) (s : Spot) (h : Head) (w : HeadFits ks s h) where
-  pub leaf-fits : (k x y q : ℕ) → h ≡ head.Leaf k x y q → Fits w64 (s .row + 1)
-  leaf-fits k x y q e = record { fits = subst (HeadNeeds ks s) e (w .fits) }
+module _ (m ks : List ℕ) (s : Spot) (h : Head) (w : HeadFits m ks s h) where
+  module _ (k x y q n : ℕ) (e : h ≡ head.Leaf k x y q n) where
+    leaf-needs : HeadNeeds m ks s (head.Leaf k x y q n)
+    leaf-needs = subst (HeadNeeds m ks s) e (w .fits)
 
-  pub holder-fits : (g : GroupNumbers) (q : ℕ) (of : TypeItem) → h ≡ head.Holder g q of → HolderFits ks s q of
-  holder-fits g q of e = subst (HeadNeeds ks s) e (w .fits)
+    pub leaf-fits : Fits w64 (s .row + 1)
+    leaf-fits = record { fits = leaf-needs .0 }
+
+    pub leaf-length : n ≡ rowLength m (row k (s .at) x y (s .row + 1))
+    leaf-length = leaf-needs .1 ∙ sym (row-length-moved m (row k (s .at) x y 1) (s .row + 1))
+
+  module _ (g : GroupNumbers) (q : ℕ) (of : TypeItem) (n : ℕ) (e : h ≡ head.Holder g q of n) where
+    pub holder-fits : HolderFits ks s q of
+    holder-fits = subst (HeadNeeds m ks s) e (w .fits)
+
+    pub inner-fits : Fits w64 (s .row + 1)
+    inner-fits = row-fits ks s q of holder-fits
+
+    pub holder-inner : HolderFits ks s q of × (s .row + 1 ≡ s .row + 1)
+    holder-inner = (holder-fits, refl)

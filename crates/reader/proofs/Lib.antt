@@ -3,6 +3,7 @@ pub mod Sizes
 pub mod StoredRows
 pub mod Leaves
 pub mod Types
+pub mod Gathering
 pub mod Holders
 pub mod ValueHeads
 pub mod ClassDefinitions

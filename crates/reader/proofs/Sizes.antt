@@ -15,15 +15,15 @@ use Rattle.scalar.specs.AnswerLaws.{measured-fault, measured-done}
 use Rattle.texts.specs.Answers.{toldString}
 use Rattle.scalar.specs.TextTheorems.{text-within}
 
-pub measured-within : (k : Encoding) (m : List ℕ) → Bytes m → (p n u b : ℕ) → measuredAt k m p ≡ Done n (sized u b) [] tt
-    → (0 < n) × (p + n ≤ length m)
-measured-within k m w p n u b e = go (stringAt k m p) refl
+pub measured-within : (k : Encoding) (m : List ℕ) → Bytes m → (p n u b j : ℕ)
+    → measuredAt k m p ≡ Done n (sized u b j) [] tt → (0 < n) × (p + n ≤ length m)
+measured-within k m w p n u b j e = go (stringAt k m p) refl
   where
     go : (o : Answer (List ℕ)) → stringAt k m p ≡ o → (0 < n) × (p + n ≤ length m)
-    go (Done j cs es c) d =
-        let f = measured-done k m p j cs es c d in
-        let h : j ≡ n = cc in
-        let i = text-within k m w p j cs es d in
+    go (Done q cs es c) d =
+        let f = measured-done k m p q cs es c d in
+        let h : q ≡ n = cc in
+        let i = text-within k m w p q cs es d in
         (omega arith, omega arith)
     go (Fault x o) d =
         let f = measured-fault k m p x o d in
@@ -32,5 +32,5 @@ measured-within k m w p n u b e = go (stringAt k m p) refl
 
 -- the same of what the code read
 pub string-within : (k : Encoding) (m : List ℕ) → Bytes m → (p : ℕ) {x : StringRead} → toldString x ≡ measuredAt k m p
-    → (u b n : ℕ) → x ≡ Content u b n → (0 < n) × (p + n ≤ length m)
-string-within k m w p t u b n e = measured-within k m w p n u b (sym t ∙ ap toldString e)
+    → (u b n j : ℕ) → x ≡ Content u b n j → (0 < n) × (p + n ≤ length m)
+string-within k m w p t u b n j e = measured-within k m w p n u b j (sym t ∙ ap toldString e)

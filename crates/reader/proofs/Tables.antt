@@ -12,7 +12,8 @@ use Rattle.record.specs.Model.Answers.{asNumbers, asBytes}
 use Rattle.record.specs.ForReader.ReadingAt.{from, numbered, numbered-append, numbered-length}
 use Rattle.record.specs.Laws.TableLaws.{bytes-sized}
 use Rattle.reader.specs.declared.Spot.{Spot}
-use Rattle.reader.specs.Contracts.{StoresRow, StoresRows, ReadyAt, ReadsRows}
+use Rattle.reader.specs.Contracts.{gathered, StoresRow, StoresRows, ReadyAt, ReadsRows}
+use Rattle.reader.proofs.Gathering.{gathered-append}
 
 numbers-sized : (r : Row) → length (asNumbers .encode r) ≡ asNumbers .width
 numbers-sized r = refl
@@ -87,19 +88,22 @@ stores-bytes-length {b = b} {k = k} {rs = rs} x =
     ap length (x .bytes) ∙ length-overlay (asBytes .width) (asBytes .encode) bytes-sized b k (numbered k rs)
 
 -- ---- from one spot to another, and on
-pub reads-none : (m t b ks : List ℕ) (s : Spot) → ReadyAt m ks s → ReadsRows m t b s s t b ks []
-reads-none m t b ks s w = record {
+pub reads-none : (w : ℕ) (m t b ks : List ℕ) (s : Spot) → ReadyAt m ks s → ReadsRows w m t b s s t b ks []
+reads-none w m t b ks s h = record {
   counted = omega arith;
+  measured = refl;
   stores = stores-none t b (s .row);
   onward = omega arith;
-  ready = w;
+  ready = h;
 }
 
-pub reads-on : {m t b t₁ b₁ ks₁ t₂ b₂ ks₂ : List ℕ} {s s₁ s₂ : Spot} {xs ys : List Row}
-    → ReadsRows m t b s s₁ t₁ b₁ ks₁ xs → ReadsRows m t₁ b₁ s₁ s₂ t₂ b₂ ks₂ ys
-    → ReadsRows m t b s s₂ t₂ b₂ ks₂ (xs ++ ys)
-reads-on {xs = xs} {ys = ys} x y = record {
+pub reads-on : {w : ℕ} {m t b t₁ b₁ ks₁ t₂ b₂ ks₂ : List ℕ} {s s₁ s₂ : Spot} {xs ys : List Row}
+    → ReadsRows w m t b s s₁ t₁ b₁ ks₁ xs → ReadsRows w m t₁ b₁ s₁ s₂ t₂ b₂ ks₂ ys
+    → ReadsRows w m t b s s₂ t₂ b₂ ks₂ (xs ++ ys)
+reads-on {w} {m} {s = s} {xs = xs} {ys = ys} x y = record {
   counted = omega (arith, x .counted, y .counted, length-append xs ys);
+  measured = y .measured ∙ ap (λ (z : ℕ). gathered w m z ys) (x .measured)
+      ∙ sym (gathered-append w m (s .shortest) xs ys);
   stores = stores-on (x .stores) (x .counted) (y .stores);
   onward = omega (arith, x .onward, y .onward);
   ready = y .ready;

@@ -1,5 +1,5 @@
--- A call's answer is known by its report: an accepted message has a row, and refusal 9 counts at least one, so that an
--- accepted message or a refusal 9 is never told as another refusal.
+-- A call's answer is known by its report and its length: an accepted message has a row, and refusal 9 counts at least
+-- one, so that an accepted message or a refusal 9 is never told as another refusal.
 use mathlib.Core.Path.{_≡_, refl, sym, ap, _∙_}
 use mathlib.Core.Bool.{cond}
 use mathlib.Core.List.{List}
@@ -21,23 +21,23 @@ use Rattle.record.specs.Theorems.AnswerTheorems.{accepted-some}
 use Rattle.record.specs.Theorems.CallCases.{ReadCases, misfit, faulty, few-rows, whole, read-cases, entries-length}
 use Rattle.reader.specs.declared.ReadAnswer.{ReadAnswer}
 use Rattle.reader.specs.declared.ReadAnswer.the-variants.{Accepted, Refused, TooFew}
-use Rattle.reader.specs.Answers.{report}
+use Rattle.reader.specs.Answers.{report, shortest}
 
--- the answer that a report tells
-abbrev pub answerOf : Report → ReadAnswer
-answerOf a = cond (eqb (a .number) 0) (Accepted (a .count) (a .place))
+-- the answer that a report and a length tell
+abbrev pub answerOf : Report → ℕ → ReadAnswer
+answerOf a w = cond (eqb (a .number) 0) (Accepted (a .count) (a .place) w)
     (cond (eqb (a .number) no-room) (TooFew (a .count)) (Refused (a .number) (a .place)))
 
 module _ (ρ : DoubleRule) (ℓ : Limits) (L : Layout) (m t t′ : List ℕ) where
-  pub one-answer : (r : ReadAnswer) → ReadCall ρ ℓ L m t (report r) t′ → answerOf (report r) ≡ r
-  one-answer (Accepted n k) g = refl
+  pub one-answer : (r : ReadAnswer) → ReadCall ρ ℓ L m t (report r) t′ → answerOf (report r) (shortest r) ≡ r
+  one-answer (Accepted n k w) g = refl
   one-answer (TooFew n) g = refl
   one-answer (Refused x o) g = go (read-cases ρ ℓ L m t (report (Refused x o)) t′ g)
     where
-      other : 1 ≤ x → x < 9 → answerOf (report (Refused x o)) ≡ Refused x o
+      other : 1 ≤ x → x < 9 → answerOf (report (Refused x o)) 0 ≡ Refused x o
       other i j = rw (ne-eqb x 0 (λ (e : x ≡ 0). omega arith), ne-eqb x 9 (λ (e : x ≡ 9). omega arith)) refl
 
-      go : ReadCases ρ ℓ L m t (report (Refused x o)) t′ g → answerOf (report (Refused x o)) ≡ Refused x o
+      go : ReadCases ρ ℓ L m t (report (Refused x o)) t′ g → answerOf (report (Refused x o)) 0 ≡ Refused x o
       go (misfit h e u) = let n = ap (λ (a : Report). a .number) e in other (omega arith) (omega arith)
       go (faulty y p h e u) =
           let n = ap (λ (a : Report). a .number) e in

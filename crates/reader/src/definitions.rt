@@ -22,14 +22,16 @@ ghost use Rattle.reader.specs.Contracts.{PlaceIn, ReadyAt, LeadAt};
 ghost use Rattle.reader.specs.Contracts.{FieldCountMet, ClassReadMet, NamesReadMet};
 ghost use Rattle.reader.specs.Contracts.{DefinesClass, DefinitionReadMet};
 
-// A class's name, by its units and bytes, its number of fields, and where their names begin; or a refusal's number and
-// place.
+// A class's name, by its units and bytes, its number of fields, and where their names begin; the bytes of the shortest
+// message that are the definition's own, and its name's; or a refusal's number and place.
 pub(crate) enum ClassRead {
     Is {
         units: u64,
         bytes: u64,
         fields: usize,
         next: usize,
+        own: usize,
+        name: usize,
     },
     Refused {
         number: u8,
@@ -49,14 +51,18 @@ pub(crate) enum DefinitionRead {
     Refused { number: u8, place: usize },
 }
 
-// The field count at `at`, after a class name of so many units and bytes.
-fn field_count(message: &[u8], at: usize, units: u64, bytes: u64) -> ClassRead
+// The field count at `at`, after a class name of so many units and bytes, which takes `name` bytes in its shortest form.
+fn field_count(message: &[u8], at: usize, units: u64, bytes: u64, name: usize) -> ClassRead
     requires { ⌜ PlaceIn (now message) at ⌝ }
-    ensures { λ r. ⌜ FieldCountMet (now (message .entry)) at units bytes r ⌝ }
+    ensures { λ r. ⌜ FieldCountMet (now (message .entry)) at units bytes name r ⌝ }
 {
     match crate::heads::count_at(message, at) {
         Count::Refused { number, place } => ClassRead::Refused { number, place },
-        Count::Is { value, size } => {
+        Count::Is {
+            value,
+            size,
+            shortest,
+        } => {
             if FIELDS < value {
                 return ClassRead::Refused {
                     number: CEILING,
@@ -68,6 +74,8 @@ fn field_count(message: &[u8], at: usize, units: u64, bytes: u64) -> ClassRead
                 bytes,
                 fields: value as usize,
                 next: at + size,
+                own: shortest + 1,
+                name,
             }
         }
     }
@@ -86,12 +94,12 @@ fn class_head(message: &[u8], known: &[u64; KNOWN], at: usize) -> ClassRead
     }
     match texts::read_string(Encoding::Utf8, message, at + 1) {
         StringRead::Refused { number, place } => ClassRead::Refused { number, place },
-        StringRead::Content { units, bytes, size } => field_count(
-            message,
-            at + 1 + size,
-            units as u64,
-            bytes as u64,
-        ),
+        StringRead::Content {
+            units,
+            bytes,
+            size,
+            shortest,
+        } => field_count(message, at + 1 + size, units as u64, bytes as u64, shortest),
     }
 }
 
@@ -102,16 +110,18 @@ fn field_names(
     bytes: &mut [u8],
     from: Spot,
     count: usize,
+    measuring: u64,
 ) -> NamesRead
     requires { ⌜ PlaceIn (now message) (from .at) × (from .row + count < 2 ^ 64) ⌝ }
     ensures { λ r. ⌜
         NamesReadMet
         (now (message .entry)) (now (numbers .entry)) (now (bytes .entry))
-        from count
+        from count measuring
         r (now (numbers .exit)) (now (bytes .exit))
         ⌝ }
 {
     let mut here = from.at;
+    let mut sum = from.shortest;
     let mut i: usize = 0;
     while i < count {
         match texts::read_string(Encoding::Utf8, message, here) {
@@ -122,6 +132,7 @@ fn field_names(
                 units,
                 bytes: held,
                 size,
+                shortest,
             } => {
                 let index = from.row + i;
                 let name = Row {
@@ -132,6 +143,7 @@ fn field_names(
                     after: (index + 1) as u64,
                 };
                 crate::rows::store_row(numbers, bytes, index, name);
+                sum = crate::lengths::add(measuring, sum, shortest);
                 here += size;
                 i += 1;
             }
@@ -141,6 +153,7 @@ fn field_names(
         next: Spot {
             at: here,
             row: from.row + count,
+            shortest: sum,
         },
     }
 }
@@ -160,12 +173,13 @@ pub(crate) fn definition(
     bytes: &mut [u8],
     known: &mut [u64; KNOWN],
     here: Spot,
+    measuring: u64,
 ) -> DefinitionRead
     requires { ⌜ LeadAt (now message) (here .at) lead.Definition × ReadyAt (now message) (now known) here ⌝ }
     ensures { λ r. ⌜
         DefinitionReadMet
         (now (message .entry)) (now (numbers .entry)) (now (bytes .entry)) (now (known .entry))
-        here
+        here measuring
         r (now (numbers .exit)) (now (bytes .exit)) (now (known .exit))
         ⌝ }
 {
@@ -176,12 +190,16 @@ pub(crate) fn definition(
             bytes: held,
             fields,
             next,
+            own,
+            name: named,
         } => {
+            let sum = crate::lengths::add(measuring, here.shortest, own);
             let names = Spot {
                 at: next,
                 row: here.row + 2,
+                shortest: crate::lengths::add(measuring, sum, named),
             };
-            match field_names(message, numbers, bytes, names, fields) {
+            match field_names(message, numbers, bytes, names, fields, measuring) {
                 NamesRead::Refused { number, place } => DefinitionRead::Refused { number, place },
                 NamesRead::Done { next: end } => {
                     let name = Row {

@@ -30,8 +30,7 @@ ghost use lib.ListN.{length, getD};
 ghost use Rattle.scalar.specs.declared.Lead.the-variants as lead;
 ghost use Rattle.scalar.specs.Scalars.{sortKind};
 ghost use Rattle.scalar.specs.Chart.{leadOf};
-ghost use Rattle.scalar.specs.Answers.{numberAt};
-ghost use Rattle.numbers.specs.Answers.{told};
+ghost use Rattle.numbers.specs.Answers.{NumberMet};
 ghost use Rattle.reader.specs.declared.heads.Head.the-variants as head;
 ghost use Rattle.record.specs.Laws.KnownArray.{Kept, knownIn, typesSlot};
 ghost use Rattle.reader.specs.Contracts.{PlaceIn, LeadAt, High, NoName, IsListOrMap};
@@ -64,18 +63,21 @@ pub(crate) enum TypeItem {
 
 // A value's head.
 pub(crate) enum Head {
-    // A value with no values inside: its row, and the place past it.
+    // A value with no values inside: its row, the place past it, and the bytes of its shortest form.
     Leaf {
         kind: u64,
         first: u64,
         second: u64,
         next: usize,
+        shortest: usize,
     },
-    // A list, map or object: how its values are counted, where they begin, and its type.
+    // A list, map or object: how its values are counted, where they begin, its type, and the bytes of the type's
+    // shortest form.
     Holder {
         group: GroupNumbers,
         next: usize,
         of: TypeItem,
+        shortest: usize,
     },
     // A class definition stands before the value.
     Definition,
@@ -85,16 +87,30 @@ pub(crate) enum Head {
     },
 }
 
-// A count, and the bytes that it takes; or a refusal's number and place.
+// A count, the bytes that it takes, and those of its shortest form; or a refusal's number and place.
 pub(crate) enum Count {
-    Is { value: u64, size: usize },
-    Refused { number: u8, place: usize },
+    Is {
+        value: u64,
+        size: usize,
+        shortest: usize,
+    },
+    Refused {
+        number: u8,
+        place: usize,
+    },
 }
 
-// A type, and the place past it; or a refusal's number and place.
+// A type, the place past it, and the bytes of its shortest form; or a refusal's number and place.
 pub(crate) enum TypeRead {
-    Is { of: TypeItem, next: usize },
-    Refused { number: u8, place: usize },
+    Is {
+        of: TypeItem,
+        next: usize,
+        shortest: usize,
+    },
+    Refused {
+        number: u8,
+        place: usize,
+    },
 }
 
 // The count at `at`. A negative one is refused.
@@ -104,9 +120,17 @@ pub(crate) fn count_at(message: &[u8], at: usize) -> Count
 {
     match numbers::read_number(Sort::Int, message, at) {
         NumberRead::Refused { number, place } => Count::Refused { number, place },
-        NumberRead::Value { value, size } => {
+        NumberRead::Value {
+            value,
+            size,
+            shortest,
+        } => {
             if value < 0x8000_0000_0000_0000 {
-                Count::Is { value, size }
+                Count::Is {
+                    value,
+                    size,
+                    shortest,
+                }
             } else {
                 Count::Refused {
                     number: NEGATIVE,
@@ -130,12 +154,18 @@ fn named_type(message: &[u8], known: &[u64; KNOWN], at: usize) -> TypeRead
     }
     match texts::read_string(Encoding::Utf8, message, at) {
         StringRead::Refused { number, place } => TypeRead::Refused { number, place },
-        StringRead::Content { units, bytes, size } => TypeRead::Is {
+        StringRead::Content {
+            units,
+            bytes,
+            size,
+            shortest,
+        } => TypeRead::Is {
             of: TypeItem::Named {
                 units: units as u64,
                 bytes: bytes as u64,
             },
             next: at + size,
+            shortest,
         },
     }
 }
@@ -147,11 +177,16 @@ fn numbered_type(message: &[u8], known: &[u64; KNOWN], at: usize) -> TypeRead
 {
     match numbers::read_number(Sort::Int, message, at) {
         NumberRead::Refused { number, place } => TypeRead::Refused { number, place },
-        NumberRead::Value { value, size } => {
+        NumberRead::Value {
+            value,
+            size,
+            shortest,
+        } => {
             if value < known[TYPES_GIVEN] {
                 return TypeRead::Is {
                     of: TypeItem::Numbered { number: value },
                     next: at + size,
+                    shortest,
                 };
             }
             TypeRead::Refused {
@@ -196,16 +231,21 @@ fn kind_of(sort: Sort) -> u64
 
 // The head of a number of this kind, as it was read.
 fn number_leaf(message: &[u8], at: usize, sort: Sort, n: NumberRead) -> Head
-    requires { ⌜ LeadAt (now message) at (lead.Number sort) × (told n ≡ numberAt sort (now message) at) ⌝ }
+    requires { ⌜ LeadAt (now message) at (lead.Number sort) × NumberMet sort (now message) at n ⌝ }
     ensures { λ r. ⌜ LeafHeadMet (now (message .entry)) at r ⌝ }
 {
     match n {
         NumberRead::Refused { number, place } => Head::Refused { number, place },
-        NumberRead::Value { value, size } => Head::Leaf {
+        NumberRead::Value {
+            value,
+            size,
+            shortest,
+        } => Head::Leaf {
             kind: kind_of(sort),
             first: value,
             second: 0,
             next: at + size,
+            shortest,
         },
     }
 }
@@ -267,11 +307,17 @@ fn text_head(message: &[u8], at: usize) -> Head
 {
     match texts::read_text(message, at) {
         StringRead::Refused { number, place } => Head::Refused { number, place },
-        StringRead::Content { units, bytes, size } => Head::Leaf {
+        StringRead::Content {
+            units,
+            bytes,
+            size,
+            shortest,
+        } => Head::Leaf {
             kind: TEXT,
             first: units as u64,
             second: bytes as u64,
             next: at + size,
+            shortest,
         },
     }
 }
@@ -287,11 +333,13 @@ fn bytes_head(message: &[u8], at: usize) -> Head
             units: _,
             bytes,
             size,
+            shortest,
         } => Head::Leaf {
             kind: BYTES,
             first: bytes as u64,
             second: 0,
             next: at + size,
+            shortest,
         },
     }
 }
@@ -303,13 +351,18 @@ fn reference_head(message: &[u8], known: &[u64; KNOWN], at: usize) -> Head
 {
     match numbers::read_number(Sort::Int, message, at + 1) {
         NumberRead::Refused { number, place } => Head::Refused { number, place },
-        NumberRead::Value { value, size } => {
+        NumberRead::Value {
+            value,
+            size,
+            shortest,
+        } => {
             if value < known[REFERENCES_GIVEN] {
                 return Head::Leaf {
                     kind: REFERENCE,
                     first: value,
                     second: 0,
                     next: at + 1 + size,
+                    shortest: shortest + 1,
                 };
             }
             Head::Refused {
@@ -320,14 +373,18 @@ fn reference_head(message: &[u8], known: &[u64; KNOWN], at: usize) -> Head
     }
 }
 
-// A list of this type whose count was read at `at`, and its values after that.
-fn counted(at: usize, of: TypeItem, n: Count) -> Head
+// A list of this type, which takes `shortest` bytes, whose count was read at `at`, and its values after that.
+fn counted(at: usize, of: TypeItem, shortest: usize, n: Count) -> Head
     requires { ⌜ CountFits at n ⌝ }
-    ensures { λ r. ⌜ r ≡ holderOf of at n ⌝ }
+    ensures { λ r. ⌜ r ≡ holderOf of shortest at n ⌝ }
 {
     match n {
         Count::Refused { number, place } => Head::Refused { number, place },
-        Count::Is { value, size } => Head::Holder {
+        Count::Is {
+            value,
+            size,
+            shortest: _,
+        } => Head::Holder {
             group: GroupNumbers {
                 shape: COUNTED,
                 count: value,
@@ -335,15 +392,25 @@ fn counted(at: usize, of: TypeItem, n: Count) -> Head
             },
             next: at + size,
             of,
+            shortest,
         },
     }
 }
 
-// A list of this type, by its first byte b: `open_code` is the code of the open form, the next one that of the counted
-// form, and those from `few` on are the one-byte forms. Its count or its values are at `at`.
-fn list_of(message: &[u8], at: usize, of: TypeItem, b: u8, open_code: u8, few: u8) -> Head
+// A list of this type, which takes `shortest` bytes, by its first byte b: `open_code` is the code of the open form, the
+// next one that of the counted form, and those from `few` on are the one-byte forms. Its count or its values are at
+// `at`.
+fn list_of(
+    message: &[u8],
+    at: usize,
+    of: TypeItem,
+    shortest: usize,
+    b: u8,
+    open_code: u8,
+    few: u8,
+) -> Head
     requires { ⌜ ListAt (now message) at b open_code few ⌝ }
-    ensures { λ r. ⌜ ListMet (now (message .entry)) at of b open_code few r ⌝ }
+    ensures { λ r. ⌜ ListMet (now (message .entry)) at of shortest b open_code few r ⌝ }
 {
     if b == open_code {
         return Head::Holder {
@@ -354,11 +421,12 @@ fn list_of(message: &[u8], at: usize, of: TypeItem, b: u8, open_code: u8, few: u
             },
             next: at,
             of,
+            shortest,
         };
     }
     if b == open_code + 1 {
         let n = count_at(message, at);
-        return counted(at, of, n);
+        return counted(at, of, shortest, n);
     }
     Head::Holder {
         group: GroupNumbers {
@@ -368,6 +436,7 @@ fn list_of(message: &[u8], at: usize, of: TypeItem, b: u8, open_code: u8, few: u
         },
         next: at,
         of,
+        shortest,
     }
 }
 
@@ -376,7 +445,15 @@ fn list_head(message: &[u8], known: &[u64; KNOWN], at: usize) -> Head
     requires { ⌜ LeadAt (now message) at lead.List ⌝ }
     ensures { λ r. ⌜ HolderHeadMet (now (message .entry)) (knownIn (now (known .entry))) at r ⌝ }
 {
-    list_of(message, at + 1, TypeItem::Untyped, message[at], 0x57, 0x78)
+    list_of(
+        message,
+        at + 1,
+        TypeItem::Untyped,
+        0,
+        message[at],
+        0x57,
+        0x78,
+    )
 }
 
 // The head of a typed list.
@@ -386,7 +463,9 @@ fn typed_list_head(message: &[u8], known: &[u64; KNOWN], at: usize) -> Head
 {
     match type_at(message, known, at + 1) {
         TypeRead::Refused { number, place } => Head::Refused { number, place },
-        TypeRead::Is { of, next } => list_of(message, next, of, message[at], 0x55, 0x70),
+        TypeRead::Is { of, next, shortest } => {
+            list_of(message, next, of, shortest, message[at], 0x55, 0x70)
+        }
     }
 }
 
@@ -397,7 +476,7 @@ fn typed_map_head(message: &[u8], known: &[u64; KNOWN], at: usize) -> Head
 {
     match type_at(message, known, at + 1) {
         TypeRead::Refused { number, place } => Head::Refused { number, place },
-        TypeRead::Is { of, next } => Head::Holder {
+        TypeRead::Is { of, next, shortest } => Head::Holder {
             group: GroupNumbers {
                 shape: PAIRS,
                 count: 0,
@@ -405,6 +484,7 @@ fn typed_map_head(message: &[u8], known: &[u64; KNOWN], at: usize) -> Head
             },
             next,
             of,
+            shortest,
         },
     }
 }
@@ -424,6 +504,7 @@ fn instance(known: &[u64; KNOWN], at: usize, class: u64, next: usize) -> Head
             },
             next,
             of: TypeItem::Untyped,
+            shortest: 0,
         };
     }
     Head::Refused {
@@ -441,7 +522,11 @@ fn object_head(message: &[u8], known: &[u64; KNOWN], at: usize) -> Head
     if b == 0x4f {
         return match numbers::read_number(Sort::Int, message, at + 1) {
             NumberRead::Refused { number, place } => Head::Refused { number, place },
-            NumberRead::Value { value, size } => instance(known, at, value, at + 1 + size),
+            NumberRead::Value {
+                value,
+                size,
+                shortest: _,
+            } => instance(known, at, value, at + 1 + size),
         };
     }
     instance(known, at, wire::wide(b - 0x60), at + 1)
@@ -469,6 +554,7 @@ fn opening(message: &[u8], known: &[u64; KNOWN], at: usize, allowed: usize, l: L
             },
             next: at + 1,
             of: TypeItem::Untyped,
+            shortest: 0,
         },
         _ => typed_map_head(message, known, at),
     }

@@ -6,12 +6,15 @@ use record::ROW_BYTES;
 use record::ROW_NUMBERS;
 use record::Row;
 use record::kinds::DOUBLE;
+use scalar::Sort;
 ghost use mathlib.Core.Path.{_≡_};
 ghost use Prim.Native.Nat.{_+_, _*_, _≤_, _<_};
 ghost use lib.ListN.{length, take, drop};
 ghost use Rattle.record.specs.Model.Answers.{asNumbers, asBytes};
 ghost use Rattle.record.specs.Model.Terms.{firstInThousandths, rowInThousandths};
+ghost use Rattle.scalar.specs.Scalars.{Thousandths};
 ghost use Rattle.record.specs.Laws.RowLaws.{rowOf};
+ghost use Rattle.record.specs.Laws.RowLengths.{rowLength, lengthUnder};
 ghost use Rattle.reader.specs.Contracts.{Retold};
 
 // The first number of a row: of a double at 5f, the bits of the thousandths that its four bytes hold.
@@ -35,6 +38,17 @@ fn first_of(message: &[u8], row: Row) -> u64
         return first;
     }
     numbers::doubles::thousandths(wire::four_at(message, at + 1) as u32)
+}
+
+// The bytes that are a row's own in thousandths, where they are `own` by the main rule.
+pub(crate) fn length(message: &[u8], row: Row, own: usize) -> usize
+    requires { ⌜ own ≡ rowLength (now message) (rowOf row) ⌝ }
+    ensures { λ r. ⌜ r ≡ lengthUnder Thousandths (now (message .entry)) (rowOf row) ⌝ }
+{
+    if row.kind != DOUBLE {
+        return own;
+    }
+    numbers::number_length(Sort::Double, first_of(message, row))
 }
 
 // The row in thousandths.

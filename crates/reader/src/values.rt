@@ -17,6 +17,7 @@ use record::kinds::TYPE_NUMBER;
 use record::known::KNOWN;
 use record::known::REFERENCES_GIVEN;
 use record::known::TYPES_GIVEN;
+use scalar::Sort;
 use scalar::refusals::BYTE;
 ghost use mathlib.Core.Path.{_≡_};
 ghost use Prim.Native.Nat.{_+_, _^_, _<_};
@@ -29,7 +30,13 @@ ghost use Rattle.record.specs.Laws.KnownArray.{Kept, typesSlot, referencesSlot}
 ghost use Rattle.reader.specs.Contracts.{groupOf, ReadyAt, StoresRows};
 ghost use Rattle.reader.specs.Contracts.{typeOf, typeRows, typeTag, typeSecond, TypeRoom, EntersHolder};
 ghost use Rattle.reader.specs.Contracts.{HolderFits, OpensHolder, HeadFits, ByHeadMet};
-ghost use Rattle.reader.specs.Contracts.{BeginningMet, ValuesReadMet};
+ghost use Rattle.reader.specs.Contracts.{HolderLength, BeginningMet, ValuesReadMet};
+
+// What reading keeps to: how many more lists, maps and objects may open, and what rows are measured by.
+pub(crate) struct Scope {
+    pub allowed: usize,
+    pub measuring: u64,
+}
 
 // How a value begins: it holds no others, and is read; it is the list, map or object at `holder`, where so many types
 // were given, and its values begin at `next`; or a refusal.
@@ -93,13 +100,13 @@ fn passed(at: usize, group: GroupNumbers) -> usize
     at + 1
 }
 
-// The row of the type at `here`, if there is one.
-fn store_type(numbers: &mut [u64], bytes: &mut [u8], here: Spot, of: TypeItem)
-    requires { ⌜ here .row + length (typeRows (here .at) of) < 2 ^ 64 ⌝ }
+// The row `index` of the type at `at`, if there is one.
+fn store_type(numbers: &mut [u64], bytes: &mut [u8], at: usize, index: usize, of: TypeItem)
+    requires { ⌜ index + length (typeRows at of) < 2 ^ 64 ⌝ }
     ensures { λ _. ⌜
         StoresRows
         (now (numbers .entry)) (now (bytes .entry))
-        (here .row) (typeRows (here .at) of)
+        index (typeRows at of)
         (now (numbers .exit)) (now (bytes .exit))
         ⌝ }
 {
@@ -111,22 +118,22 @@ fn store_type(numbers: &mut [u64], bytes: &mut [u8], here: Spot, of: TypeItem)
         } => {
             let name = Row {
                 kind: TYPE_NAME,
-                place: here.at as u64,
+                place: at as u64,
                 first: units,
                 second: size_of,
-                after: (here.row + 1) as u64,
+                after: (index + 1) as u64,
             };
-            crate::rows::store_row(numbers, bytes, here.row, name);
+            crate::rows::store_row(numbers, bytes, index, name);
         }
         TypeItem::Numbered { number } => {
             let by_number = Row {
                 kind: TYPE_NUMBER,
-                place: here.at as u64,
+                place: at as u64,
                 first: number,
                 second: 0,
-                after: (here.row + 1) as u64,
+                after: (index + 1) as u64,
             };
-            crate::rows::store_row(numbers, bytes, here.row, by_number);
+            crate::rows::store_row(numbers, bytes, index, by_number);
         }
     }
 }
@@ -213,30 +220,26 @@ fn enter(known: &mut [u64; KNOWN], of: TypeItem) -> usize
     }
 }
 
-// The list, map or object at `holder` opens, and its values begin at `next`: the row of its type is stored after its
-// own.
+// The list, map or object at `holder` opens: the row of its type comes at `inner`, after its own, and its values begin
+// in the message there.
 fn open_holder(
     numbers: &mut [u64],
     bytes: &mut [u8],
     known: &mut [u64; KNOWN],
     holder: Spot,
     group: GroupNumbers,
-    next: usize,
+    inner: Spot,
     of: TypeItem,
 ) -> Beginning
-    requires { ⌜ HolderFits (now known) holder next of ⌝ }
+    requires { ⌜ HolderFits (now known) holder (inner .at) of × (inner .row ≡ holder .row + 1) ⌝ }
     ensures { λ r. ⌜
         OpensHolder
         (now (numbers .entry)) (now (bytes .entry)) (now (known .entry))
-        holder group next of
+        holder group inner of
         r (now (numbers .exit)) (now (bytes .exit)) (now (known .exit))
         ⌝ }
 {
-    let type_spot = Spot {
-        at: holder.at + 1,
-        row: holder.row + 1,
-    };
-    store_type(numbers, bytes, type_spot, of);
+    store_type(numbers, bytes, holder.at + 1, inner.row, of);
     let given = known[TYPES_GIVEN];
     let more = enter(known, of);
     Beginning::Holder {
@@ -245,25 +248,28 @@ fn open_holder(
         of,
         given,
         next: Spot {
-            at: next,
-            row: holder.row + 1 + more,
+            at: inner.at,
+            row: inner.row + more,
+            shortest: inner.shortest,
         },
     }
 }
 
 // The value at `here` by its head, and all of it where it holds no others.
 fn by_head(
+    message: &[u8],
     numbers: &mut [u64],
     bytes: &mut [u8],
     known: &mut [u64; KNOWN],
     here: Spot,
     head: Head,
+    measuring: u64,
 ) -> Beginning
-    requires { ⌜ HeadFits (now known) here head ⌝ }
+    requires { ⌜ HeadFits (now message) (now known) here head ⌝ }
     ensures { λ r. ⌜
         ByHeadMet
-        (now (numbers .entry)) (now (bytes .entry)) (now (known .entry))
-        here head
+        (now (message .entry)) (now (numbers .entry)) (now (bytes .entry)) (now (known .entry))
+        here head measuring
         r (now (numbers .exit)) (now (bytes .exit)) (now (known .exit))
         ⌝ }
 {
@@ -274,6 +280,7 @@ fn by_head(
             first,
             second,
             next,
+            shortest,
         } => {
             let after = here.row + 1;
             let leaf = Row {
@@ -288,11 +295,28 @@ fn by_head(
                 next: Spot {
                     at: next,
                     row: after,
+                    shortest: crate::lengths::add_leaf(
+                        message,
+                        measuring,
+                        here.shortest,
+                        leaf,
+                        shortest,
+                    ),
                 },
             }
         }
-        Head::Holder { group, next, of } => {
-            open_holder(numbers, bytes, known, here, group, next, of)
+        Head::Holder {
+            group,
+            next,
+            of,
+            shortest,
+        } => {
+            let inner = Spot {
+                at: next,
+                row: here.row + 1,
+                shortest: crate::lengths::add(measuring, here.shortest, shortest),
+            };
+            open_holder(numbers, bytes, known, here, group, inner, of)
         }
         Head::Definition => Beginning::Refused {
             number: BYTE,
@@ -308,21 +332,28 @@ fn begin(
     bytes: &mut [u8],
     known: &mut [u64; KNOWN],
     from: Spot,
-    allowed: usize,
+    scope: Scope,
 ) -> Beginning
     requires { ⌜ ReadyAt (now message) (now known) from ⌝ }
     ensures { λ r. ⌜
         BeginningMet
         (now (message .entry)) (now (numbers .entry)) (now (bytes .entry)) (now (known .entry))
-        from allowed
+        from scope
         r (now (numbers .exit)) (now (bytes .exit)) (now (known .exit))
         ⌝ }
 {
     let mut here = from;
     loop {
-        let head = crate::heads::head_at(message, known, here.at, allowed);
+        let head = crate::heads::head_at(message, known, here.at, scope.allowed);
         if let Head::Definition = head {
-            match crate::definitions::definition(message, numbers, bytes, known, here) {
+            match crate::definitions::definition(
+                message,
+                numbers,
+                bytes,
+                known,
+                here,
+                scope.measuring,
+            ) {
                 DefinitionRead::Refused { number, place } => {
                     return Beginning::Refused { number, place };
                 }
@@ -331,13 +362,30 @@ fn begin(
                 }
             }
         } else {
-            return by_head(numbers, bytes, known, here, head);
+            return by_head(message, numbers, bytes, known, here, head, scope.measuring);
         }
     }
 }
 
-// Reads the values of a group, the first of them at `from`, with as many more lists, maps and objects as allowed open
-// within them.
+// The bytes that are a list's, map's or object's own in the shortest message, after i values of its group.
+fn holder_length(group: GroupNumbers, i: u64) -> usize
+    ensures { λ r. ⌜ HolderLength group i r ⌝ }
+{
+    if group.shape == FIELD_VALUES {
+        if group.class < 16 {
+            return 1;
+        }
+        return 1 + numbers::number_length(Sort::Int, group.class);
+    }
+    if group.shape < PAIRS {
+        if i < 8 {
+            return 1;
+        }
+    }
+    2
+}
+
+// Reads the values of a group, the first of them at `from`, within the scope.
 pub(crate) fn read_values(
     message: &[u8],
     numbers: &mut [u64],
@@ -345,13 +393,13 @@ pub(crate) fn read_values(
     known: &mut [u64; KNOWN],
     from: Spot,
     group: GroupNumbers,
-    allowed: usize,
+    scope: Scope,
 ) -> ValuesRead
     requires { ⌜ ReadyAt (now message) (now known) from ⌝ }
     ensures { λ r. ⌜
         ValuesReadMet
         (now (message .entry)) (now (numbers .entry)) (now (bytes .entry)) (now (known .entry))
-        from (groupOf group) allowed
+        from (groupOf group) scope
         r (now (numbers .exit)) (now (bytes .exit)) (now (known .exit))
         ⌝ }
 {
@@ -363,11 +411,12 @@ pub(crate) fn read_values(
                 next: Spot {
                     at: passed(here.at, group),
                     row: here.row,
+                    shortest: here.shortest,
                 },
                 count: i,
             };
         }
-        match begin(message, numbers, bytes, known, here, allowed) {
+        match begin(message, numbers, bytes, known, here, scope) {
             Beginning::Refused { number, place } => {
                 return ValuesRead::Refused { number, place };
             }
@@ -382,14 +431,23 @@ pub(crate) fn read_values(
                 given,
                 next,
             } => {
-                match read_values(message, numbers, bytes, known, next, inner, allowed - 1) {
+                let within = Scope {
+                    allowed: scope.allowed - 1,
+                    measuring: scope.measuring,
+                };
+                match read_values(message, numbers, bytes, known, next, inner, within) {
                     ValuesRead::Refused { number, place } => {
                         return ValuesRead::Refused { number, place };
                     }
                     ValuesRead::Done { next: end, count } => {
                         let row = holder_row(holder.at, inner, of, given, count, end.row);
                         crate::rows::store_lent(numbers, bytes, holder.row, row);
-                        here = end;
+                        let own = holder_length(inner, count);
+                        here = Spot {
+                            at: end.at,
+                            row: end.row,
+                            shortest: crate::lengths::add(scope.measuring, end.shortest, own),
+                        };
                         i += 1;
                     }
                 }

@@ -1,5 +1,6 @@
 pub mod ChartHeads
 pub mod ReadDefinitions
+pub mod ReadLengths
 pub mod ReadLoops
 pub mod ReadMessages
 pub mod ReadParts

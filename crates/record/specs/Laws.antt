@@ -2,11 +2,13 @@ pub mod Answering
 pub mod Back
 pub mod Bounds
 pub mod Claimed
+pub mod ClaimedLengths
 pub mod Derives
 pub mod Extent
 pub mod Forest
 pub mod HopLaws
 pub mod InThousandths
+pub mod ItemLengths
 pub mod KnownArray
 pub mod MainSpelling
 pub mod Meaning
@@ -17,6 +19,7 @@ pub mod Parses
 pub mod Places
 pub mod Refusals
 pub mod RowLaws
+pub mod RowLengths
 pub mod Short
 pub mod Spans
 pub mod TableLaws

@@ -4,6 +4,7 @@ pub mod Called
 pub mod Demands
 pub mod HopTheorems
 pub mod ItemTheorems
+pub mod LengthTheorems
 pub mod RowTheorems
 pub mod SameTheorems
 pub mod Samples

@@ -4,9 +4,11 @@
 // A case is a line: how many numbers are lent in the table, in decimal, and the message in groups, as vectors::groups
 // takes them.
 //
-// The line printed has the answer: number, count and place; a sum over the lent table as it then is; and `ok` where all
-// past the accepted rows, or the whole table after a refusal, is as it was; and after `; ` the same by the rule of
-// thousandths. What is no case is `bad`. vectors.py writes the cases, stdin, and what is to be printed, stdout.
+// The line printed has the answer: number, count and place, and the length of the record's shortest message; a sum over
+// the lent table as it then is; and `ok` where all past the accepted rows, or the whole table after a refusal, is as it
+// was; after `; ` the same by the rule of thousandths; and after another `; ` what the functions that answer the length
+// alone say, by the main rule and by that of thousandths. What is no case is `bad`. vectors.py writes the cases, stdin,
+// and what is to be printed, stdout.
 use libc::STDIN_FILENO;
 use libc::STDOUT_FILENO;
 use reader::ReadAnswer;
@@ -97,12 +99,15 @@ fn say_number(n: u64) {
     io::print_decimal(STDOUT_FILENO, n);
 }
 
-fn say_answer(number: u8, count: usize, place: usize) {
+// A refusal has no shortest message: its length is 0.
+fn say_answer(number: u8, count: usize, place: usize, shortest: u64) {
     say_number(wire::wide(number));
     say(b" ");
     say_number(count as u64);
     say(b" ");
     say_number(place as u64);
+    say(b" ");
+    say_number(shortest);
     say(b" ");
 }
 
@@ -117,21 +122,32 @@ fn say_table(table: &[u64], from: usize) {
 // An answer, and the table that it left.
 fn say_read(answer: ReadAnswer, table: &[u64]) {
     match answer {
-        ReadAnswer::Accepted { rows, length } => {
-            say_answer(0, rows, length);
+        ReadAnswer::Accepted {
+            rows,
+            length,
+            shortest,
+        } => {
+            say_answer(0, rows, length, shortest);
             if rows <= MOST {
                 say_table(table, rows * ROW_NUMBERS);
             }
         }
         ReadAnswer::Refused { number, place } => {
-            say_answer(number, 0, place);
+            say_answer(number, 0, place, 0);
             say_table(table, 0);
         }
         ReadAnswer::TooFew { needed } => {
-            say_answer(ROOM, needed, 0);
+            say_answer(ROOM, needed, 0, 0);
             say_table(table, 0);
         }
     }
+}
+
+// The lengths of the shortest message that are answered without a table.
+fn say_lengths(message: &[u8]) {
+    say_number(reader::shortest_length(message));
+    say(b" ");
+    say_number(reader::shortest_length_thousandths(message));
 }
 
 fn answer(message: &[u8], table: &mut [u64]) {
@@ -142,6 +158,8 @@ fn answer(message: &[u8], table: &mut [u64]) {
     clear(table);
     let thousandths = reader::read_thousandths(message, table);
     say_read(thousandths, table);
+    say(b"; ");
+    say_lengths(message);
 }
 
 // ---- lines

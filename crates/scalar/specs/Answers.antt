@@ -7,7 +7,7 @@ use Rattle.flow.specs.Flow.{pick, Done, Fault, byteAt, stored, Report, reported
 use Rattle.flow.specs.Steps.{Answer, alone, renamed}
 use Rattle.scalar.specs.declared.{Sort.Sort, Encoding.Encoding, Written.Written, Written.the-variants.Stored}
 use Rattle.scalar.specs.declared.{Written.the-variants.NoRoom, Written.the-variants.NoSuchForm}
-use Rattle.scalar.specs.Scalars.{formsOf, numberFrom, units, stringAt, shortestString}
+use Rattle.scalar.specs.Scalars.{formsOf, numberFrom, shortest, units, stringAt, shortestString}
 
 -- what stands at the place p of the message m, read as a value of this kind
 unfoldable pub numberAt : Sort → List ℕ → ℕ → Answer ℕ
@@ -32,16 +32,26 @@ unfoldable pub lengthOf : Option (List ℕ) → ℕ
 lengthOf none = 0
 lengthOf (some w) = length w
 
--- ---- a text or byte string: its units, and its content's bytes
+-- 2026-06: the length of the shortest form of the value that was read; a refusal has 0
+abbrev pub lengthRead : Sort → Answer ℕ → ℕ
+lengthRead s (Done n v es c) = lengthOf (shortest (formsOf s) v)
+lengthRead s (Fault x o) = 0
+
+-- of what stands at the place p of the message m, read as a value of this kind
+unfoldable pub numberLengthAt : Sort → List ℕ → ℕ → ℕ
+numberLengthAt s m p = lengthRead s (numberAt s m p)
+
+-- ---- a text or byte string: its units, its content's bytes, and (2026-06) those of its shortest form
 pub record Sizes : Type 0 where
   pub units : ℕ
   pub bytes : ℕ
+  pub shortest : ℕ
 
-abbrev pub sized : ℕ → ℕ → Sizes
-sized u b = record { units = u; bytes = b }
+abbrev pub sized : ℕ → ℕ → ℕ → Sizes
+sized u b w = record { units = u; bytes = b; shortest = w }
 
 abbrev pub sizes : Encoding → List ℕ → Sizes
-sizes k cs = sized (units k cs) (length cs)
+sizes k cs = sized (units k cs) (length cs) (lengthOf (shortestString k cs))
 
 -- what stands at the place p of the message m, by its sizes
 unfoldable pub measuredAt : Encoding → List ℕ → ℕ → Answer Sizes

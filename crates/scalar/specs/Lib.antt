@@ -26,8 +26,10 @@ pub mod Decoded
 pub mod TextAt
 pub mod TextLaws
 pub mod TextShort
+pub mod StringLengths
 pub mod TextTheorems
 pub mod ScalarLaws
 pub mod Bits
 pub mod Refusals
 pub mod UnderRules
+pub mod NumberLengths

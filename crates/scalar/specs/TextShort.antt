@@ -34,11 +34,11 @@ orEmpty o = elim o [ none ↦ [] | some w ↦ w ]
 
 -- ---- heads: the last chunk's takes one byte up to `shortTo` units, two up to 1,023, three up to 65,535; another's
 -- takes three
-abbrev shortTo : Encoding → ℕ
+abbrev pub shortTo : Encoding → ℕ
 shortTo Binary = 15
 shortTo Utf8 = 31
 
-abbrev last : Encoding → ℕ → ℕ
+abbrev pub last : Encoding → ℕ → ℕ
 last k n = 1 + min 1 (n - shortTo k) + min 1 (n - 1023)
 
 last-grows : (k : Encoding) (m n : ℕ) → m ≤ n → last k m ≤ last k n
@@ -135,6 +135,19 @@ head-is ws n j s y = go (shortest ws n) (shortest-is ws n) (number-short 0 (y .1
     go none h z = let e = z .1 in absurd (let q : _≡_ {A = ℕ} 0 1 = cc in omega arith)
     go (some w) h z = let e : w ≡ z .0 = cc (z .1) in (h, omega (arith, ap length e, y .2))
 
+pub part-length : (k : Encoding) (n : ℕ) → n ≤ 65535 → length (shortestHead (partHead k ∷ []) n) ≡ 3
+part-length k n l =
+    let h = head-is (partHead k ∷ []) n 3 (part-sane k) (part-some k n l) in omega (arith, h .1, part-head k (h .0) .1)
+
+pub short-few : (k : Encoding) → shortTo k ≤ 31
+short-few Binary = omega arith
+short-few Utf8 = omega arith
+
+pub last-length : (k : Encoding) (n : ℕ) → n ≤ 65535 → length (shortestHead (lastHeads k) n) ≡ last k n
+last-length k n l =
+    let h = head-is (lastHeads k) n (last k n) (last-sane k) (last-some k n l) in
+    omega (arith, h .1, last-head k (h .0) .1)
+
 -- ---- no form is shorter: a content's price is no more than what any form's heads take
 abbrev price : Encoding → ℕ → List ℕ → ℕ
 price k f cs = best 65535 (last k) f (weights k cs)
@@ -173,7 +186,7 @@ pub longest-is : longestChunk ≡ 65535
 unfolding longestChunk
 longest-is = refl
 
-weights-drop : (k : Encoding) (n : ℕ) (cs : List ℕ) → weights k (drop n cs) ≡ drop n (weights k cs)
+pub weights-drop : (k : Encoding) (n : ℕ) (cs : List ℕ) → weights k (drop n cs) ≡ drop n (weights k cs)
 weights-drop k zero cs = refl
 weights-drop k (suc n) [] = refl
 weights-drop k (suc n) (b ∷ cs) = weights-drop k n cs

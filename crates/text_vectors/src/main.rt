@@ -4,10 +4,11 @@
 // space between. A segment is bytes, two hexadecimal digits each; `*` and a number after them say how often they stand
 // there.
 //
-// Where a string stands at the place, the line has its units, its content's bytes, and the bytes that it takes; its
-// shortest form's length, and that form in segments; and what holds:
+// Where a string stands at the place, the line has its units, its content's bytes, the bytes that it takes, and those
+// of its shortest form, as reading says them; its shortest form's length, as writing says it, and that form in
+// segments; and what holds:
 //   rest ok   the bytes around the stored form stay
-//   back ok   it is read back, with the same units and bytes
+//   back ok   it is read back, with the same units and bytes, as a shortest form
 //   short ok  with one byte less of room the length is answered, and nothing stored
 // Else it has `refused`, number and place; and `none ok` where there is no length, and nothing is stored. In a form,
 // bytes that stand four times or more in a row, up to four at once, are a segment of their own, as few at once as do.
@@ -222,14 +223,15 @@ fn refused(
     }
 }
 
-// The string at PLACE is read as one of these sizes.
+// The string at PLACE is read as one of these sizes, which is its own shortest form.
 fn read_again(kind: Encoding, out: &[u8], units: usize, bytes: usize, size: usize) -> bool {
     match texts::read_string(kind, out, PLACE) {
         StringRead::Content {
             units: u,
             bytes: b,
             size: s,
-        } => u == units && b == bytes && s == size,
+            shortest: w,
+        } => u == units && b == bytes && s == size && w == size,
         StringRead::Refused {
             number: _,
             place: _,
@@ -323,12 +325,14 @@ fn say_form(kind: Encoding, message: &[u8], at: usize, units: usize, bytes: usiz
     vectors::fill(&mut out[0..lent]);
 }
 
-fn say_content(units: usize, bytes: usize, size: usize) {
+fn say_content(units: usize, bytes: usize, size: usize, shortest: usize) {
     say_number(units);
     say(b" ");
     say_number(bytes);
     say(b" ");
     say_number(size);
+    say(b" ");
+    say_number(shortest);
     say(b" ");
 }
 
@@ -347,10 +351,23 @@ fn none_told(kind: Encoding, message: &[u8], at: usize, out: &mut [u8]) -> bool 
     refused(kind, message, at, 0, out, PLACE + BEHIND)
 }
 
+// The string at `at`, by the function for texts where it is one.
+fn read(kind: Encoding, message: &[u8], at: usize) -> StringRead {
+    match kind {
+        Encoding::Utf8 => texts::read_text(message, at),
+        Encoding::Binary => texts::read_string(Encoding::Binary, message, at),
+    }
+}
+
 fn answer(kind: Encoding, message: &[u8], at: usize, out: &mut [u8]) {
-    match texts::read_string(kind, message, at) {
-        StringRead::Content { units, bytes, size } => {
-            say_content(units, bytes, size);
+    match read(kind, message, at) {
+        StringRead::Content {
+            units,
+            bytes,
+            size,
+            shortest,
+        } => {
+            say_content(units, bytes, size, shortest);
             say_form(kind, message, at, units, bytes, out);
         }
         StringRead::Refused { number, place } => {

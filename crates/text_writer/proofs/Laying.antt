@@ -245,14 +245,14 @@ module _ (k : Encoding) (m : List ℕ) (p : ℕ) where
   pub find-ends : length m ≤ p → FoundMet k m p Nothing
   find-ends l = missing (string-ends k m p l)
 
-  item-there : (n u b : ℕ) → Done n (sized u b) [] tt ≡ measuredAt k m p → (c : Cursor) → Opens k m p c
+  item-there : (n u b w : ℕ) → Done n (sized u b w) [] tt ≡ measuredAt k m p → (c : Cursor) → Opens k m p c
       → FoundMet k m p (There c u b)
-  item-there n u b t c q = go (stringAt k m p) refl (t ∙ measured-as k m p refl)
+  item-there n u b v t c q = go (stringAt k m p) refl (t ∙ measured-as k m p refl)
     where
-      go : (o : Answer (List ℕ)) → stringAt k m p ≡ o → Done n (sized u b) [] tt ≡ renamed (sizes k) o
+      go : (o : Answer (List ℕ)) → stringAt k m p ≡ o → Done n (sized u b v) [] tt ≡ renamed (sizes k) o
           → FoundMet k m p (There c u b)
       go (Done i cs es x) e s =
-          let f : sized u b ≡ sizes k cs = cc in
+          let f : sized u b v ≡ sizes k cs = cc in
           let d : IsDone (stringAt k m p) = rw e tt in
           let w = q .opens d in
           record {
@@ -292,7 +292,7 @@ module _ (k : Encoding) (m : List ℕ) (p : ℕ) where
 
       pub find-last : a ≡ true → FoundMet k m p (There first u b)
       find-last d =
-          item-there _ u b
+          item-there _ u b _
           (rw (none-before u, none-before b) at (joining-last (joining-start k m p l) t h n b u a e d)) first find-opens
 
       pub find-on : a ≡ false → Joining k m p (p + (h + n)) u b
@@ -308,16 +308,16 @@ module _ (k : Encoding) (m : List ℕ) (p : ℕ) where
         go (Done i cs es x) e f = let z : _≡_ {A = ℕ} 0 1 = cc in absurd (omega arith)
         go (Fault z x) e f = missing (sym (j .says) ∙ ap (prefixed (q - p) (j .front)) e)
 
-    module _ (v n i : ℕ) (d : r ≡ Content v n i) where
+    module _ (v n i l : ℕ) (d : r ≡ Content v n i l) where
       behind : (cs : List ℕ) × (es : List (Entry One)) × (stringAt k m q ≡ Done i cs es tt) × (v ≡ units k cs)
           × (n ≡ length cs)
       behind = go (stringAt k m q) refl (ap toldString (sym d) ∙ s ∙ measured-as k m q refl)
         where
-          go : (x : Answer (List ℕ)) → stringAt k m q ≡ x → Done i (sized v n) [] tt ≡ renamed (sizes k) x
+          go : (x : Answer (List ℕ)) → stringAt k m q ≡ x → Done i (sized v n l) [] tt ≡ renamed (sizes k) x
               → (cs : List ℕ) × (es : List (Entry One)) × (stringAt k m q ≡ Done i cs es tt) × (v ≡ units k cs)
               × (n ≡ length cs)
           go (Done i′ cs es x) e f =
-              let g : sized v n ≡ sizes k cs = cc in
+              let g : sized v n l ≡ sizes k cs = cc in
               (cs, es, e ∙ cc, ap (λ (z : Sizes). z .units) g, ap (λ (z : Sizes). z .bytes) g)
           go (Fault y o) e f = let z : _≡_ {A = ℕ} 0 1 = cc in absurd (omega arith)
 

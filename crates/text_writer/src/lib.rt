@@ -446,21 +446,6 @@ fn put_part_head(kind: Encoding, units: usize, out: &mut [u8], to: usize)
     wire::store_number(out, to, 3, h.part * 0x1_0000 + (units as u64));
 }
 
-// How many bytes the head of a last chunk of so many units takes.
-fn last_head_size(kind: Encoding, units: usize) -> usize
-    requires { ⌜ units < 65536 ⌝ }
-    ensures { λ r. ⌜ r ≡ length (shortestHead (lastHeads kind) units) ⌝ }
-{
-    let h = heads_of(kind);
-    if units < h.few {
-        return 1;
-    }
-    if units < 1024 {
-        return 2;
-    }
-    3
-}
-
 // The shortest form of the string at `at`, of so many units and bytes, in `out` from `to` on, where it fits. How many
 // bytes it takes. How much a part takes is found by copying it to nowhere, since its head comes first.
 fn lay(
@@ -522,6 +507,7 @@ fn find_more(
             units,
             bytes,
             size: _,
+            shortest: _,
         } => Found::There {
             first,
             units: u + units,
@@ -613,7 +599,7 @@ fn form_size(
     ensures { λ r. ⌜ r ≡ length (laidOf kind (now (source .entry)) at) ⌝ }
 {
     if units <= 65535 {
-        return last_head_size(kind, units) + bytes;
+        return texts::last_head_size(kind, units) + bytes;
     }
     let mut none: [u8; 0] = [];
     lay(kind, source, at, first, units, bytes, &mut none, 0)

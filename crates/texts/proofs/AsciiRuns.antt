@@ -9,7 +9,6 @@ use lib.ListN.{length, getD}
 use mir.Syntax.{w8}
 use mir.Val.{Fits}
 use Rattle.flow.specs.Tests.{bytes-all}
-use Rattle.flow.specs.Steps.{Answer}
 use Rattle.flow.specs.Flow.{Done}
 use Rattle.scalar.specs.declared.Encoding.{Encoding}
 use Rattle.scalar.specs.declared.Encoding.the-variants.{Utf8}
@@ -17,29 +16,29 @@ use Rattle.texts.specs.declared.HeadForm.the-variants.{Starts}
 use Rattle.texts.specs.declared.ChunkRead.the-variants.{Chunk}
 use Rattle.scalar.specs.Scalars.{characters}
 use Rattle.scalar.specs.Answers.{sized, measuredAt}
-use Rattle.texts.specs.Answers.{extentAt, headForm, chunked, withContent, chunkBy, chunkAt, ChunkMet}
+use Rattle.scalar.specs.TextShort.{last-length}
+use Rattle.texts.specs.Answers.{extentAt, Passing, headForm, chunked, withContent, chunkBy, chunkAt, ChunkMet}
 use Rattle.texts.specs.Ascii.{Ascii, ShortText, asciiAt, run-few, run-inside, run-ascii, few-are}
 use Rattle.texts.specs.Ascii.{inside-are, ascii-are}
-use Rattle.texts.specs.At.{basic, continued-none, characters-none, characters-next, body-there, string-there}
-use Rattle.texts.proofs.Strings.{Along, along-start, along-end, along-more, leads-at, head-at, starts}
-use Rattle.texts.proofs.Strings.{head-there, joining-start, joining-last}
+use Rattle.texts.specs.At.{basic, continued-none, characters-next, body-there, string-there}
+use Rattle.texts.proofs.Strings.{passing-start, passing-more, passing-end, leads-at, head-at, starts}
+use Rattle.texts.proofs.Strings.{head-there, one-chunk}
 
--- ---- a loop over characters: what is left after them reads as the whole does, but for the bytes so far
-pub along-ascii : {whole : Answer ℕ} {m : List ℕ} {at p b : ℕ} (n r : ℕ)
-    → Along whole (extentAt (characters n) m p) m at p b → r ≤ n → p + r ≤ length m → Ascii m p r
-    → Along whole (extentAt (characters (n - r)) m (p + r)) m at (p + r) (b + r)
-along-ascii {p = p} {b = b} n zero R l h x = let e : n - 0 ≡ n = omega arith in rw (e, add-zero p, add-zero b) R
-along-ascii {whole} {m} {at} {p} {b = c} n (suc r) R l h x =
+-- ---- a loop over characters: they are passed
+pub passing-ascii : {n : ℕ} {m : List ℕ} {at p b : ℕ} (left r : ℕ) → Passing n m at p left b → r ≤ left
+    → p + r ≤ length m → Ascii m p r → Passing n m at (p + r) (left - r) (b + r)
+passing-ascii {p = p} {b = b} left zero R l h x =
+    let e : left - 0 ≡ left = omega arith in rw (e, add-zero p, add-zero b) R
+passing-ascii {n} {m} {at} {p} {b = c} left (suc r) R l h x =
     let b : getD m p 0 < 0x80 = rw (add-zero p) at (x .below 0 (omega arith)) in
     let s =
-    characters-next n m p (omega arith) (omega arith) 0 0 0 1 (basic (sym (leads-at 0 tt (omega arith) b refl)))
+    characters-next left m p (omega arith) (omega arith) 0 0 0 1 (basic (sym (leads-at 0 tt (omega arith) b refl)))
     (omega arith) 0 (sym (continued-none p 0 0 0 m (p + 1) (omega arith))) in
-    let d : n - 1 - r ≡ n - suc r = omega arith in
+    let d : left - 1 - r ≡ left - suc r = omega arith in
     let e : p + 1 + r ≡ p + suc r = omega arith in
     let f : c + 1 + r ≡ c + suc r = omega arith in
     rw (d, e, f) at
-    (along-ascii (n - 1) r
-    (along-more R 1 1 (extentAt (characters (n - 1)) m (p + 1)) s (omega arith) (omega arith)) (omega arith)
+    (passing-ascii (left - 1) r (passing-more R 1 1 1 s (omega arith) (omega arith) (omega arith)) (omega arith)
     (omega arith) rest)
   where
     rest : Ascii m (p + 1) r
@@ -47,22 +46,28 @@ along-ascii {whole} {m} {at} {p} {b = c} n (suc r) R l h x =
         record
         { below = λ i k. let e : p + suc i ≡ p + 1 + i = omega arith in rw e at (x .below (suc i) (omega arith)) }
 
--- a run of them, up to the units that are left; and whole steps of a run
-pub along-run : {whole : Answer ℕ} {m : List ℕ} {at p b r : ℕ} (n : ℕ)
-    → Along whole (extentAt (characters n) m p) m at p b → r ≡ asciiAt m p n
-    → Along whole (extentAt (characters (n - r)) m (p + r)) m at (p + r) (b + r)
-along-run {r = r} n R e = along-ascii n r R (few-are _ _ _ e) (inside-are _ _ _ e (R .inside)) (ascii-are _ _ _ e)
+-- a run of them, up to so many units; and whole steps of a run
+pub passing-run : {n : ℕ} {m : List ℕ} {at p left b most r : ℕ} → Passing n m at p left b → most ≤ left
+    → r ≡ asciiAt m p most → Passing n m at (p + r) (left - r) (b + r)
+passing-run {left = left} {r = r} R l e =
+    passing-ascii left r R (omega (arith, few-are _ _ _ e)) (inside-are _ _ _ e (R .inside)) (ascii-are _ _ _ e)
+
+pub within-run : (n room used : ℕ) → room < n → used ≤ room → {m : List ℕ} {at p b : ℕ}
+    → Passing n m at p (n - used) b → {r : ℕ} → r ≡ asciiAt m p (room - used)
+    → Passing n m at (p + r) (n - (used + r)) (b + r) × (used + r ≤ room)
+within-run n room used h few R {r} e =
+    let d : n - used - r ≡ n - (used + r) = omega arith in
+    (rw d at (passing-run R (omega arith) e), omega (arith, few-are _ _ _ e))
 
 module _ (m : List ℕ) (p n : ℕ) (l : p ≤ length m) {r : ℕ} (e : r ≡ asciiAt m p n / 32 * 32) where
   pub steps-few : (r ≤ n) × (p + r ≤ length m)
   steps-few = (omega (arith, run-few m p n), omega (arith, run-inside m p n l))
 
-  pub along-steps : Along (extentAt (characters n) m p) (extentAt (characters (n - r)) m (p + r)) m p (p + r) r
-  along-steps =
+  pub passing-steps : Passing n m p (p + r) (n - r) r
+  passing-steps =
       let z : 0 + r ≡ r = omega arith in
       rw z at
-      (along-ascii n r (along-start (extentAt (characters n) m p) m p l) (steps-few .0) (steps-few .1)
-      (run-ascii m p n r (omega arith)))
+      (passing-ascii n r (passing-start n m p l) (steps-few .0) (steps-few .1) (run-ascii m p n r (omega arith)))
 
 -- ---- a short text: the byte at p counts the n ASCII bytes after it
 module _ (m : List ℕ) (p n : ℕ) (l : p + 1 + n ≤ length m) (x : Ascii m (p + 1) n) where
@@ -71,26 +76,24 @@ module _ (m : List ℕ) (p n : ℕ) (l : p + 1 + n ≤ length m) (x : Ascii m (p
       let e : p + 1 + n - (p + 1) ≡ n = omega arith in
       let d : 0 + n ≡ n = omega arith in
       rw (e, d) at
-      (along-end
-      (along-ascii n n (along-start (extentAt (characters n) m (p + 1)) m (p + 1) (omega arith)) (omega arith) l x)
-      (characters-none (n - n) m (p + 1 + n) (omega arith)))
+      (passing-end (passing-ascii n n (passing-start n m (p + 1) (omega arith)) (omega arith) l x) (omega arith))
 
   short-head : n ≡ getD m p 0 → n < 0x20 → headForm Utf8 (getD m p 0) ≡ Starts 0 n true
   short-head e h = sym (head-at Utf8 1 tt (omega arith) (omega arith) (starts (omega arith)))
 
-  short-is : n ≡ getD m p 0 → n < 0x20 → Chunk 1 n n n true ≡ chunkAt Utf8 m p
+  short-is : ((i : ℕ) → Fits w8 (getD m i 0)) → n ≡ getD m p 0 → n < 0x20 → Chunk 1 n n n true ≡ chunkAt Utf8 m p
   unfolding chunkAt
-  short-is e h =
+  short-is bytes e h =
       ap (withContent 1 n true) ascii-extent
       ∙ ap (chunkBy Utf8 m p)
-      (head-there Utf8 m p (omega arith) (headForm Utf8 (getD m p 0)) refl 0 n true (short-head e h)
+      (head-there Utf8 m p (omega arith) (headForm Utf8 (getD m p 0)) refl 0 n true (short-head e h) bytes
       (omega arith) n refl .is)
 
   short-there : ((i : ℕ) → Fits w8 (getD m i 0)) → n ≡ getD m p 0 → n < 0x20 → ChunkMet Utf8 m p (Chunk 1 n n n true)
   short-there bytes e h =
       let z = body-there Utf8 n m (p + 1) (bytes-all m (λ i. bytes i .fits)) n n (omega arith) ascii-extent in
       record {
-        is = short-is e h;
+        is = short-is bytes e h;
         says = (
           string-there Utf8 m p (omega arith) 0 n true (short-head e h) (omega arith) n refl
               ∙ ap (chunked Utf8 m p 1 true) (z .0),
@@ -100,6 +103,7 @@ module _ (m : List ℕ) (p n : ℕ) (l : p + 1 + n ≤ length m) (x : Ascii m (p
           z .3,
           z .4,
           z .5,
+          omega arith,
         );
       }
 
@@ -114,9 +118,11 @@ module _ (m : List ℕ) (p s : ℕ) (bytes : (i : ℕ) → Fits w8 (getD m i 0))
   chunk-short k e = rw e short-chunk
 
   -- s: its bytes in all
-  pub text-short : Done s (sized (s - 1) (s - 1)) [] tt ≡ measuredAt Utf8 m p
+  pub text-short : Done s (sized (s - 1) (s - 1) s) [] tt ≡ measuredAt Utf8 m p
   text-short =
-      let start = joining-start Utf8 m p (omega (arith, f z .inside)) in
-      let e : p + (1 + (s - 1)) - p ≡ s = omega arith in
-      let d : 0 + (s - 1) ≡ s - 1 = omega arith in
-      rw (e, d) at (joining-last start short-chunk 1 (s - 1) (s - 1) (s - 1) true refl refl)
+      let h = f z in
+      let e : 1 + (s - 1) ≡ s = omega arith in
+      let d : s - 1 + 1 ≡ s = omega arith in
+      let l = last-length Utf8 (s - 1) (omega (arith, h .short)) in
+      rw (e, d) at
+      (one-chunk Utf8 m p _ short-chunk 1 (s - 1) (s - 1) (s - 1) refl bytes 1 (omega (arith, h .short)))

@@ -2,18 +2,19 @@
 use mathlib.Core.Path.{_≡_, refl, sym, _∙_, ap, subst}
 use mathlib.Core.Bool.{Bool, true, false}
 use mathlib.Core.List.{List, [], _∷_, _++_, map, append-assoc}
-use Prim.Native.Nat.{ℕ, zero, suc, _+_, _-_, _*_, _≤_, _<_}
+use Prim.Native.Nat.{ℕ, suc, _+_, _-_, _*_, _≤_, _<_}
 use native.Mathlib.Omega.{arith}
 use lib.Dec.{T}
-use lib.ListN.{length, take, drop, getD, length-append, List·getD-eq-default}
+use lib.ListN.{length, take, drop, getD, length-append, length-drop, take-append-drop, List·getD-eq-default}
+use lib.Seq.{length-take-le}
 use mir.Syntax.{w8, w64}
 use mir.Val.{Fits}
-use Rattle.flow.specs.Flow.{pick, Done, Fault}
-use Rattle.flow.specs.Steps.{Answer}
+use Rattle.flow.specs.Flow.{pick, Entry, One, Done, Fault}
+use Rattle.flow.specs.Steps.{Answer, renamed}
 use borrow.Author.Tests.{le-leb, lt-leb}
-use Rattle.flow.specs.Tests.{split, pick-true, pick-false, bytes-all}
-use Rattle.wire.specs.BigEndian.{joined}
-use Rattle.wire.specs.Laws.{joined-one}
+use Rattle.flow.specs.Tests.{split, pick-true, pick-false, bytes-drop, bytes-take, bytes-all}
+use Rattle.wire.specs.BigEndian.{joined, wider}
+use Rattle.wire.specs.Laws.{joined-one, joined-below}
 use Rattle.scalar.specs.declared.Begun.{Begun}
 use Rattle.scalar.specs.declared.Encoding.{Encoding}
 use Rattle.scalar.specs.declared.Encoding.the-variants.{Utf8, Binary}
@@ -30,26 +31,29 @@ use Rattle.texts.specs.declared.HeadRead.the-variants as head
 use Rattle.texts.specs.declared.ChunkRead.{ChunkRead}
 use Rattle.texts.specs.declared.ChunkRead.the-variants as chunk
 use Rattle.scalar.specs.Scalars.{Form, formAt, inside, lastHeads, charLead, units, continued, characters}
-use Rattle.scalar.specs.Scalars.{body, stringAt}
+use Rattle.scalar.specs.Scalars.{body, stringAt, shortestHead, shortestString}
 use Rattle.scalar.specs.Rows.{Row, row, chosen, nth, apart, Outside, chosen-at, chosen-none}
 use Rattle.scalar.specs.CharLeads.{leadRows, lead-rows}
 use Rattle.scalar.specs.FormLaws.{partForm, lastForms, part-head, last-heads, form-none, form-either}
 use Rattle.scalar.specs.TextAt.{string-ends}
-use Rattle.scalar.specs.AnswerLaws.{measured-as}
-use Rattle.scalar.specs.TextUnits.{units-append}
-use Rattle.scalar.specs.Pairs.{paired-length}
+use Rattle.scalar.specs.AnswerLaws.{length-some, measured-as}
+use Rattle.scalar.specs.TextUnits.{weights, weights-chars, weights-append, units-append, content-units, singles}
 use Rattle.scalar.specs.Decoded.{decoded}
-use Rattle.scalar.specs.Answers.{sized, measuredAt}
-use Rattle.texts.specs.Answers.{extentAt, toldExtent, shifted, CharSays, CharMet, lastForm, headForm}
-use Rattle.texts.specs.Answers.{prefixed, chunked, headBy, headAt, HeadSays, HeadMet, withContent}
-use Rattle.texts.specs.Answers.{chunkBy, chunkAt, ChunkSays, ChunkMet, Joining}
+use Rattle.scalar.specs.StringLengths.{Parts, parts, partsAfter, parts-within, parts-few, cuts-few, parts-on}
+use Rattle.scalar.specs.StringLengths.{parts-split, content-first, formLength, shortest-length}
+use Rattle.scalar.specs.TextTheorems.{text-no-shorter}
+use Rattle.scalar.specs.Answers.{sized, measuredAt, lengthOf}
+use Rattle.texts.specs.Answers.{extentAt, toldExtent, shifted, textAt, Passes, CharSays, CharMet, Passing}
+use Rattle.texts.specs.Answers.{Over, WithinSays, WithinMet, CutMet, lastForm}
+use Rattle.texts.specs.Answers.{headForm, prefixed, chunked, headBy, headAt, HeadSays, HeadMet, withContent}
+use Rattle.texts.specs.Answers.{chunkBy, chunkAt, ChunkSays, ChunkMet, Joining, Parting}
 use Rattle.texts.specs.At.{Opens, basic, below-half, supplementary, opens-units, Halves, HighHalf}
-use Rattle.texts.specs.At.{continued-size, characters-ends, characters-other, characters-half}
+use Rattle.texts.specs.At.{continued-size, characters-none, characters-ends, characters-other, characters-half}
 use Rattle.texts.specs.At.{characters-low, characters-alone, characters-fault, characters-next}
 use Rattle.texts.specs.At.{pair-there, pair-bad, pair-bad-2, pair-bad-3, pair-bad-4, pair-good}
 use Rattle.texts.specs.At.{pair-one-more, pair-two-more, pair-three-more, pair-fault, pair-next}
-use Rattle.texts.specs.At.{octets-done, octets-fault, body-there, body-fault, head-small, string-none}
-use Rattle.texts.specs.At.{string-cut, string-there}
+use Rattle.texts.specs.At.{octets-done, octets-fault, body-there, body-holds, body-quiet, body-fault}
+use Rattle.texts.specs.At.{head-small, string-none, string-cut, string-there}
 
 -- ---- a loop over what is read: what is left reads as the whole does, but for the bytes so far
 pub record Along (whole rest : Answer ℕ) (m : List ℕ) (at here bytes : ℕ) : Type 0 where
@@ -105,6 +109,70 @@ pub plain-more : {whole rest : Answer ℕ} {m : List ℕ} {at here : ℕ} → Al
 plain-more {at = at} {here = here} R left e l =
     let d : here - at + 1 ≡ here + 1 - at = omega (arith, R .onward) in
     rw d at (along-more R 1 1 left e (omega arith) l)
+
+-- ---- a loop over contents: what is left reads as the whole does, but for the content so far
+prefixed-none : (r : Answer (List ℕ)) → prefixed 0 [] r ≡ r
+prefixed-none (Done n cs es c) = let e : 0 + n ≡ n = omega arith in rw e refl
+prefixed-none (Fault x o) = refl
+
+prefixed-twice : (i j : ℕ) (bs cs : List ℕ) (r : Answer (List ℕ))
+    → prefixed i bs (prefixed j cs r) ≡ prefixed (i + j) (bs ++ cs) r
+prefixed-twice i j bs cs (Done n ds es c) =
+    let e : i + (j + n) ≡ i + j + n = omega arith in rw (e, append-assoc bs cs ds) refl
+prefixed-twice i j bs cs (Fault x o) = refl
+
+prefixed-extent : (i : ℕ) (cs : List ℕ) (r : Answer (List ℕ))
+    → renamed length (prefixed i cs r) ≡ shifted i (length cs) (renamed length r)
+prefixed-extent i cs (Done n ds es c) = rw (length-append cs ds) refl
+prefixed-extent i cs (Fault x o) = refl
+
+pub passing-start : (n : ℕ) (m : List ℕ) (at : ℕ) → at ≤ length m → Passing n m at at n 0
+passing-start n m at l =
+    let e : at - at ≡ 0 = omega arith in
+    record {
+      front = [];
+      says = rw e (prefixed-none (textAt n m at));
+      units-are = omega arith;
+      bytes-are = refl;
+      onward = omega arith;
+      inside = l;
+    }
+
+module _ {n : ℕ} {m : List ℕ} {at here left bytes : ℕ} (R : Passing n m at here left bytes) where
+  passing-along : Along (extentAt (characters n) m at) (extentAt (characters left) m here) m at here bytes
+  passing-along = record {
+    says =
+        ap (λ (b : ℕ). shifted (here - at) b (extentAt (characters left) m here)) (sym (R .bytes-are))
+        ∙ sym (prefixed-extent (here - at) (R .front) (textAt left m here))
+        ∙ ap (renamed length) (R .says);
+    onward = R .onward;
+    inside = R .inside;
+  }
+
+  pub passing-end : left ≤ 0 → Done (here - at) bytes [] tt ≡ extentAt (characters n) m at
+  passing-end z = along-end passing-along (characters-none left m here z)
+
+  pub passing-fault : (x o : ℕ) → extentAt (characters left) m here ≡ Fault x o
+      → Fault x o ≡ extentAt (characters n) m at
+  passing-fault x o e = along-fault passing-along x o e
+
+  pub passing-more : (j b u : ℕ) → Passes left m here j b u → u ≤ left → b ≤ j → here + j ≤ length m
+      → Passing n m at (here + j) (left - u) (bytes + b)
+  passing-more j b u p h k l =
+      let d : here + j - at ≡ here - at + j = omega (arith, R .onward) in
+      let rest = textAt (left - u) m (here + j) in
+      record {
+        front = R .front ++ p .front;
+        says =
+            rw d
+            (sym (prefixed-twice (here - at) j (R .front) (p .front) rest)
+            ∙ ap (prefixed (here - at) (R .front)) (sym (p .says))
+            ∙ R .says);
+        units-are = omega (arith, units-append Utf8 (R .front) (p .front), R .units-are, p .units-are);
+        bytes-are = omega (arith, length-append (R .front) (p .front), R .bytes-are, p .bytes-are);
+        onward = omega (arith, R .onward);
+        inside = l;
+      }
 
 -- ---- a character's first byte: the table of scalar's specs/Scalars.antt
 pub leads-at : (i : ℕ) → T (apart NoChar leadRows i) → {b : ℕ} {x : CharLead} → nth NoChar leadRows i .from ≤ b
@@ -248,8 +316,7 @@ module _ (m : List ℕ) (p : ℕ) (k : p + 1 < length m) (e : HighHalf m p) (n :
                     (j₃, b₃, told d₃ t₃) (j, b, told d t₄) in
                     record {
                       says = (
-                        pair-next n m p (omega arith) (omega arith) (e .ed) k (e .from) (e .below) u _ (w .1)
-                            (paired-length _ _ _ _),
+                        pair-next n m p (omega arith) (omega arith) (e .ed) k (e .from) (e .below) u _ _ _ (w .1),
                         omega arith,
                         w .0,
                         omega arith,
@@ -261,6 +328,61 @@ module _ (m : List ℕ) (p : ℕ) (k : p + 1 < length m) (e : HighHalf m p) (n :
 -- what is said of a character, by what it is
 pub char-says : {n : ℕ} {m : List ℕ} {p : ℕ} {x y : CharRead} → CharMet n m p x → x ≡ y → CharSays n m p y
 char-says {n} {m} {p} t e = subst (CharSays n m p) e (t .says)
+
+-- ---- characters that fit so many units
+first-weight : (ws vs : List ℕ) (r : ℕ) → r < getD ws 0 0 → r < getD (ws ++ vs) 0 0
+first-weight [] vs r h = absurd (omega arith)
+first-weight (w ∷ ws) vs r h = h
+
+-- the next counts more
+over-next : (n : ℕ) (m : List ℕ) (p j b u r : ℕ) → Passes n m p j b u → r < u → Over r n m p
+over-next n m p j b u r x h =
+    record { over = λ i cs es e. go i cs es (textAt (n - u) m (p + j)) (sym (x .says) ∙ e) }
+  where
+    go : (i : ℕ) (cs : List ℕ) (es : List (Entry One)) (o : Answer (List ℕ))
+        → prefixed j (x .front) o ≡ Done i cs es tt → r < getD (weights Utf8 cs) 0 0
+    go i cs es (Done a ds fs c) e =
+        let d : x .front ++ ds ≡ cs = cc in
+        rw (← d, weights-append Utf8 (x .front) ds)
+        (first-weight (weights Utf8 (x .front)) (weights Utf8 ds) r (omega (arith, x .first-is)))
+    go i cs es (Fault y o) e = let z : _≡_ {A = ℕ} 0 1 = cc in absurd (omega arith)
+
+-- so many units are used of the room
+module _ (n room used : ℕ) (h : room < n) (few : used ≤ room) {m : List ℕ} {at here bytes : ℕ}
+    (R : Passing n m at here (n - used) bytes) where
+  pub within-fault : {r : CharRead} → CharMet (n - used) m here r → (x o : ℕ) → r ≡ char.Refused x o
+      → WithinMet n room m at (char.Refused x o)
+  within-fault t x o e = record { says = passing-fault R x o (char-says t e) }
+
+  pub within-more : {r : CharRead} → CharMet (n - used) m here r → (j b u : ℕ) → r ≡ char.Char j b u
+      → u ≤ room - used → Passing n m at (here + j) (n - (used + u)) (bytes + b) × (used + u ≤ room)
+  within-more t j b u e l =
+      let s = char-says t e in
+      let d : n - used - u ≡ n - (used + u) = omega arith in
+      (rw d at (passing-more R j b u (s .0) (s .4) (s .5) (s .2)), omega arith)
+
+  within-met : Over (room - used) (n - used) m here → WithinMet n room m at (char.Char (here - at) bytes used)
+  within-met x =
+      let a : here ≡ at + (here - at) = omega (arith, R .onward) in
+      record { says = (rw (← a) R, few, rw (← a) x) }
+
+  pub within-over : {r : CharRead} → CharMet (n - used) m here r → (j b u : ℕ) → r ≡ char.Char j b u → room - used < u
+      → WithinMet n room m at (char.Char (here - at) bytes used)
+  within-over t j b u e l = within-met (over-next (n - used) m here j b u (room - used) (char-says t e .0) l)
+
+  pub within-all : ((i : ℕ) → Fits w8 (getD m i 0)) → room ≤ used
+      → WithinMet n room m at (char.Char (here - at) bytes used)
+  within-all fit z =
+      within-met
+      record {
+        over = λ i cs es q.
+            let x = body-holds Utf8 (n - used) m here (bytes-all m (λ i. fit i .fits)) i cs es q in
+            omega (arith, content-first x (omega arith));
+      }
+
+pub within-says : {n room : ℕ} {m : List ℕ} {p : ℕ} {x y : CharRead} → WithinMet n room m p x → x ≡ y
+    → WithinSays n room m p y
+within-says {n} {room} {m} {p} t e = subst (WithinSays n room m p) e (t .says)
 
 -- ---- a chunk's first byte: the head of a chunk that is not the last, and those of the last
 abbrev headRow : Form → (ℕ → HeadForm) → Row HeadForm
@@ -362,15 +484,27 @@ module _ (k : Encoding) (m : List ℕ) (p : ℕ) where
       head-low bytes = omega (arith, bytes p .fits, head-small k (getD m p 0) j u a (sym is ∙ e) .1)
 
       -- n: the number that the head holds
-      pub head-there : j < length m - p → (n : ℕ) → n ≡ joined u (take j (drop (p + 1) m))
-          → HeadMet k m p (head.Head (j + 1) n a)
-      head-there h n at = record {
+      pub head-there : ((i : ℕ) → Fits w8 (getD m i 0)) → j < length m - p → (n : ℕ)
+          → n ≡ joined u (take j (drop (p + 1) m)) → HeadMet k m p (head.Head (j + 1) n a)
+      head-there bytes h n at = record {
         is =
             ap (λ (v : ℕ). head.Head (j + 1) v a) at
             ∙ sym (pick-false _ _ (lt-leb (length m - p) j h))
             ∙ head-by (Starts j u a) e;
-        says = (string-there k m p l j u a (sym is ∙ e) h n at, omega arith, omega arith);
+        says = (
+          string-there k m p l j u a (sym is ∙ e) h n at,
+          omega arith,
+          omega arith,
+          omega (arith, below, head-small k (getD m p 0) j u a (sym is ∙ e) .2),
+        );
       }
+        where
+          below : joined u (take j (drop (p + 1) m)) < wider j (suc u)
+          below =
+              joined-below (take j (drop (p + 1) m)) j u (suc u)
+              (length-take-le j (drop (p + 1) m) (omega (arith, length-drop (p + 1) m)))
+              (bytes-take j (drop (p + 1) m) (bytes-drop (p + 1) m (bytes-all m (λ i. bytes i .fits))))
+              (omega arith)
 
 pub head-says : {k : Encoding} {m : List ℕ} {p : ℕ} {x y : HeadRead} → HeadMet k m p x → x ≡ y → HeadSays k m p y
 head-says {k} {m} {p} t e = subst (HeadSays k m p) e (t .says)
@@ -408,23 +542,35 @@ module _ (k : Encoding) (m : List ℕ) (p : ℕ) (x : HeadRead) (t : HeadMet k m
         let z = body-there k u m (p + h) (bytes-all m (λ i. bytes i .fits)) n b (w .2) (ap toldExtent (sym d) ∙ s) in
         record {
           is = chunk-with (extent.Takes n b) d;
-          says = (w .0 ∙ ap (chunked k m p h a) (z .0), w .1, omega (arith, z .1), z .2, z .3, z .4, z .5);
+          says = (w .0 ∙ ap (chunked k m p h a) (z .0), w .1, omega (arith, z .1), z .2, z .3, z .4, z .5, w .3);
         }
 
 pub chunk-says : {k : Encoding} {m : List ℕ} {p : ℕ} {x y : ChunkRead} → ChunkMet k m p x → x ≡ y → ChunkSays k m p y
 chunk-says {k} {m} {p} t e = subst (ChunkSays k m p) e (t .says)
 
--- ---- the loop over the chunks: what is left reads as the whole does, but for the content and the bytes so far
-prefixed-none : (r : Answer (List ℕ)) → prefixed 0 [] r ≡ r
-prefixed-none (Done n cs es c) = let e : 0 + n ≡ n = omega arith in rw e refl
-prefixed-none (Fault x o) = refl
+-- what is read of its content
+chunk-content : {k : Encoding} {m : List ℕ} {p : ℕ} {r : ChunkRead} → ChunkMet k m p r → (h n b u : ℕ) (a : Bool)
+    → r ≡ chunk.Chunk h n b u a → Done n b [] tt ≡ extentAt (body k u) m (p + h)
+unfolding chunkAt
+chunk-content {k} {m} {p} t h n b u a e = by-head (headAt k m p) (sym e ∙ t .is)
+  where
+    by-content : (i v : ℕ) (l : Bool) (o : Answer ℕ) → extentAt (body k v) m (p + i) ≡ o
+        → chunk.Chunk h n b u a ≡ withContent i v l o → Done n b [] tt ≡ extentAt (body k u) m (p + h)
+    by-content i v l (Done x c es y) d f =
+        let q = body-quiet k v m (p + i) x c es d in
+        let f₁ : h ≡ i = cc in
+        let f₂ : n ≡ x = cc in
+        let f₃ : b ≡ c = cc in
+        let f₄ : u ≡ v = cc in
+        rw (f₁, f₂, f₃, f₄, d, q) refl
+    by-content i v l (Fault y o) d f = let z : _≡_ {A = ℕ} 0 1 = cc in absurd (omega arith)
 
-prefixed-twice : (i j : ℕ) (bs cs : List ℕ) (r : Answer (List ℕ))
-    → prefixed i bs (prefixed j cs r) ≡ prefixed (i + j) (bs ++ cs) r
-prefixed-twice i j bs cs (Done n ds es c) =
-    let e : i + (j + n) ≡ i + j + n = omega arith in rw (e, append-assoc bs cs ds) refl
-prefixed-twice i j bs cs (Fault x o) = refl
+    by-head : (x : HeadRead) → chunk.Chunk h n b u a ≡ chunkBy k m p x
+        → Done n b [] tt ≡ extentAt (body k u) m (p + h)
+    by-head (head.Head i v l) f = by-content i v l (extentAt (body k v) m (p + i)) refl f
+    by-head (head.Refused y o) f = let z : _≡_ {A = ℕ} 0 1 = cc in absurd (omega arith)
 
+-- ---- the loop over the chunks
 pub joining-start : (k : Encoding) (m : List ℕ) (at : ℕ) → at < length m → Joining k m at at 0 0
 joining-start k m at l = let e : at - at ≡ 0 = omega arith in
     record {
@@ -461,10 +607,13 @@ module _ {k : Encoding} {m : List ℕ} {at here total bytes : ℕ} (R : Joining 
     size : here + (h + n) - at ≡ here - at + (h + n)
     size = omega (arith, R .onward)
 
-    pub joining-last : a ≡ true → Done (here + (h + n) - at) (sized (total + u) (bytes + b)) [] tt ≡ measuredAt k m at
-    joining-last d =
-        rw (size, ← joint-units, ← joint-length)
-        (sym (measured-as k m at (rw (chunk-says t e .0, d) at (sym (R .says)))))
+    pub joining-whole : a ≡ true → stringAt k m at ≡ Done (here - at + (h + n)) joint [] tt
+    joining-whole d = rw (chunk-says t e .0, d) at (sym (R .says))
+
+    pub joining-last : a ≡ true
+        → Done (here + (h + n) - at) (sized (total + u) (bytes + b) (lengthOf (shortestString k joint))) [] tt
+        ≡ measuredAt k m at
+    joining-last d = rw (size, ← joint-units, ← joint-length) (sym (measured-as k m at (joining-whole d)))
 
     pub joining-more : a ≡ false → Joining k m at (here + (h + n)) (total + u) (bytes + b)
     joining-more d =
@@ -483,3 +632,253 @@ module _ {k : Encoding} {m : List ℕ} {at here total bytes : ℕ} (R : Joining 
           onward = omega (arith, R .onward, s .6);
           inside = s .2;
         }
+
+-- ---- a content that does not fit the open part
+-- each byte of a byte string is one unit
+byte-units : (cs : List ℕ) → units Binary cs ≡ length cs
+byte-units cs = singles Binary cs (λ i l. refl)
+
+byte-first : (cs : List ℕ) → 0 < length cs → getD (weights Binary cs) 0 0 ≡ 1
+byte-first [] l = absurd (omega arith)
+byte-first (b ∷ cs) l = refl
+
+bytes-parted : (cs : List ℕ) (n c u : ℕ) → units Binary cs ≡ n → u ≤ 65535 → n ≤ 65535 → 65535 - u < n
+    → partsAfter c u (weights Binary cs) ≡ parts (c + 1) (n - (65535 - u))
+bytes-parted cs n c u e h l i =
+    let room = 65535 - u in
+    let front = take room cs in
+    let back = drop room cs in
+    let j = byte-units cs in
+    let a = length-take-le room cs (omega arith) in
+    let b = length-drop room cs in
+    let one = byte-first back (omega arith) in
+    let y : units Binary back ≡ n - room = omega (arith, byte-units back) in
+    let z : suc c ≡ c + 1 = omega arith in
+    ap (λ (v : List ℕ). partsAfter c u (weights Binary v)) (sym (take-append-drop room cs))
+    ∙ parts-split Binary front back c u (omega (arith, byte-units front)) (omega (arith, byte-units front))
+    (omega arith)
+    ∙ rw (y, z) refl
+
+-- a byte string
+module _ (k : Encoding) (n room : ℕ) (m : List ℕ) (p : ℕ) (fit : (i : ℕ) → Fits w8 (getD m i 0)) (in-m : p ≤ length m)
+    (h : room < n) (few : n ≤ 65535) where
+  content-is : (j b : ℕ) → Done j b [] tt ≡ extentAt (body k n) m p
+      → (_≡_ {A = Answer (List ℕ)} (body k n tt p (drop p m)) (Done j (decoded k (take j (drop p m))) [] tt))
+      × (units k (decoded k (take j (drop p m))) ≡ n)
+  content-is j b e =
+      let z = body-there k n m p (bytes-all m (λ i. fit i .fits)) j b in-m e in (z .0, z .3)
+
+  pub cut-bytes : k ≡ Binary → CutMet k n room m p (n - room)
+  cut-bytes e = record {
+    after = λ j b d c u l f.
+        let z = rw e at (content-is j b d .1) in
+        let y = bytes-parted (decoded Binary (take j (drop p m))) n c u z l few (omega arith) in
+        rw (e, ← f) y;
+  }
+
+  -- a text. r: the characters that fit
+  module _ (e : k ≡ Utf8) (r : CharRead) (t : WithinMet n room m p r) where
+    pub cut-never : (y o : ℕ) → r ≡ char.Refused y o → CutMet k n room m p 0
+    cut-never y o d = record {
+      after = λ j b g c u l f.
+          let v : Done j b [] tt ≡ extentAt (characters n) m p = rw e at g in
+          let w : Done j b [] tt ≡ Fault y o = v ∙ sym (within-says t d) in
+          let z : _≡_ {A = ℕ} 0 1 = cc in
+          absurd (omega arith);
+    }
+
+    module _ (j b u : ℕ) (d : r ≡ char.Char j b u) where
+      pub cut-units : u ≤ n
+      cut-units = omega (arith, within-says t d .1)
+
+      -- the rest, of a content that is read as a whole
+      rest : (i : ℕ) (cs : List ℕ) → textAt n m p ≡ Done i cs [] tt → (c v : ℕ) → v ≤ 65535 → 65535 - v ≡ room
+          → partsAfter c v (weights Utf8 cs) ≡ parts (c + 1) (n - u)
+      rest i cs g c v l f = go (textAt (n - u) m (p + j)) refl
+        where
+          R : Passing n m p (p + j) (n - u) b
+          R = within-says t d .0
+
+          go : (o : Answer (List ℕ)) → textAt (n - u) m (p + j) ≡ o
+              → partsAfter c v (weights Utf8 cs) ≡ parts (c + 1) (n - u)
+          go (Done x ds es y) q =
+              let s : prefixed (p + j - p) (R .front) (Done x ds es y) ≡ Done i cs [] tt =
+              ap (prefixed (p + j - p) (R .front)) (sym q) ∙ R .says ∙ g in
+              let same : R .front ++ ds ≡ cs = cc in
+              let over = within-says t d .2 .over x ds es q in
+              let w = content-units
+              (body-holds Utf8 (n - u) m (p + j) (bytes-all m (λ i. fit i .fits)) x ds es q) in
+              let one : suc c ≡ c + 1 = omega arith in
+              rw (← same)
+              (parts-split Utf8 (R .front) ds c v (omega (arith, R .units-are, within-says t d .1))
+              (omega (arith, R .units-are, within-says t d .1)) (omega arith)
+              ∙ rw (w, one) refl)
+          go (Fault y o) q =
+              let s : prefixed (p + j - p) (R .front) (Fault y o) ≡ Done i cs [] tt =
+              ap (prefixed (p + j - p) (R .front)) (sym q) ∙ R .says ∙ g in
+              let z : _≡_ {A = ℕ} 0 1 = cc in
+              absurd (omega arith)
+
+      pub cut-there : CutMet k n room m p (n - u)
+      cut-there = record {
+        after = λ i a g c v l f.
+            let w : textAt n m p ≡ Done i (decoded Utf8 (take i (drop p m))) [] tt = rw e at (content-is i a g .0) in
+            rw e (rest i (decoded Utf8 (take i (drop p m))) w c v l f);
+      }
+
+-- ---- the loop over the chunks, with the parts of the shortest form
+pub on-none : (k : Encoding) (m : List ℕ) (at : ℕ) → length m ≤ at → Fault 2 (length m) ≡ measuredAt k m at
+on-none k m at l = sym (measured-as k m at (string-ends k m at l))
+
+pub parting-start : (k : Encoding) (m : List ℕ) (at : ℕ) → at < length m → Parting k m at at 0 0 (parts 0 0)
+unfolding joining-start
+parting-start k m at l = record { joining = joining-start k m at l; parts-are = refl }
+
+module _ {k : Encoding} {m : List ℕ} {at here total bytes : ℕ} {x : Parts} (R : Parting k m at here total bytes x) where
+  pub parting-filled : x .filled ≤ 65535
+  parting-filled =
+      let ws = weights k (R .joining .front) in
+      rw (R .parts-are) at (parts-few 0 0 ws (weights-chars k (R .joining .front)) (omega arith))
+
+  parting-cuts : x .cuts ≤ total
+  parting-cuts =
+      let ws = weights k (R .joining .front) in
+      let l = rw (R .parts-are) at (cuts-few 0 0 ws (weights-chars k (R .joining .front)) (omega arith)) in
+      omega (arith, R .joining .units-are)
+
+  -- a chunk at `here`, and the parts y after it
+  module _ (fit : (i : ℕ) → Fits w8 (getD m i 0)) {c : ChunkRead} (t : ChunkMet k m here c) (h n b u : ℕ) (a : Bool)
+      (e : c ≡ chunk.Chunk h n b u a) (y : Parts)
+      (q : partsAfter (x .cuts) (x .filled) (weights k (decoded k (take n (drop (here + h) m)))) ≡ y) where
+    parts-joint : partsAfter 0 0 (weights k (joint (R .joining) t h n b u a e)) ≡ y
+    parts-joint =
+        parts-on k (R .joining .front) (decoded k (take n (drop (here + h) m))) 0 0 x (R .parts-are) ∙ q
+
+    pub parting-more : a ≡ false → Parting k m at (here + (h + n)) (total + u) (bytes + b) y
+    unfolding joining-more
+    parting-more d = record { joining = joining-more (R .joining) t h n b u a e d; parts-are = parts-joint }
+
+    -- the last. i: the bytes of its head
+    module _ (d : a ≡ true) (i : ℕ) (l : i ≡ length (shortestHead (lastHeads k) (y .filled))) where
+      shortest-is : (lengthOf (shortestString k (joint (R .joining) t h n b u a e)) ≡ bytes + b + 3 * y .cuts + i)
+          × (bytes + b + 3 * y .cuts + i ≤ here - at + (h + n))
+      shortest-is =
+          let cs = joint (R .joining) t h n b u a e in
+          let z =
+          text-no-shorter k m (bytes-all m (λ i. fit i .fits)) at (here - at + (h + n)) cs []
+          (joining-whole (R .joining) t h n b u a e d) in
+          let j = shortest-length k cs (z .0) (z .1) ∙ ap (formLength k (length cs)) parts-joint in
+          let v = joint-length (R .joining) t h n b u a e in
+          let w = ap lengthOf (z .1) ∙ length-some (z .0) in
+          (omega arith, omega (arith, z .2))
+
+      pub parting-last : Done (here + (h + n) - at) (sized (total + u) (bytes + b) (bytes + b + 3 * y .cuts + i)) [] tt
+          ≡ measuredAt k m at
+      parting-last = rw (← (shortest-is .0)) (joining-last (R .joining) t h n b u a e d)
+
+      pub parting-short : bytes + b + 3 * y .cuts + i ≤ length m
+      parting-short = omega (arith, shortest-is .1, chunk-says t e .2, R .joining .onward)
+
+-- the chunk at `here`, after these parts
+module _ {k : Encoding} {m : List ℕ} {at here total bytes cuts filled : ℕ}
+    (R : Parting k m at here total bytes (parts cuts filled)) (fit : (i : ℕ) → Fits w8 (getD m i 0)) (g : ChunkRead)
+    (t : ChunkMet k m here g) where
+  pub on-fault : (w o : ℕ) → g ≡ chunk.Refused w o → Fault w o ≡ measuredAt k m at
+  on-fault w o e = joining-fault (R .joining) t w o e
+
+  module _ (h n b u : ℕ) (a : Bool) (e : g ≡ chunk.Chunk h n b u a) where
+    says : ChunkSays k m here (chunk.Chunk h n b u a)
+    says = chunk-says t e
+
+    -- its content begins in the message, and is no longer than a part
+    pub on-inside : here + h ≤ length m
+    on-inside = omega (arith, says .2)
+
+    pub on-place : Fits w64 (length m) → Fits w64 (here + h)
+    on-place f = record { fits = omega (arith, f .fits, on-inside) }
+
+    pub on-few : u ≤ 65535
+    on-few = says .7
+
+    pub on-room : Fits w64 (filled + u)
+    on-room = record { fits = omega (arith, parting-filled R, on-few) }
+
+    pub on-cuts : Fits w64 (length m) → Fits w64 (cuts + 1)
+    on-cuts f = record {
+      fits = omega (arith, f .fits, says .1, says .2, parting-cuts R, R .joining .few, R .joining .onward);
+    }
+
+    -- the parts after it: there is a cut, or it fits the open part
+    abbrev Leads : ℕ → ℕ → Type 0
+    Leads i j = partsAfter cuts filled (weights k (decoded k (take n (drop (here + h) m)))) ≡ parts i j
+
+    pub on-cut : (r : ℕ) → CutMet k u (65535 - filled) m (here + h) r → (i j : ℕ) → i ≡ cuts + 1 → j ≡ r → Leads i j
+    on-cut r q i j v w =
+        rw (v, w) (q .after n b (chunk-content t h n b u a e) cuts filled (parting-filled R) refl)
+
+    pub on-within : u ≤ 65535 - filled → (i j : ℕ) → i ≡ cuts → j ≡ filled + u → Leads i j
+    on-within l i j v w =
+        let f = parting-filled R in
+        let z = says .4 in
+        parts-within cuts filled (weights k (decoded k (take n (drop (here + h) m)))) (omega arith)
+        ∙ rw (z, v, w) refl
+
+    pub on-size : Fits w64 (length m) → Fits w64 (h + n)
+    on-size f = record { fits = omega (arith, f .fits, says .2) }
+
+    pub on-end : Fits w64 (length m) → Fits w64 (here + (h + n))
+    on-end f = record { fits = omega (arith, f .fits, says .2) }
+
+    pub on-bytes : Fits w64 (length m) → Fits w64 (bytes + b)
+    on-bytes f = record { fits = omega (arith, f .fits, says .2, says .6, R .joining .onward) }
+
+    pub on-units : Fits w64 (length m) → Fits w64 (total + u)
+    on-units f = record { fits = omega (arith, on-bytes f .fits, says .3, R .joining .few) }
+
+    pub on-behind : at ≤ here + (h + n)
+    on-behind = omega (arith, R .joining .onward)
+
+    pub on-shrinks : length m - (here + (h + n)) < length m - here
+    on-shrinks = omega (arith, says .1, says .2)
+
+    module _ (c j : ℕ) (q : Leads c j) where
+      pub on-more : a ≡ false → Parting k m at (here + (h + n)) (total + u) (bytes + b) (parts c j)
+      on-more f = parting-more R fit t h n b u a e (parts c j) q f
+
+      pub on-filled : j ≤ 65535
+      on-filled =
+          let cs = decoded k (take n (drop (here + h) m)) in
+          let l = parts-few cuts filled (weights k cs) (weights-chars k cs) (parting-filled R) in
+          rw q at l
+
+      -- the last. i: the bytes of its head
+      module _ (f : a ≡ true) (i : ℕ) (l : i ≡ length (shortestHead (lastHeads k) (j))) where
+        pub on-last : Done (here + (h + n) - at) (sized (total + u) (bytes + b) (bytes + b + 3 * c + i)) [] tt
+            ≡ measuredAt k m at
+        on-last = parting-last R fit t h n b u a e (parts c j) q f i l
+
+        pub on-shortest : Fits w64 (length m) → Fits w64 (bytes + b + 3 * c + i)
+        on-shortest v = record { fits = omega (arith, v .fits, parting-short R fit t h n b u a e (parts c j) q f i l) }
+
+      module _ (f : a ≡ true) (v : Fits w64 (length m)) where
+        pub on-heads : Fits w64 (3 * c)
+        on-heads = record { fits = omega (arith, on-shortest f _ refl v .fits) }
+
+        pub on-parts : Fits w64 (bytes + b + 3 * c)
+        on-parts = record { fits = omega (arith, on-shortest f _ refl v .fits) }
+
+-- ---- a string of one chunk. i: the bytes of the shortest head
+module _ (k : Encoding) (m : List ℕ) (p : ℕ) (c : ChunkRead) (t : ChunkMet k m p c) (h n b u : ℕ)
+    (e : c ≡ chunk.Chunk h n b u true) (fit : (i : ℕ) → Fits w8 (getD m i 0)) (i : ℕ)
+    (l : i ≡ length (shortestHead (lastHeads k) u)) where
+  none-before : (j : ℕ) → 0 + j ≡ j
+  none-before j = omega arith
+
+  pub one-chunk : Done (h + n) (sized u b (b + i)) [] tt ≡ measuredAt k m p
+  one-chunk =
+      let s = chunk-says t e in
+      let R = parting-start k m p (omega (arith, s .1, s .2)) in
+      let q = on-within R fit c t h n b u true e (omega (arith, s .7)) 0 u refl (omega arith) in
+      let w : p + (h + n) - p ≡ h + n = omega arith in
+      let v : b + 3 * 0 + i ≡ b + i = omega arith in
+      rw (w, none-before u, none-before b, v) at (on-last R fit c t h n b u true e 0 u q refl i l)

@@ -6,12 +6,13 @@ use Prim.Native.Nat.{ℕ, _+_, _-_, _≤_, _<_}
 use lib.Dec.{leb}
 use lib.ListN.{length, take, drop, getD}
 use Rattle.flow.specs.RefusalNumbers.{cut, wrong-byte}
-use Rattle.flow.specs.Flow.{Read, One, Done, Fault, pick}
+use Rattle.flow.specs.Flow.{Entry, Read, One, Done, Fault, pick}
 use Rattle.flow.specs.Steps.{Answer, renamed}
 use Rattle.wire.specs.BigEndian.{joined}
 use Rattle.scalar.specs.declared.Begun.{Begun}
 use Rattle.scalar.specs.declared.Begun.the-variants as begun
 use Rattle.scalar.specs.declared.Encoding.{Encoding}
+use Rattle.scalar.specs.declared.Encoding.the-variants.{Utf8}
 use Rattle.texts.specs.declared.Extent.{Extent}
 use Rattle.texts.specs.declared.Extent.the-variants as extent
 use Rattle.texts.specs.declared.CharRead.{CharRead}
@@ -27,10 +28,13 @@ use Rattle.texts.specs.declared.StringRead.the-variants.{Content, Refuse
 use Rattle.scalar.specs.Scalars.{formAt, inside, partHead, lastHeads, units, characters, body, stringAt}
 use Rattle.scalar.specs.Answers.{Sizes, sized}
 use Rattle.scalar.specs.Decoded.{decoded}
+use Rattle.scalar.specs.TextUnits.{weights}
+use Rattle.scalar.specs.StringLengths.{Parts, parts, partsAfter}
 
--- a text or byte string read: its units, its content's bytes and the bytes it takes; or a refusal's number and place
+-- a text or byte string read: its units, its content's bytes, those it takes and those of its shortest form; or a
+-- refusal's number and place
 abbrev pub toldString : StringRead → Answer Sizes
-toldString (Content u b n) = Done n (sized u b) [] tt
+toldString (Content u b n w) = Done n (sized u b w) [] tt
 toldString (Refused x o) = Fault x o
 
 -- ---- inside the code
@@ -47,15 +51,61 @@ abbrev pub shifted : ℕ → ℕ → Answer ℕ → Answer ℕ
 shifted n b (Done m a es c) = Done (n + m) (b + a) es c
 shifted n b (Fault x o) = Fault x o
 
--- the first character of n units at p, and what is left
+-- so many bytes before it, of which cs are content
+abbrev pub prefixed : ℕ → List ℕ → Answer (List ℕ) → Answer (List ℕ)
+prefixed n cs (Done m ds es c) = Done (n + m) (cs ++ ds) es c
+prefixed n cs (Fault x o) = Fault x o
+
+-- characters of n units at the place p of the message m
+abbrev pub textAt : ℕ → List ℕ → ℕ → Answer (List ℕ)
+textAt n m p = characters n tt p (drop p m)
+
+-- the first character of n units at p: it takes j bytes there, its content has b, and it counts u units; then what is
+-- left
+pub record Passes (n : ℕ) (m : List ℕ) (p j b u : ℕ) : Type 0 where
+  pub front : List ℕ
+  pub says : textAt n m p ≡ prefixed j front (textAt (n - u) m (p + j))
+  pub bytes-are : length front ≡ b
+  pub units-are : units Utf8 front ≡ u
+  pub first-is : getD (weights Utf8 front) 0 0 ≡ u
+
 abbrev pub CharSays : ℕ → List ℕ → ℕ → CharRead → Type 0
 CharSays n m p (char.Char j b u) =
-    (extentAt (characters n) m p ≡ shifted j b (extentAt (characters (n - u)) m (p + j)))
-    × (0 < j) × (p + j ≤ length m) × (0 < u) × (u ≤ n) × (b ≤ j)
+    Passes n m p j b u × (0 < j) × (p + j ≤ length m) × (0 < u) × (u ≤ n) × (b ≤ j)
 CharSays n m p (char.Refused x o) = extentAt (characters n) m p ≡ Fault x o
 
 pub record CharMet (n : ℕ) (m : List ℕ) (p : ℕ) (r : CharRead) : Type 0 where
   pub says : CharSays n m p r
+
+-- of n units from `at` on the characters up to `here` are passed, and `left` units are left: what is left reads as the
+-- whole does, but for the content so far
+pub record Passing (n : ℕ) (m : List ℕ) (at here left bytes : ℕ) : Type 0 where
+  pub front : List ℕ
+  pub says : prefixed (here - at) front (textAt left m here) ≡ textAt n m at
+  pub units-are : units Utf8 front + left ≡ n
+  pub bytes-are : length front ≡ bytes
+  pub onward : at + bytes ≤ here
+  pub inside : here ≤ length m
+
+-- of n units at p, the first character counts more than `room`, if there are such characters
+pub record Over (room n : ℕ) (m : List ℕ) (p : ℕ) : Type 0 where
+  pub over : (i : ℕ) (cs : List ℕ) (es : List (Entry One)) → textAt n m p ≡ Done i cs es tt
+      → room < getD (weights Utf8 cs) 0 0
+
+-- of n units at p, the characters that fit so many units are passed
+abbrev pub WithinSays : ℕ → ℕ → List ℕ → ℕ → CharRead → Type 0
+WithinSays n room m p (char.Char j b u) =
+    Passing n m p (p + j) (n - u) b × (u ≤ room) × Over (room - u) (n - u) m (p + j)
+WithinSays n room m p (char.Refused x o) = Fault x o ≡ extentAt (characters n) m p
+
+pub record WithinMet (n room : ℕ) (m : List ℕ) (p : ℕ) (r : CharRead) : Type 0 where
+  pub says : WithinSays n room m p r
+
+-- the content of n units at p, where it is read: it is cut where the open part has room for so many more, and r of them
+-- are in the part after
+pub record CutMet (k : Encoding) (n room : ℕ) (m : List ℕ) (p r : ℕ) : Type 0 where
+  pub after : (j b : ℕ) → Done j b [] tt ≡ extentAt (body k n) m p → (c u : ℕ) → u ≤ 65535 → 65535 - u ≡ room
+      → partsAfter c u (weights k (decoded k (take j (drop p m)))) ≡ parts (c + 1) r
 
 -- a chunk's head, by its first byte: of a chunk that is not the last, or of the last
 abbrev pub lastForm : Begun → HeadForm
@@ -64,11 +114,6 @@ lastForm begun.NoForm = NoHead
 
 unfoldable pub headForm : Encoding → ℕ → HeadForm
 headForm k b = pick (inside (partHead k) b) (Starts 2 0 false) (lastForm (formAt (lastHeads k) b))
-
--- so many bytes before it, of which cs are content
-abbrev pub prefixed : ℕ → List ℕ → Answer (List ℕ) → Answer (List ℕ)
-prefixed n cs (Done m ds es c) = Done (n + m) (cs ++ ds) es c
-prefixed n cs (Fault x o) = Fault x o
 
 -- a chunk at p, by the bytes of its head and what is read of its content: the last, or one before others
 abbrev pub chunked : Encoding → List ℕ → ℕ → ℕ → Bool → Answer (List ℕ) → Answer (List ℕ)
@@ -89,7 +134,7 @@ headAt k m p = pick (leb (length m) p) (head.Refused cut (length m)) (headBy m p
 abbrev pub HeadSays : Encoding → List ℕ → ℕ → HeadRead → Type 0
 HeadSays k m p (head.Head h u l) =
     (stringAt k m p ≡ chunked k m p h l (body k u tt (p + h) (drop (p + h) m)))
-    × (0 < h) × (p + h ≤ length m)
+    × (0 < h) × (p + h ≤ length m) × (u ≤ 65535)
 HeadSays k m p (head.Refused x o) = stringAt k m p ≡ Fault x o
 
 pub record HeadMet (k : Encoding) (m : List ℕ) (p : ℕ) (r : HeadRead) : Type 0 where
@@ -115,7 +160,7 @@ ChunkSays k m p (chunk.Chunk h n b u l) =
     × (0 < h) × (p + (h + n) ≤ length m) × (u ≤ b)
     × (units k (decoded k (take n (drop (p + h) m))) ≡ u)
     × (length (decoded k (take n (drop (p + h) m))) ≡ b)
-    × (b ≤ n)
+    × (b ≤ n) × (u ≤ 65535)
 ChunkSays k m p (chunk.Refused x o) = stringAt k m p ≡ Fault x o
 
 pub record ChunkMet (k : Encoding) (m : List ℕ) (p : ℕ) (r : ChunkRead) : Type 0 where
@@ -131,3 +176,8 @@ pub record Joining (k : Encoding) (m : List ℕ) (at here total bytes : ℕ) : T
   pub few : total ≤ bytes
   pub onward : at + bytes ≤ here
   pub inside : here ≤ length m
+
+-- and these are the parts of the content so far
+pub record Parting (k : Encoding) (m : List ℕ) (at here total bytes : ℕ) (x : Parts) : Type 0 where
+  pub joining : Joining k m at here total bytes
+  pub parts-are : partsAfter 0 0 (weights k (joining .front)) ≡ x

@@ -18,29 +18,31 @@ use Rattle.flow.specs.Steps.{Answer, before, stepped, renamed}
 use Rattle.flow.specs.Laws.{Parsed, quiet}
 use Rattle.flow.specs.Refusals.{Told}
 use Rattle.flow.specs.Lifts.{lifted}
-use Rattle.wire.specs.BigEndian.{joined}
+use Rattle.wire.specs.BigEndian.{joined, wider}
 use Rattle.scalar.specs.declared.Rule.the-variants.{Plain}
 use Rattle.scalar.specs.declared.Begun.{Begun}
 use Rattle.scalar.specs.declared.Begun.the-variants as begun
 use Rattle.scalar.specs.declared.Encoding.{Encoding}
+use Rattle.scalar.specs.declared.Encoding.the-variants.{Utf8, Binary}
 use Rattle.scalar.specs.declared.CharLead.the-variants.{Basic, Supplementary, Halved, NoChar}
 use Rattle.texts.specs.declared.HeadForm.{HeadForm}
 use Rattle.texts.specs.declared.HeadForm.the-variants.{Starts, NoHead}
 use Rattle.scalar.specs.Scalars.{value, Form, formAt, inside, bytesOf, numberFrom, partHead, lastHeads}
-use Rattle.scalar.specs.Scalars.{charLead, paired, units, ranged, continued, pairOf, pairThen, character}
+use Rattle.scalar.specs.Scalars.{charLead, paired, total, units, ranged, continued, pairOf, pairThen, character}
 use Rattle.scalar.specs.Scalars.{characters, octets, body, chunk, chunks, stringAt, bySecond}
 use Rattle.scalar.specs.RuleLaws.{value-plain}
 use Rattle.scalar.specs.FormLaws.{headCodes, partForm, lastForms, part-head, last-heads, form-none, form-either}
 use Rattle.scalar.specs.NumberLaws.{numberBy, form-here}
 use Rattle.scalar.specs.TextAt.{string-at}
 use Rattle.scalar.specs.NumberAt.{bytes-there, bytes-cut}
-use Rattle.scalar.specs.Grammar.{Continued, no-more, follows, Body}
-use Rattle.scalar.specs.TextUnits.{body-content, body-units, body-length}
-use Rattle.scalar.specs.Decoded.{decoded, body-decoded}
+use Rattle.scalar.specs.Grammar.{Continued, no-more, follows, Char, one-unit, below-halves, two-units, Body}
+use Rattle.scalar.specs.TextUnits.{char-weighs, char-units, Content, body-content, body-units, body-length}
+use Rattle.scalar.specs.Pairs.{paired-length}
+use Rattle.scalar.specs.Decoded.{decoded, body-decoded, four-weights}
 use Rattle.scalar.specs.Bits.{content-few}
 use Rattle.scalar.specs.Refusals.{body-tells}
 use Rattle.scalar.specs.TextLaws.{body-read, Whole, body-lifts}
-use Rattle.texts.specs.Answers.{extentAt, shifted, lastForm, headForm, prefixed, chunked}
+use Rattle.texts.specs.Answers.{extentAt, shifted, prefixed, textAt, Passes, lastForm, headForm, chunked}
 
 -- ---- what is read: the bytes consumed are the content, of which P holds, and there are no items
 abbrev Takes : (List ℕ → Type 0) → List ℕ → Answer (List ℕ) → Type 0
@@ -145,27 +147,28 @@ module _ (f g : Read One One (List ℕ)) (b : ℕ) (m : List ℕ) (p : ℕ) wher
       go (Done i cs es c) e = apart (sym e)
       go (Fault y q) e = sym e
 
-  both-extent : (P : List ℕ → Type 0) → ((at : ℕ) (s : List ℕ) → Takes P s (f tt at s)) → (j : ℕ)
+  both-next : (P : List ℕ → Type 0) → ((at : ℕ) (s : List ℕ) → Takes P s (f tt at s)) → (j : ℕ)
       → Done j j [] tt ≡ extentAt f m (p + 1)
-      → renamed length both ≡ shifted (j + 1) (j + 1) (extentAt g m (p + (j + 1)))
-  both-extent P h j = go (f tt (p + 1) (drop (p + 1) m)) (h (p + 1) (drop (p + 1) m))
+      → (cs : List ℕ) × P cs × (length cs ≡ j)
+      × (both ≡ prefixed (j + 1) (b ∷ cs) (g tt (p + (j + 1)) (drop (p + (j + 1)) m)))
+  both-next P h j = go (f tt (p + 1) (drop (p + 1) m)) (h (p + 1) (drop (p + 1) m))
     where
-      end : (cs : List ℕ) → j ≡ length cs → (r : Answer (List ℕ))
-          → renamed length (stepped (before j [] (renamed (λ ds. b ∷ (cs ++ ds)) r)))
-          ≡ shifted (j + 1) (j + 1) (renamed length r)
-      end cs e (Done i ds fs c) =
-          let q : suc (j + i) ≡ j + 1 + i = omega arith in
-          let r : suc (length (cs ++ ds)) ≡ j + 1 + length ds = omega (arith, length-append cs ds) in
-          rw (q, r) refl
-      end cs e (Fault x o) = refl
+      end : (cs : List ℕ) (r : Answer (List ℕ))
+          → stepped (before j [] (renamed (λ ds. b ∷ (cs ++ ds)) r)) ≡ prefixed (j + 1) (b ∷ cs) r
+      end cs (Done i ds fs c) = let q : suc (j + i) ≡ j + 1 + i = omega arith in rw q refl
+      end cs (Fault x o) = refl
 
       go : (r : Answer (List ℕ)) → Takes P (drop (p + 1) m) r → Done j j [] tt ≡ renamed length r
-          → renamed length (behind r) ≡ shifted (j + 1) (j + 1) (extentAt g m (p + (j + 1)))
+          → (cs : List ℕ) × P cs × (length cs ≡ j)
+          × (behind r ≡ prefixed (j + 1) (b ∷ cs) (g tt (p + (j + 1)) (drop (p + (j + 1)) m)))
       go (Done i cs es c) t e =
           let q : i ≡ j = cc in
-          let r : p + 1 + j ≡ p + (j + 1) = omega arith in
-          rw (q, t .2, drop-drop j (p + 1) m, r)
-          (end cs (omega (arith, t .1)) (g tt (p + (j + 1)) (drop (p + (j + 1)) m)))
+          let r : p + 1 + j ≡ p + (j + 1) = omega arith in (
+            cs,
+            t .3,
+            omega (arith, t .1),
+            rw (q, t .2, drop-drop j (p + 1) m, r) (end cs (g tt (p + (j + 1)) (drop (p + (j + 1)) m))),
+          )
       go (Fault y q) t e = apart e
 
 -- ---- the bytes after a character's first, at a place: none are left, the message ends, another byte, one byte and the
@@ -394,6 +397,12 @@ opens-units (basic e) = (omega arith, omega arith)
 opens-units (below-half e h) = (omega arith, omega arith)
 opens-units (supplementary e) = (omega arith, omega arith)
 
+opens-char : {m : List ℕ} {p k lo hi u : ℕ} {cs : List ℕ} → Opens m p k lo hi u → Continued k lo hi cs
+    → Char Utf8 u (getD m p 0 ∷ cs)
+opens-char (basic e) x = one-unit e x
+opens-char (below-half e h) x = below-halves e x
+opens-char (supplementary e) x = two-units e x
+
 -- below a0 it goes on as in any other character
 below-is : (f : Read One One (List ℕ)) (g : Option (Read One One (List ℕ))) (p b at : ℕ) (s : List ℕ)
     → getD s 0 0 < 0xa0
@@ -493,21 +502,27 @@ module _ (n : ℕ) (m : List ℕ) (p : ℕ) where
               → extentAt (characters n) m p ≡ Fault y o
           pair-fault y o e = ap (renamed length) as-pair ∙ rw e refl
 
-          pub pair-next : (cs : List ℕ) → pair-there m p (getD m (p + 1) 0) ≡ Done 4 cs [] tt → length cs ≡ 4
-              → extentAt (characters n) m p ≡ shifted 6 4 (extentAt (characters (n - 2)) m (p + 6))
-          pair-next cs e f =
+          -- x, y, z: its other bytes but for the second ed
+          pub pair-next : (x y z : ℕ)
+              → pair-there m p (getD m (p + 1) 0) ≡ Done 4 (paired (getD m (p + 1) 0) x y z) [] tt → Passes n m p 6 4 2
+          pair-next x y z e =
+              let d = getD m (p + 1) 0 in
+              let w = four-weights (d ∷ x ∷ 0xed ∷ y ∷ z ∷ []) in
               let six : p + 2 + 4 ≡ p + 6 = omega arith in
-              ap (renamed length) as-pair
-              ∙ rw (e, drop-drop 4 (p + 2) m, six) (go (characters (n - 2) tt (p + 6) (drop (p + 6) m)))
+              record {
+                front = paired d x y z;
+                says =
+                    as-pair
+                    ∙ rw (e, drop-drop 4 (p + 2) m, six) (go (paired d x y z) (textAt (n - 2) m (p + 6)));
+                bytes-are = paired-length d x y z;
+                units-are = ap total w;
+                first-is = ap (λ (ws : List ℕ). getD ws 0 0) w;
+              }
             where
-              go : (r : Answer (List ℕ))
-                  → renamed length (stepped (stepped (before 4 [] (renamed (λ ds. cs ++ ds) r))))
-                  ≡ shifted 6 4 (renamed length r)
-              go (Done j ds es c) =
-                  let a : suc (suc (4 + j)) ≡ 6 + j = omega arith in
-                  let b : length (cs ++ ds) ≡ 4 + length ds = omega (arith, length-append cs ds) in
-                  rw (a, b) refl
-              go (Fault y o) = refl
+              go : (cs : List ℕ) (r : Answer (List ℕ))
+                  → stepped (stepped (before 4 [] (renamed (λ ds. cs ++ ds) r))) ≡ prefixed 6 cs r
+              go cs (Done j ds es c) = let a : suc (suc (4 + j)) ≡ 6 + j = omega arith in rw a refl
+              go cs (Fault y o) = refl
 
       module _ (k lo hi u : ℕ) (x : Opens m p k lo hi u) (h : u ≤ n) where
         as-both : characters n tt p (drop p m) ≡ both (continued p k lo hi) (characters (n - u)) (getD m p 0) m p
@@ -534,11 +549,20 @@ module _ (n : ℕ) (m : List ℕ) (p : ℕ) where
             ap (renamed length) as-both ∙ both-fault (continued p k lo hi) (characters (n - u)) (getD m p 0) m p y o e
 
         pub characters-next : (j : ℕ) → Done j j [] tt ≡ extentAt (continued p k lo hi) m (p + 1)
-            → extentAt (characters n) m p ≡ shifted (j + 1) (j + 1) (extentAt (characters (n - u)) m (p + (j + 1)))
+            → Passes n m p (j + 1) (j + 1) u
         characters-next j e =
-            ap (renamed length) as-both
-            ∙ both-extent (continued p k lo hi) (characters (n - u)) (getD m p 0) m p (Continued k lo hi)
-            (continued-takes p k lo hi) j e
+            let z =
+            both-next (continued p k lo hi) (characters (n - u)) (getD m p 0) m p (Continued k lo hi)
+            (continued-takes p k lo hi) j e in
+            let y = opens-char x (z .1) in
+            let w = char-weighs y in
+            record {
+              front = getD m p 0 ∷ z .0;
+              says = as-both ∙ z .3;
+              bytes-are = omega (arith, z .2);
+              units-are = char-units y;
+              first-is = ap (λ (ws : List ℕ). getD ws 0 0) (w .weighs);
+            }
 
 -- ---- bytes, at a place
 module _ (n : ℕ) (m : List ℕ) (p : ℕ) (l : p ≤ length m) where
@@ -583,6 +607,24 @@ module _ (k : Encoding) (n : ℕ) (m : List ℕ) (p : ℕ) where
             omega (arith, body-length x, take-all i (drop p m) (t .0)),
           )
       go (Fault x o) t q e = apart e
+
+  -- what is read is a content of so many units
+  pub body-holds : Bytes m → (j : ℕ) (cs : List ℕ) (es : List (Entry One))
+      → _≡_ {A = Answer (List ℕ)} (body k n tt p (drop p m)) (Done j cs es tt) → Content k n cs
+  body-holds y j cs es e =
+      go (subst (λ (o : Answer (List ℕ)). Parsed {I = One} (Whole One k n (tt {0})) (drop p m) o) e
+      (body-read One k n (tt {0}) p (drop p m) (bytes-drop p m y)) .1)
+    where
+      go : {w ds : List ℕ} {is : List One} {c : One} → Whole One k n (tt {0}) w ds is c → Content k n ds
+      go (quiet x) = body-content x
+
+  -- and nothing else
+  pub body-quiet : (j b : ℕ) (es : List (Entry One)) → extentAt (body k n) m p ≡ Done j b es tt → es ≡ []
+  body-quiet j b es = go (body k n tt p (drop p m)) (body-stays k n p (drop p m))
+    where
+      go : (r : Answer (List ℕ)) → Stays (drop p m) r → renamed length r ≡ Done j b es tt → es ≡ []
+      go (Done i cs fs c) t e = let d : fs ≡ es = cc in sym d ∙ t .1
+      go (Fault x o) t e = apart (sym e)
 
   pub body-fault : (x o : ℕ) → Fault x o ≡ extentAt (body k n) m p
       → _≡_ {A = Answer (List ℕ)} (body k n tt p (drop p m)) (Fault x o)
@@ -650,40 +692,53 @@ string-chunks k m p j l h =
     string-at k m p l ∙ chunks-same k (length (drop p m)) j p (drop p m) (omega arith) (omega (arith, length-drop p m))
 
 -- ---- a chunk by its head
--- the forms of heads: the number itself, in up to two bytes after the first
+-- the forms of heads: the number itself, in up to two bytes after the first, below 65,536
 abbrev Heads : List Form → Type 0
 Heads [] = Unit {0}
-Heads (w ∷ ws) = (w .rule ≡ Plain) × (w .extra ≤ 2) × Heads ws
+Heads (w ∷ ws) = (w .rule ≡ Plain) × (w .extra ≤ 2) × (wider (w .extra) (w .codes) ≤ 65536) × Heads ws
+
+wider-grows : (j a b : ℕ) → a ≤ b → wider j a ≤ wider j b
+wider-grows zero a b l = l
+wider-grows (suc j) a b l = omega (arith, wider-grows j a b l)
 
 abbrev AsHead : ℕ → Begun → Type 0
-AsHead b (begun.Starts j u r) = (r ≡ Plain) × (j ≤ 2) × (u ≤ b)
+AsHead b (begun.Starts j u r) = (r ≡ Plain) × (j ≤ 2) × (u ≤ b) × (wider j (suc u) ≤ 65536)
 AsHead b begun.NoForm = Unit {0}
 
 as-head : (ws : List Form) (b : ℕ) → Heads ws → AsHead b (formAt ws b)
 as-head [] b h = rw (form-none b) tt
-as-head (w ∷ ws) b h = form-either (AsHead b) w ws b (λ t. (h .0, h .1, omega arith)) (λ t. as-head ws b (h .2))
+as-head (w ∷ ws) b h = form-either (AsHead b) w ws b
+    (λ t.
+    let r = within-is (w .head) (w .head + w .codes) b (rw t tt) in
+    (h .0, h .1, omega arith, omega (arith, wider-grows (w .extra) (suc (b - w .head)) (w .codes) (omega arith), h .2)))
+    (λ t. as-head ws b (h .3))
+
+are-heads : (k : Encoding) → Heads (lastForms k)
+are-heads Utf8 =
+    (refl, omega arith, omega arith, (refl, omega arith, omega arith, (refl, omega arith, omega arith, tt)))
+are-heads Binary =
+    (refl, omega arith, omega arith, (refl, omega arith, omega arith, (refl, omega arith, omega arith, tt)))
 
 last-head : (k : Encoding) (b : ℕ) → AsHead b (formAt (lastHeads k) b)
-last-head k b =
-    rw (last-heads k)
-    (as-head (lastForms k) b (refl, omega arith, (refl, omega arith, (refl, omega arith, tt))))
+last-head k b = rw (last-heads k) (as-head (lastForms k) b (are-heads k))
 
 abbrev Small : ℕ → HeadForm → Type 0
-Small b (Starts j u l) = (j ≤ 2) × (u ≤ b)
+Small b (Starts j u l) = (j ≤ 2) × (u ≤ b) × (wider j (suc u) ≤ 65536)
 Small b NoHead = Unit {0}
 
 -- what a head holds is small
-pub head-small : (k : Encoding) (b j u : ℕ) (l : Bool) → headForm k b ≡ Starts j u l → (j ≤ 2) × (u ≤ b)
+pub head-small : (k : Encoding) (b j u : ℕ) (l : Bool) → headForm k b ≡ Starts j u l
+    → (j ≤ 2) × (u ≤ b) × (wider j (suc u) ≤ 65536)
 unfolding headForm
 head-small k b j u l e = subst (Small b) e small
   where
     last : (x : Begun) → AsHead b x → Small b (lastForm x)
-    last (begun.Starts i v r) h = (h .1, h .2)
+    last (begun.Starts i v r) h = (h .1, h .2, h .3)
     last begun.NoForm h = tt
 
     small : Small b (headForm k b)
     small =
-        pick-either (Small b) (inside (partHead k) b) (λ t. (omega arith, omega arith))
+        pick-either (Small b) (inside (partHead k) b) (λ t. (omega arith, omega arith, omega arith))
         (λ t. last (formAt (lastHeads k) b) (last-head k b))
 
 abbrev byForm : Encoding → Read One One (List ℕ) → HeadForm → ℕ → Read One One (List ℕ)

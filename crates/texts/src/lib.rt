@@ -12,11 +12,19 @@ ghost use lib.ListN.{length, getD, take, drop};
 ghost use Rattle.wire.specs.BigEndian.{joined};
 ghost use Rattle.scalar.specs.declared.Encoding.the-variants as Encoding;
 ghost use Rattle.scalar.specs.Scalars.{charLead, continued as continuedBy, characters as charactersOf, body as bodyOf};
+ghost use Rattle.scalar.specs.Scalars.{lastHeads, shortestHead};
+ghost use Rattle.scalar.specs.TextShort.{shortTo};
 ghost use Rattle.texts.specs.Answers.{toldString, extentAt, toldExtent, CharMet, headForm, HeadMet, ChunkMet};
-ghost use Rattle.texts.specs.Answers.{Joining};
+ghost use Rattle.texts.specs.Answers.{WithinMet, CutMet};
 ghost use Rattle.scalar.specs.Answers.{measuredAt};
 ghost use Rattle.texts.specs.Ascii.{Ascii, asciiAt, ShortText};
 ghost use Rattle.texts.specs.At.{Opens, Halves, HighHalf};
+
+// The units of the longest chunk.
+const LONGEST_CHUNK: usize = 65_535;
+
+// The bytes of a character of two units in UTF-8.
+const SUPPLEMENTARY: usize = 4;
 
 // How many bytes something takes, and how many its content has; or a refusal's number and place.
 pub(crate) enum Extent {
@@ -24,7 +32,8 @@ pub(crate) enum Extent {
     Refused { number: u8, place: usize },
 }
 
-// A character: the bytes that it takes, those that it has in UTF-8, and its units; or a refusal's number and place.
+// A character, or some in a row: the bytes that are taken, those in UTF-8, and the units; or a refusal's number and
+// place.
 pub(crate) enum CharRead {
     Char {
         size: usize,
@@ -72,13 +81,14 @@ pub enum ChunkRead {
     },
 }
 
-// What reading a text or byte string finds: its units, its content's bytes, and the bytes that it takes in all; or a
-// refusal.
+// What reading a text or byte string finds: its units, its content's bytes, the bytes that it takes in all, and those
+// of its shortest form; or a refusal.
 pub enum StringRead {
     Content {
         units: usize,
         bytes: usize,
         size: usize,
+        shortest: usize,
     },
     Refused {
         number: u8,
@@ -693,39 +703,197 @@ pub fn first_chunk(kind: Encoding, message: &[u8], at: usize) -> ChunkRead
     chunk(kind, message, at)
 }
 
-// The text or byte string at `at`: the chunks up to `from` are read, of u units and b bytes, and more follow.
-fn read_on(kind: Encoding, message: &[u8], at: usize, from: usize, u: usize, b: usize) -> StringRead
-    requires { ⌜ Joining kind (now message) at from u b ⌝ }
-    ensures { λ r. ⌜ toldString r ≡ measuredAt kind (now (message .entry)) at ⌝ }
+// ---- where the shortest form of a text is cut. What `chunk` has called from one place is called from no second one
+// here, since it would no longer be inlined there: the next three functions are the same again.
+
+// The same as `pair`.
+fn next_pair(message: &[u8], at: usize) -> CharRead
+    requires { ⌜ (at + 1 < length (now message)) × HighHalf (now message) at ⌝ }
+    ensures { λ r. ⌜ ((left : ℕ) → 2 ≤ left → CharMet left (now (message .entry)) at r) ⌝ }
 {
-    let mut here = from;
-    let mut total = u;
-    let mut bytes = b;
-    loop {
-        match chunk(kind, message, here) {
-            ChunkRead::Refused { number, place } => {
-                return StringRead::Refused { number, place };
-            }
-            ChunkRead::Chunk {
-                head: h,
-                size,
-                bytes: n,
-                units,
-                last,
-            } => {
-                here += h + size;
-                total += units;
-                bytes += n;
-                if last {
-                    return StringRead::Content {
-                        units: total,
-                        bytes,
-                        size: here - at,
-                    };
+    match continued(message, at, at + 2, 1, 0x80, 0xc0) {
+        Extent::Refused { number, place } => CharRead::Refused { number, place },
+        Extent::Takes { size: _, bytes: _ } => {
+            match continued(message, at, at + 3, 1, 0xed, 0xee) {
+                Extent::Refused { number, place } => CharRead::Refused { number, place },
+                Extent::Takes { size: _, bytes: _ } => {
+                    match continued(message, at, at + 4, 1, 0xb0, 0xc0) {
+                        Extent::Refused { number, place } => CharRead::Refused { number, place },
+                        Extent::Takes { size: _, bytes: _ } => {
+                            match continued(message, at, at + 5, 1, 0x80, 0xc0) {
+                                Extent::Refused { number, place } => CharRead::Refused {
+                                    number,
+                                    place,
+                                },
+                                Extent::Takes { size: _, bytes: _ } => CharRead::Char {
+                                    size: 6,
+                                    bytes: SUPPLEMENTARY,
+                                    units: 2,
+                                },
+                            }
+                        }
+                    }
                 }
             }
         }
     }
+}
+
+// The same as `halved`.
+fn next_halved(message: &[u8], at: usize, units: usize) -> CharRead
+    requires { ⌜ (at < length (now message)) × (0 < units) × Halves (now message) at ⌝ }
+    ensures { λ r. ⌜ CharMet units (now (message .entry)) at r ⌝ }
+{
+    let next = at + 1;
+    if message.len() <= next {
+        return opened(message, at, 2, 0x80, 0xa0, 1);
+    }
+    let second = message[next];
+    if second < 0xa0 {
+        return opened(message, at, 2, 0x80, 0xa0, 1);
+    }
+    if 0xb0 <= second {
+        return CharRead::Refused {
+            number: UTF8,
+            place: at,
+        };
+    }
+    if units < 2 {
+        return CharRead::Refused {
+            number: UTF8,
+            place: at,
+        };
+    }
+    next_pair(message, at)
+}
+
+// The same as `character`.
+fn next_character(message: &[u8], at: usize, units: usize) -> CharRead
+    requires { ⌜ (at ≤ length (now message)) × (0 < units) ⌝ }
+    ensures { λ r. ⌜ CharMet units (now (message .entry)) at r ⌝ }
+{
+    let len = message.len();
+    if len <= at {
+        return CharRead::Refused {
+            number: CUT,
+            place: len,
+        };
+    }
+    match char_lead(message[at]) {
+        CharLead::NoChar => CharRead::Refused {
+            number: UTF8,
+            place: at,
+        },
+        CharLead::Basic { more, from, below } => opened(message, at, more, from, below, 1),
+        CharLead::Supplementary {
+            from: lo,
+            below: hi,
+        } => {
+            if units == 1 {
+                return CharRead::Refused {
+                    number: UTF8,
+                    place: at,
+                };
+            }
+            opened(message, at, 3, lo, hi, 2)
+        }
+        CharLead::Halved => next_halved(message, at, units),
+    }
+}
+
+// Characters of so many units from `at` on, as many as fit `room` of them: one of two units that does not fit is left.
+fn characters_within(message: &[u8], at: usize, units: usize, room: usize) -> CharRead
+    requires { ⌜ (at ≤ length (now message)) × (room < units) ⌝ }
+    ensures { λ r. ⌜ WithinMet units room (now (message .entry)) at r ⌝ }
+{
+    let mut here = at;
+    let mut used: usize = 0;
+    let mut bytes: usize = 0;
+    while used < room {
+        let n = ascii(message, here, room - used);
+        if 0 < n {
+            here += n;
+            used += n;
+            bytes += n;
+        } else {
+            match next_character(message, here, units - used) {
+                CharRead::Refused { number, place } => {
+                    return CharRead::Refused { number, place };
+                }
+                CharRead::Char {
+                    size,
+                    bytes: b,
+                    units: u,
+                } => {
+                    if room - used < u {
+                        return CharRead::Char {
+                            size: here - at,
+                            bytes,
+                            units: used,
+                        };
+                    }
+                    here += size;
+                    used += u;
+                    bytes += b;
+                }
+            }
+        }
+    }
+    CharRead::Char {
+        size: here - at,
+        bytes,
+        units: used,
+    }
+}
+
+// A chunk's content of so many units at `at`, of which no more than `room` fit the open part: how many come after the
+// cut. A chunk in which a cut falls is passed over once more, up to the cut.
+fn after_cut(kind: Encoding, message: &[u8], at: usize, units: usize, room: usize) -> usize
+    requires { ⌜ (at ≤ length (now message)) × (room < units) × (units ≤ 65535) ⌝ }
+    ensures { λ r. ⌜ CutMet kind units room (now (message .entry)) at r ⌝ }
+{
+    match kind {
+        Encoding::Binary => units - room,
+        Encoding::Utf8 => {
+            match characters_within(message, at, units, room) {
+                CharRead::Refused {
+                    number: _,
+                    place: _,
+                } => 0,
+                CharRead::Char {
+                    size: _,
+                    bytes: _,
+                    units: u,
+                } => units - u,
+            }
+        }
+    }
+}
+
+// The units from which on the head of a last chunk takes two bytes.
+fn two_from(kind: Encoding) -> usize
+    ensures { λ r. ⌜ r ≡ shortTo kind + 1 ⌝ }
+{
+    match kind {
+        Encoding::Utf8 => 32,
+        Encoding::Binary => 16,
+    }
+}
+
+// How many bytes the head of a last chunk of so many units takes; 0 where they are more than a chunk has.
+pub fn last_head_size(kind: Encoding, units: usize) -> usize
+    ensures { λ r. ⌜ r ≡ length (shortestHead (lastHeads kind) units) ⌝ }
+{
+    if units < two_from(kind) {
+        return 1;
+    }
+    if units < 1024 {
+        return 2;
+    }
+    if units <= LONGEST_CHUNK {
+        return 3;
+    }
+    0
 }
 
 // The text or byte string at the place `at` of the message.
@@ -739,7 +907,43 @@ pub fn read_string(kind: Encoding, message: &[u8], at: usize) -> StringRead
             place: len,
         };
     }
-    read_on(kind, message, at, at, 0, 0)
+    let mut here = at;
+    let mut total: usize = 0;
+    let mut bytes: usize = 0;
+    let mut cuts: usize = 0;
+    let mut filled: usize = 0;
+    loop {
+        match chunk(kind, message, here) {
+            ChunkRead::Refused { number, place } => {
+                return StringRead::Refused { number, place };
+            }
+            ChunkRead::Chunk {
+                head: h,
+                size,
+                bytes: n,
+                units,
+                last,
+            } => {
+                if LONGEST_CHUNK - filled < units {
+                    filled = after_cut(kind, message, here + h, units, LONGEST_CHUNK - filled);
+                    cuts += 1;
+                } else {
+                    filled += units;
+                }
+                here += h + size;
+                total += units;
+                bytes += n;
+                if last {
+                    return StringRead::Content {
+                        units: total,
+                        bytes,
+                        size: here - at,
+                        shortest: bytes + 3 * cuts + last_head_size(kind, filled),
+                    };
+                }
+            }
+        }
+    }
 }
 
 // The text at the place `at` of the message. A short one of ASCII is tried first.
@@ -752,6 +956,7 @@ pub fn read_text(message: &[u8], at: usize) -> StringRead
             units: s - 1,
             bytes: s - 1,
             size: s,
+            shortest: s,
         };
     }
     read_string(Encoding::Utf8, message, at)

@@ -1,6 +1,5 @@
 /* copies: says which record files are true copies, by their shortest forms. Nothing is changed or deleted. */
 #include <stdio.h>
-#include <string.h>
 #include <time.h>
 
 #include "command.h"
@@ -9,10 +8,9 @@
 #include "lines.h"
 #include "list.h"
 #include "options.h"
+#include "passed_over.h"
 #include "sums.h"
 #include "verdicts.h"
-
-enum { BY_SIGNAL = 128 }; /* a status from here on says which signal ended the run, as a shell does */
 
 static const char help[] =
     "usage: hessian copies [OPTION]... NAME...\n"
@@ -59,36 +57,38 @@ static const char help[] =
     "Status: 0 all were read, 1 some were refused, 2 wrong usage, or a file could not be read or changed, or\n"
     "the lines could not be written; 130 after SIGINT, 143 after SIGTERM.\n";
 
-/* ---- names, and what they stand for */
-
-/* What the visits of names and of files need. */
-struct errand {
-    struct run *run;
-    struct visitor visitor;
-    const struct filter *filter;
-};
+/* ---- what names stand for */
 
 static void hand_file(void *context, const struct place *place)
 {
-    struct errand *e = context;
+    struct run *run = context;
 
-    hand_over(&e->run->workers, place, false, NULL);
+    hand_over(&run->workers, place, false, NULL);
 }
 
 static void hand_link(void *context, const char *name)
 {
-    struct errand *e = context;
+    struct run *run = context;
     struct place place = {name, 0, NULL};
 
-    hand_over(&e->run->workers, &place, true, NULL);
+    hand_over(&run->workers, &place, true, NULL);
 }
 
 static void hand_failure(void *context, const char *name, const char *why)
 {
-    struct errand *e = context;
+    struct run *run = context;
     struct place place = {name, 0, NULL};
 
-    hand_over(&e->run->workers, &place, false, why);
+    hand_over(&run->workers, &place, false, why);
+}
+
+/* Who gives names one by one sees what came of each before giving the next. */
+static void take_stock(void *context)
+{
+    struct run *run = context;
+
+    hand_all_back(&run->workers);
+    fflush(stdout);
 }
 
 static bool ended(void *context)
@@ -97,33 +97,11 @@ static bool ended(void *context)
     return stopped();
 }
 
-static void take_name(void *context, const char *name)
-{
-    struct errand *e = context;
-
-    each_file(name, e->filter, &e->visitor);
-}
-
-/* Who gives names one by one sees what came of each before giving the next. */
-static void take_stock(void *context)
-{
-    struct errand *e = context;
-
-    hand_all_back(&e->run->workers);
-    fflush(stdout);
-}
-
 static void take_names(struct run *run, const struct options *o, char **names)
 {
-    struct errand e = {run, {hand_file, hand_link, hand_failure, ended, NULL}, &o->filter};
-    struct list_reader reader = {take_name, hand_failure, take_stock, ended, &e};
+    const struct visitor visitor = {hand_file, hand_link, hand_failure, take_stock, ended, run};
 
-    e.visitor.context = &e;
-    for (; *names != NULL && !stopped(); names++)
-        if (strcmp(*names, "-") == 0)
-            each_listed(o->end, &reader);
-        else
-            take_name(&e, *names);
+    each_named(names, o->end, &o->filter, &visitor);
     if (!stopped())
         hand_all_back(&run->workers);
 }
@@ -140,8 +118,8 @@ static double now(void)
 
 static int status(const struct totals *t)
 {
-    if (t->partial)
-        return BY_SIGNAL + signal_met();
+    if (t->passed.partial)
+        return status_by_signal();
     if (t->failed > 0)
         return TROUBLE;
     return t->refused > 0 ? REFUSED : DONE;
@@ -163,11 +141,11 @@ static int copies_of_names(const struct command *self, const struct options *o, 
     watch_signals();
     start_run(&run, o->thousandths);
     take_names(&run, o, names);
-    run.totals.partial = signal_met() != 0;
+    run.totals.passed.partial = signal_met() != 0;
     end_progress();
     if (!o->layout.names)
         print_totals(&run.totals, o->layout.json);
-    print_passed_over(&run.totals);
+    say_passed_over(self, &run.totals.passed);
     if (o->time)
         print_time(&run, start);
     answer = finished(self, status(&run.totals));

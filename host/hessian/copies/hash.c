@@ -4,6 +4,7 @@
 #include <string.h>
 
 #include "memory.h"
+#include "mixed.h"
 
 enum { WORD = 8, LANES = 4, HINTS = 1 << 17 };
 
@@ -13,13 +14,6 @@ enum { WORD = 8, LANES = 4, HINTS = 1 << 17 };
 #endif
 
 static const uint64_t SPREAD = UINT64_C(0x9e3779b97f4a7c15);
-
-uint64_t mixed(uint64_t n)
-{
-    n = (n ^ n >> 30) * UINT64_C(0xbf58476d1ce4e5b9);
-    n = (n ^ n >> 27) * UINT64_C(0x94d049bb133111eb);
-    return n ^ n >> 31;
-}
 
 /* A lane after one more word. */
 static uint64_t turned(uint64_t lane, const uint8_t *bytes)

@@ -8,9 +8,6 @@
 
 uint64_t hash_of(const uint8_t *bytes, size_t len);
 
-/* The bits of a number, spread over all of a word. */
-uint64_t mixed(uint64_t n);
-
 /*
  * The hashes of files that workers have read. A later one takes the place of an earlier one where they share a slot, so
  * it is of a fixed size; several threads may ask at once.

@@ -1,31 +1,19 @@
 #include "lines.h"
 
 #include <inttypes.h>
-#include <limits.h>
 #include <stdio.h>
-#include <stdio_ext.h>
-#include <unistd.h>
 
 #include "names.h"
 #include "quote.h"
 #include "sums.h"
-
-/*
- * Lines are written when there are so many bytes of them, since a pipe takes up to PIPE_BUF bytes whole or not at all.
- * The buffer holds a line more, with two of the longest names and every byte of them quoted by six characters: each
- * write ends with a line. So a run that is killed leaves half a name at most where a line alone is longer than that.
- */
-enum { ENOUGH = PIPE_BUF / 2, BUFFER = ENOUGH + 2 * 6 * PATH_MAX + 256 };
+#include "whole_lines.h"
 
 static struct layout layout;
-static char buffer[BUFFER];
-static bool terminal; /* standard output is one: a line is written at once */
 
 void begin_lines(const struct layout *l)
 {
     layout = *l;
-    terminal = isatty(STDOUT_FILENO);
-    setvbuf(stdout, buffer, _IOFBF, sizeof buffer);
+    begin_whole_lines();
 }
 
 /* ---- parts of lines */
@@ -51,7 +39,7 @@ static bool begin_line(unsigned state, const char *word, const char *name)
 {
     if ((layout.lines & state) == 0)
         return false;
-    if (terminal)
+    if (lines_on_terminal())
         end_progress();
     if (layout.names) {
         put_with_zero_byte(name);
@@ -69,8 +57,7 @@ static void end_line(void)
 {
     if (!layout.names)
         fputs(layout.json ? "}\n" : "\n", stdout);
-    if (terminal || __fpending(stdout) >= ENOUGH)
-        fflush(stdout);
+    end_whole_line();
 }
 
 /* ---- a line for each file */

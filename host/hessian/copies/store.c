@@ -3,7 +3,6 @@
 #include <stdlib.h>
 #include <string.h>
 
-#include "hash.h"
 #include "memory.h"
 
 enum { FIRST_ROOM = 1024, MOST_KEPT = (1 << 28) - 1 };
@@ -11,9 +10,8 @@ enum { FIRST_ROOM = 1024, MOST_KEPT = (1 << 28) - 1 };
 void new_store(struct store *s)
 {
     memset(s, 0, sizeof *s);
-    s->slots_room = s->met_room = FIRST_ROOM;
+    s->slots_room = FIRST_ROOM;
     s->slots = zeros(s->slots_room, sizeof *s->slots);
-    s->met = zeros(s->met_room, sizeof *s->met);
     new_cache(&s->cache);
 }
 
@@ -23,48 +21,7 @@ void free_store(struct store *s)
     free(s->kept);
     free(s->forms);
     free(s->slots);
-    free(s->met);
     free_cache(&s->cache);
-}
-
-/* ---- files met */
-
-/* The slot of a file, or a free one. */
-static struct identity *met_slot(struct identity *met, size_t room, uint64_t device, uint64_t inode)
-{
-    size_t i = (size_t)mixed(inode ^ mixed(device)) & (room - 1);
-
-    while (met[i].inode != 0 && (met[i].inode != inode || met[i].device != device))
-        i = (i + 1) & (room - 1);
-    return &met[i];
-}
-
-static void grow_met(struct store *s)
-{
-    size_t room = 2 * s->met_room, i;
-    struct identity *met = zeros(room, sizeof *met);
-
-    for (i = 0; i < s->met_room; i++)
-        if (s->met[i].inode != 0)
-            *met_slot(met, room, s->met[i].device, s->met[i].inode) = s->met[i];
-    free(s->met);
-    s->met = met;
-    s->met_room = room;
-}
-
-bool met_before(struct store *s, uint64_t device, uint64_t inode)
-{
-    struct identity *slot = met_slot(s->met, s->met_room, device, inode);
-
-    if (inode == 0)
-        return false;
-    if (slot->inode != 0)
-        return true;
-    slot->device = device;
-    slot->inode = inode;
-    if (++s->met_count > s->met_room / 4 * 3)
-        grow_met(s);
-    return false;
 }
 
 /* ---- records kept */

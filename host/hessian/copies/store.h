@@ -1,6 +1,6 @@
 /*
- * What is remembered of files: which were met; of each distinct record the name of its file and when that last changed;
- * and the forms of these records, by their hashes. The bytes of forms are in a cache, as far as that reaches.
+ * What is remembered of records: of each distinct one the name of its file and when that last changed; and the forms of
+ * these records, by their hashes. The bytes of forms are in a cache, as far as that reaches.
  */
 #ifndef STORE_H
 #define STORE_H
@@ -37,11 +37,6 @@ struct form {
     uint32_t origin : 4;
 };
 
-/* Which file, whatever its name. An inode of 0 is no file. */
-struct identity {
-    uint64_t device, inode;
-};
-
 struct store {
     char *names;
     size_t names_len, names_room;
@@ -51,17 +46,12 @@ struct store {
     size_t forms_count, forms_room;
     uint32_t *slots; /* one more than an index into `forms`, at the first free slot from its hash on; 0 is free */
     size_t slots_room; /* a power of two */
-    struct identity *met;
-    size_t met_count, met_room;
     struct cache cache;
 };
 
 void new_store(struct store *s);
 
 void free_store(struct store *s);
-
-/* Whether the file was met before; now it is. */
-bool met_before(struct store *s, uint64_t device, uint64_t inode);
 
 /* The next form of these origins and a record not lost, of this hash and size; NULL after the last. *from: 0 first. */
 const struct form *candidate(const struct store *s, unsigned origins, uint64_t hash, size_t size, size_t *from);

@@ -5,6 +5,8 @@
 #include <stdbool.h>
 #include <stdint.h>
 
+#include "passed_over.h"
+
 struct totals {
     uint64_t records; /* distinct, copies and refused */
     uint64_t distinct;
@@ -13,17 +15,12 @@ struct totals {
     uint64_t bytes_in;
     uint64_t bytes_of_copies;    /* gained by removing them */
     int64_t bytes_by_rewriting;  /* gained, of records kept; below 0 where thousandths took fewer bytes */
-    uint64_t repeated;           /* names of files met before */
-    uint64_t links;              /* names of symbolic links */
     uint64_t failed;             /* names that could not be used, and records that changed meanwhile */
-    bool partial;                /* the run was ended before it was done */
+    struct passed_over passed;
 };
 
 /* The last lines of standard output. */
 void print_totals(const struct totals *t, bool json);
-
-/* What was passed over, on standard error: one line for all names of a kind. */
-void print_passed_over(const struct totals *t);
 
 /* On standard error, where that is a terminal, from the thousandth file on. */
 void show_progress(const struct totals *t);

@@ -195,13 +195,13 @@ static void take_file(void *context, struct file *f)
     if (stopped())
         return;
     if (f->link) {
-        run->totals.links++;
+        run->totals.passed.links++;
         print_link(f->name);
     } else if (f->why != NULL) {
         run->totals.failed++;
         print_failed(f->name, f->why);
-    } else if (met_before(&run->store, f->record.stamp.device, f->record.stamp.inode)) {
-        run->totals.repeated++;
+    } else if (met_before(&run->met, f->record.stamp.device, f->record.stamp.inode)) {
+        run->totals.passed.repeated++;
         print_repeated(f->name);
     } else {
         take_record(run, f);
@@ -216,6 +216,7 @@ void start_run(struct run *run, bool thousandths)
     if (!new_record(&run->earlier))
         no_memory();
     run->earlier.thousandths = thousandths;
+    new_met(&run->met);
     new_store(&run->store);
     start_workers(&run->workers, thousandths, take_file, run);
 }
@@ -224,5 +225,6 @@ void end_run(struct run *run)
 {
     stop_workers(&run->workers);
     free_store(&run->store);
+    free_met(&run->met);
     free_record(&run->earlier);
 }

@@ -11,6 +11,7 @@
 #include <stdbool.h>
 #include <stdint.h>
 
+#include "met.h"
 #include "record.h"
 #include "store.h"
 #include "sums.h"
@@ -18,6 +19,7 @@
 
 struct run {
     struct workers workers;
+    struct met met;
     struct store store;
     struct record earlier; /* the file of a kept record, read again */
     uint64_t read_again;   /* how often */

@@ -266,14 +266,6 @@ static void close_document(struct document *d)
     putc('\n', d->j.out);
 }
 
-static void put_shortest(struct document *d, const struct record *r)
-{
-    if (too_long_shortest(r))
-        json_null(&d->j, "shortest");
-    else
-        json_number(&d->j, "shortest", r->shortest_len);
-}
-
 void put_document(FILE *out, const struct input *in, const struct manner *how, const struct view *v)
 {
     struct document d = {{out, false}, how, v};
@@ -281,7 +273,7 @@ void put_document(FILE *out, const struct input *in, const struct manner *how, c
 
     open_document(&d, in, "accepted");
     json_number(&d.j, "rows", in->r->rows);
-    put_shortest(&d, in->r);
+    json_number(&d.j, "shortest", shortest_length(in->r));
     json_key(&d.j, "record");
     put_part(&d, &whole);
     close_document(&d);

@@ -273,11 +273,10 @@ static void put_file(const struct page *p, const struct input *in)
 
 static void put_counts(FILE *out, const struct record *r)
 {
-    fprintf(out, "%zu row%s, shortest form ", r->rows, plural(r->rows));
-    if (too_long_shortest(r))
-        fputs("longer than 262144 bytes\n", out);
-    else
-        fprintf(out, "%zu byte%s\n", r->shortest_len, plural(r->shortest_len));
+    uint64_t shortest = shortest_length(r);
+
+    fprintf(out, "%zu row%s, shortest form %" PRIu64 " byte%s%s\n", r->rows, plural(r->rows), shortest,
+            plural(shortest), too_long_shortest(r) ? ", too long to be written" : "");
 }
 
 void put_page(FILE *out, const struct input *in, const struct manner *how, const struct view *v)

@@ -34,5 +34,6 @@ read-number-spec =
     (λ c κs. search needs)
     value-of-requires
     (λ c. search needs)
+    (λ c κs. search needs)
     returns-3
     returns-4)

@@ -131,9 +131,9 @@ module _ (n i : ℕ) (c : Known) (m : List ℕ) (p : ℕ) where
         ∙ ap (λ (o : ReadingAt One). on o (λ e u c′. run (namesLeft n (i + 1)) c′ m e))
         (name-laid c m p 17 FieldName (λ cs. refl) l o q)
 
-    pub names-step : (z u b : ℕ) → measuredAt Utf8 m p ≡ Done z (sized u b) [] tt
+    pub names-step : (z u b w : ℕ) → measuredAt Utf8 m p ≡ Done z (sized u b w) [] tt
         → run (namesLeft n i) c m p ≡ front (row 17 p u b 1 ∷ []) (run (namesLeft n (i + 1)) c m (p + z))
-    names-step z u b q = names-on (Done z (sized u b) [] tt) q
+    names-step z u b w q = names-on (Done z (sized u b w) [] tt) q
 
     pub names-lost : (x o : ℕ) → measuredAt Utf8 m p ≡ Fault x o → run (namesLeft n i) c m p ≡ RefusedAt x o
     names-lost x o q = names-on (Fault x o) q
@@ -167,12 +167,12 @@ module _ (ℓ : Limits) (p : ℕ) (c : Known) (m : List ℕ) (q : ℕ) where
     pub definition-nameless : (x o : ℕ) → measuredAt Utf8 m q ≡ Fault x o → run (definition ℓ p) c m q ≡ RefusedAt x o
     definition-nameless x o h = named (Fault x o) h
 
-    -- the name takes z bytes; the count is at r
-    module _ (z u b : ℕ) (h : measuredAt Utf8 m q ≡ Done z (sized u b) [] tt) (r : ℕ) (e : r ≡ q + z)
+    -- the name takes z bytes, and w in its shortest form; the count is at r
+    module _ (z u b w : ℕ) (h : measuredAt Utf8 m q ≡ Done z (sized u b w) [] tt) (r : ℕ) (e : r ≡ q + z)
         (i : r ≤ length m) where
       counts : (o : ReadingAt ℕ) → run (count (fieldNames ℓ)) c m r ≡ o
           → run (definition ℓ p) c m q ≡ topped p Definition (front (row 16 q u b 1 ∷ []) o)
-      counts o y = named (Done z (sized u b) [] tt) h
+      counts o y = named (Done z (sized u b w) [] tt) h
           ∙ ap (λ (o : ReadingAt ℕ). topped p Definition (front (row 16 q u b 1 ∷ []) o))
           (ap (run (count (fieldNames ℓ)) c m) (sym e) ∙ y)
 
@@ -194,7 +194,7 @@ module _ (ℓ : Limits) (p : ℕ) (c : Known) (m : List ℕ) (q : ℕ) where
             (run-fail 7 r c m (r + k))
 
         pub definition-wide : n < 2 ^ 63 → ℓ .fields < n → run (definition ℓ p) c m q ≡ RefusedAt 7 r
-        definition-wide v w = counts (RefusedAt 7 r) (names-test v ∙ pick-true _ _ (lt-ltb (ℓ .fields) n w))
+        definition-wide v x = counts (RefusedAt 7 r) (names-test v ∙ pick-true _ _ (lt-ltb (ℓ .fields) n x))
 
         -- the field names, and then the class is given
         names-given : run (after (many (name FieldName) n) (changing (defined n) (give n))) c m (r + k)
@@ -213,13 +213,13 @@ module _ (ℓ : Limits) (p : ℕ) (c : Known) (m : List ℕ) (q : ℕ) where
             go (ReadTo e u rs c) = refl
             go (RefusedAt x o) = refl
 
-        module _ (v : n < 2 ^ 63) (w : n ≤ ℓ .fields) where
+        module _ (v : n < 2 ^ 63) (few : n ≤ ℓ .fields) where
           pub names-in : (o : ReadingAt ℕ) → run (namesLeft n 0) c m (r + k) ≡ o
               → run (definition ℓ p) c m q ≡ topped p Definition (front (row 16 q u b 1 ∷ [])
               (on o (λ e u c′. ReadTo e n [] (defined n c′))))
           names-in o a =
               counts (on o (λ e u c′. ReadTo e n [] (defined n c′)))
-              (names-test v ∙ pick-false _ _ (le-ltb (ℓ .fields) n w) ∙ names-given
+              (names-test v ∙ pick-false _ _ (le-ltb (ℓ .fields) n few) ∙ names-given
               ∙ ap (λ (o : ReadingAt ℕ). on o (λ e u c′. ReadTo e n [] (defined n c′))) a)
 
           pub definition-names-lost : (x o : ℕ) → run (namesLeft n 0) c m (r + k) ≡ RefusedAt x o

@@ -143,9 +143,9 @@ module _ (c : Known) (m : List ℕ) (p : ℕ) where
     name-laid o h = name-by x ∙ ap (topped p x) (string-run c m p Utf8 l) ∙ string-laid Utf8 x (sizesRow k p) e
         ∙ ap (laid p (sizesRow k p) c) h
 
-    pub name-got : (n u b : ℕ) → measuredAt Utf8 m p ≡ Done n (sized u b) [] tt
+    pub name-got : (n u b w : ℕ) → measuredAt Utf8 m p ≡ Done n (sized u b w) [] tt
         → run (byteAt (name x)) c m p ≡ ReadTo (p + n) tt (row k p u b 1 ∷ []) c
-    name-got n u b h = name-laid (Done n (sized u b) [] tt) h
+    name-got n u b w h = name-laid (Done n (sized u b w) [] tt) h
 
     pub name-lost : (y o : ℕ) → measuredAt Utf8 m p ≡ Fault y o → run (byteAt (name x)) c m p ≡ RefusedAt y o
     name-lost y o h = name-laid (Fault y o) h
@@ -191,9 +191,9 @@ module _ (ℓ : Limits) (c : Known) (m : List ℕ) (p : ℕ) where
         type-laid o h = name-test ∙ pick-true _ _ (lt-ltb (c .types) (ℓ .types) s)
             ∙ ap (through (λ u. c .types)) (name-laid (typed c) m p 18 TypeName (λ cs. refl) (omega arith) o h)
 
-        pub type-name : (n u b : ℕ) → measuredAt Utf8 m p ≡ Done n (sized u b) [] tt
+        pub type-name : (n u b w : ℕ) → measuredAt Utf8 m p ≡ Done n (sized u b w) [] tt
             → run (byteAt (typeFrom ℓ)) c m p ≡ ReadTo (p + n) (c .types) (row 18 p u b 1 ∷ []) (typed c)
-        type-name n u b h = type-laid (Done n (sized u b) [] tt) h
+        type-name n u b w h = type-laid (Done n (sized u b w) [] tt) h
 
         pub type-name-lost : (x o : ℕ) → measuredAt Utf8 m p ≡ Fault x o
             → run (byteAt (typeFrom ℓ)) c m p ≡ RefusedAt x o

@@ -123,13 +123,13 @@ module _ (ℓ : Limits) (below : Option (Opening One)) (c : Known) (m : List ℕ
         ≡ RefusedAt y o
     leaf-string-lost y o e = string-is (Fault y o) e
 
-  pub leaf-text : leadOf (getD m p 0) ≡ lead.Text → (n u b : ℕ) → measuredAt Utf8 m p ≡ Done n (sized u b) [] tt
+  pub leaf-text : leadOf (getD m p 0) ≡ lead.Text → (n u b w : ℕ) → measuredAt Utf8 m p ≡ Done n (sized u b w) [] tt
       → run (plainFrom Floats ℓ below p (getD m p 0)) c m (p + 1) ≡ ReadTo (p + n) tt (row 7 p u b 1 ∷ []) c
-  leaf-text x n u b e = string-is Utf8 x (Done n (sized u b) [] tt) e
+  leaf-text x n u b w e = string-is Utf8 x (Done n (sized u b w) [] tt) e
 
-  pub leaf-bytes : leadOf (getD m p 0) ≡ lead.Bytes → (n u b : ℕ) → measuredAt Binary m p ≡ Done n (sized u b) [] tt
+  pub leaf-bytes : leadOf (getD m p 0) ≡ lead.Bytes → (n u b w : ℕ) → measuredAt Binary m p ≡ Done n (sized u b w) [] tt
       → run (plainFrom Floats ℓ below p (getD m p 0)) c m (p + 1) ≡ ReadTo (p + n) tt (row 8 p b 0 1 ∷ []) c
-  leaf-bytes x n u b e = string-is Binary x (Done n (sized u b) [] tt) e
+  leaf-bytes x n u b w e = string-is Binary x (Done n (sized u b w) [] tt) e
 
   pub leaf-none : isScalar (getD m p 0) ≡ false
       → run (plainFrom Floats ℓ below p (getD m p 0)) c m (p + 1) ≡ RefusedAt 3 p

@@ -10,7 +10,8 @@ use lib.ListN.{length, take, drop, getD, length-map, length-append}
 use lib.Seq.{take-suc, take-length, length-take-le, drop-drop}
 use Rattle.flow.specs.Flow.{Report, put, overlay}
 use Rattle.flow.specs.Retellings.{map-append}
-use Rattle.flow.specs.OverlayLaws.{flat, overlay-append, overlay-past, overlay-flat, overlay-one, length-overlay}
+use Rattle.flow.specs.OverlayLaws.{flat, overlay-none, overlay-one, overlay-append, overlay-past, overlay-flat}
+use Rattle.flow.specs.OverlayLaws.{length-overlay}
 use Rattle.scalar.specs.Scalars.{Floats, Thousandths}
 use Rattle.record.specs.Model.Items.{Item, Limits}
 use Rattle.record.specs.Model.Rows.{Row, row, rows}
@@ -69,8 +70,8 @@ module _ (L : Layout) (keeps : Keeps L) (m T : List ℕ) (n : ℕ) (x : HeldRows
   part i h = length-map (take i (x .held)) (rowInThousandths m) ∙ length-take-le i (x .held) (omega (arith, x .count))
 
   pub retold-start : T ≡ retoldTo 0
-  unfolding retoldTo overlay
-  retold-start = refl
+  unfolding retoldTo
+  retold-start = sym (overlay-none (L .width) (L .encode) T 0)
 
   pub retold-length : (i : ℕ) → length (retoldTo i) ≡ length T
   unfolding retoldTo

@@ -240,14 +240,14 @@ pub record Measures (k : Encoding) (m : List ℕ) (p n u b : ℕ) : Type 0 where
   pub form : itemForm k m p ≡ shortestString k content
 
 module _ (k : Encoding) (m : List ℕ) (p : ℕ) where
-  pub measures : (n u b : ℕ) → measuredAt k m p ≡ Done n (sized u b) [] tt → Measures k m p n u b
+  pub measures : (n u b w : ℕ) → measuredAt k m p ≡ Done n (sized u b w) [] tt → Measures k m p n u b
   unfolding measuredAt itemForm
-  measures n u b e = go (stringAt k m p) refl e
+  measures n u b w e = go (stringAt k m p) refl e
     where
-      go : (o : Answer (List ℕ)) → stringAt k m p ≡ o → renamed (sizes k) o ≡ Done n (sized u b) [] tt
+      go : (o : Answer (List ℕ)) → stringAt k m p ≡ o → renamed (sizes k) o ≡ Done n (sized u b w) [] tt
           → Measures k m p n u b
       go (Done j cs es y) q e =
-          let s : sizes k cs ≡ sized u b = cc in
+          let s : sizes k cs ≡ sized u b w = cc in
           let z : Done j cs es y ≡ Done n cs [] tt = cc in
           record {
             content = cs;

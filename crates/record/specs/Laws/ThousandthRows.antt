@@ -17,6 +17,7 @@ use Rattle.record.specs.Model.Items.{Known, start, Limits}
 use Rattle.record.specs.Model.Reading.{message}
 use Rattle.record.specs.Model.Rows.{Row, row, itemRow, rowsFrom, rows}
 use Rattle.record.specs.Model.Answers.{ReadResult, Accept, Refuse, judged, answered, read, readNumbers}
+use Rattle.record.specs.Model.Answers.{lengthAnswered}
 use Rattle.record.specs.Model.Terms.{firstInThousandths, rowInThousandths}
 use Rattle.record.specs.Laws.InThousandths.{itemInThousandths, entryInThousandths, message-in-thousandths}
 
@@ -83,3 +84,13 @@ module _ (m : List ℕ) where
     report-in-thousandths (Accept rs n) =
         ap (λ (k : ℕ). record { number = 0; count = k; place = n }) (length-map rs (rowInThousandths m))
     report-in-thousandths (Refuse x k o) = refl
+
+-- 2026-06: either rule accepts the same messages, with the same rows lent
+pub length-in-thousandths : (m : List ℕ) (ℓ : Limits) (lent w : ℕ)
+    → lengthAnswered w (read Thousandths ℓ lent m) ≡ lengthAnswered w (read Floats ℓ lent m)
+length-in-thousandths m ℓ lent w =
+    ap (lengthAnswered w) (read-in-thousandths m ℓ lent) ∙ go (read Floats ℓ lent m)
+  where
+    go : (z : ReadResult) → lengthAnswered w (resultInThousandths m ℓ z) ≡ lengthAnswered w z
+    go (Accept rs n) = refl
+    go (Refuse x k o) = refl

@@ -3,9 +3,10 @@ use mathlib.Core.{List.List, List.[], List._∷_, List._++_, Option.Option, Opti
 use Prim.Native.Nat.{ℕ, zero, suc, _+_, _/_}
 use lib.{Dec.ltb, ListN.length, ListN.take, ListN.drop, ListN.getD}
 use Rattle.flow.specs.RefusalNumbers.{wrong-length, no-room, no-record}
-use Rattle.flow.specs.Flow.{pick, onSome, Outcome, Done, Fault, One, stored, overlay, Report}
+use Rattle.flow.specs.Flow.{pick, onSome, Outcome, Done, Fault, One, items, stored, overlay, Report}
 use Rattle.wire.specs.BigEndian.{eightAt, be}
 use Rattle.scalar.specs.Scalars.{DoubleRule}
+use Rattle.scalar.specs.Answers.{lengthOf}
 use Rattle.record.specs.Model.Items.{Item, Known, start, Limits}
 use Rattle.record.specs.Model.Reading.{message}
 use Rattle.record.specs.Model.Rows.{Row, row, rows}
@@ -107,6 +108,23 @@ filled L t (Refuse x k o) = t
 
 abbrev pub readTable : DoubleRule → Limits → Layout → List ℕ → List ℕ → List ℕ
 readTable ρ ℓ L m t = filled L t (read ρ ℓ (lentRows L t) m)
+
+-- ---- 2026-06: the length of the shortest message of the record that was read; a refusal has 0
+abbrev pub lengthJudged : Limits → (openFrom : ℕ) → Outcome Known Item One → ℕ
+lengthJudged ℓ openFrom (Done n u es c) = lengthOf (spell ℓ openFrom (items es))
+lengthJudged ℓ openFrom (Fault x o) = 0
+
+-- with rows enough
+unfoldable pub shortestLength : DoubleRule → Limits → (openFrom : ℕ) → List ℕ → ℕ
+shortestLength ρ ℓ openFrom m = lengthJudged ℓ openFrom (judged ρ ℓ m)
+
+-- with the rows lent: refusal 9 too has 0
+abbrev pub lengthAnswered : ℕ → ReadResult → ℕ
+lengthAnswered w (Accept rs n) = w
+lengthAnswered w (Refuse x k o) = 0
+
+abbrev pub readLength : DoubleRule → Limits → (openFrom : ℕ) → Layout → List ℕ → List ℕ → ℕ
+readLength ρ ℓ openFrom L m t = lengthAnswered (shortestLength ρ ℓ openFrom m) (read ρ ℓ (lentRows L t) m)
 
 -- ---- the writer's answer for the first n rows of a table: accepted are 0, the bytes written, 0
 abbrev pub writeNumbers : WriteResult → Report

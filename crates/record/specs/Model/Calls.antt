@@ -10,6 +10,7 @@ use Rattle.record.specs.Model.Rows.{Row, rows}
 use Rattle.record.specs.Model.Claims.{contentAt, ClaimAll}
 use Rattle.record.specs.Model.Grammar.{Message}
 use Rattle.record.specs.Model.Answers.{Layout, lentRows, rowsOf, readReport, readTable, writeReport, writeOutput}
+use Rattle.record.specs.Model.Answers.{baseOpenFrom, readLength}
 use Rattle.record.specs.Model.Terms.{Accepts}
 use Rattle.record.specs.Model.Hops.{Skippable}
 
@@ -18,6 +19,13 @@ pub record ReadCall (ρ : DoubleRule) (ℓ : Limits) (L : Layout) (m t : List �
   pub bytes : Bytes m
   pub report : a ≡ readReport ρ ℓ L m t
   pub table : t′ ≡ readTable ρ ℓ L m t
+
+-- the same, where the answer also says the length n of the record's shortest message (2026-06). That it is the same for
+-- every list threshold up to 48: Demanded.measuring
+pub record MeasuredCall (ρ : DoubleRule) (ℓ : Limits) (L : Layout) (m t : List ℕ) (a : Report) (n : ℕ) (t′ : List ℕ)
+    : Type 0 where
+  pub call : ReadCall ρ ℓ L m t a t′
+  pub shortest : n ≡ readLength ρ ℓ baseOpenFrom L m t
 
 -- the first n rows of the table t, whose texts and bytes lie in the source s, are written into the output o: the
 -- report, the output afterwards

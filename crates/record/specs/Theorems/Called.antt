@@ -27,6 +27,7 @@ use Rattle.record.specs.Laws.Refusals.{Located, at-end, before-end, loca
 use Rattle.record.specs.Laws.Answering.{Misfit, misfit-judged}
 use Rattle.record.specs.ForReader.ReadMessages.{rows-length}
 use Rattle.record.specs.Theorems.SameTheorems.{same-exactly, one-message}
+use Rattle.record.specs.Theorems.LengthTheorems.{of-length, of-shortest-length}
 use Rattle.record.specs.Theorems.HopTheorems.{skippable}
 use Rattle.record.specs.Theorems.RowTheorems.{judged-done, own-rows, rows-no-longer, rows-back, rows-none}
 use Rattle.record.specs.Theorems.AnswerTheorems.{accepted-exactly, rows-suffice, rows-too-few, kept-holds}
@@ -743,6 +744,10 @@ theorem ℓ fits openFrom most L keeps = record {
   );
   telling = λ m t a t′ g b t″ h.
       (one-report ℓ L fits keeps m t a t′ g b t″ h, rows-told ℓ L fits keeps m t a t′ g b t″ h);
+  measuring = λ ρ m t a n t′ g.
+      of-length ρ ℓ openFrom most L m t a n t′ g (read-holding ℓ L ρ m t a t′ (g .call) fits keeps)
+      (table-rows ℓ L ρ keeps m t a t′ (g .call));
+  lengths = λ ρ m t a t′ g. of-shortest-length ρ ℓ openFrom most L m t a t′ g;
   copying = λ s₁ t₁ n₁ o₁ a₁ o₁′ g₁ z₁ s₂ t₂ n₂ o₂ a₂ o₂′ g₂ z₂.
       copied ℓ L openFrom most s₁ t₁ n₁ o₁ a₁ o₁′ g₁ z₁ s₂ t₂ n₂ o₂ a₂ o₂′ g₂ z₂;
   skipping = λ s t n m x. skippable Floats ℓ m (x .record-of) (x .grammar) (contentAt s) (rowsOf L n t) (x .claimed);

@@ -8,11 +8,11 @@ use Rattle.flow.specs.Flow.{Report}
 use Rattle.scalar.specs.Scalars.{DoubleRule, Floats, Thousandths}
 use Rattle.record.specs.Model.Items.{Item, Limits}
 use Rattle.record.specs.Model.Grammar.{Message}
-use Rattle.record.specs.Model.Answers.{Layout, lentRows, rowsOf}
+use Rattle.record.specs.Model.Answers.{Layout, lentRows, rowsOf, baseOpenFrom, shortestLength}
 use Rattle.record.specs.Model.Terms.{rowInThousandths}
 use Rattle.record.specs.Model.Same.{SameRecord}
 use Rattle.record.specs.Model.Hops.{Skippable}
-use Rattle.record.specs.Model.Calls.{ReadCall, WriteCall, Keeps, Holding, RecordOf, ShortestOf}
+use Rattle.record.specs.Model.Calls.{ReadCall, MeasuredCall, WriteCall, Keeps, Holding, RecordOf, ShortestOf}
 
 abbrev answer : ℕ → ℕ → ℕ → Report
 answer number count place = record { number = number; count = count; place = place }
@@ -79,6 +79,29 @@ pub record OfShortest (ℓ : Limits) (L : Layout) (s t : List ℕ) (n : ℕ) (w 
   pub no-shorter : (m tm : List ℕ) (am : Report) (tm′ : List ℕ) → ReadCall Floats ℓ L m tm am tm′ → am .number ≡ 0
       → SameRecord s m (rowsOf L n t) (rowsOf L (am .count) tm′) → length w ≤ length m
 
+-- of the length n that a call that reads says beside its report (request 2026-06)
+pub record OfLength (ρ : DoubleRule) (ℓ : Limits) (openFrom : ℕ) (L : Layout) (m : List ℕ) (a : Report) (n : ℕ)
+    (t′ : List ℕ) : Type 0 where
+  -- a refusal has 0
+  pub refused : (a .number ≡ 0 → ⊥) → n ≡ 0
+  -- for an accepted message it is the length of the record's shortest message, by this threshold of the open form too
+  pub measured : a .number ≡ 0 → n ≡ shortestLength ρ ℓ openFrom m
+  -- read, then write: with room, so many bytes are written; where the ceiling is passed, the writer refuses 1; with
+  -- less room it refuses 9, which counts them
+  pub written : a .number ≡ 0 → (o : List ℕ) (c : Report) (o′ : List ℕ) → WriteCall ℓ openFrom L m t′ (a .count) o c o′
+      → (n ≤ ℓ .longest → n ≤ length o → c ≡ answer 0 n 0)
+      × (ℓ .longest < n → c ≡ answer wrong-length 0 0)
+      × (n ≤ ℓ .longest → length o < n → c ≡ answer no-room n 0)
+
+-- of that length by itself, whatever rows are lent to the call
+pub record OfShortestLength (ρ : DoubleRule) (ℓ : Limits) (openFrom : ℕ) (m : List ℕ) (a : Report) : Type 0 where
+  -- it is 0 exactly where reading refuses with another number than 9
+  pub refused : (shortestLength ρ ℓ openFrom m ≡ 0) ↔ ((a .number ≡ 0 → ⊥) × (a .number ≡ no-room → ⊥))
+  -- the threshold of the open form does not change it
+  pub agrees : shortestLength ρ ℓ openFrom m ≡ shortestLength ρ ℓ baseOpenFrom m
+  -- by the main rule it is never more than the message has
+  pub no-longer : ρ ≡ Floats → shortestLength ρ ℓ openFrom m ≤ length m
+
 -- ---- the theorem
 -- of the limits ℓ, the threshold openFrom and tables in the layout L
 pub record Demanded (ℓ : Limits) (openFrom : ℕ) (L : Layout) : Type 0 where
@@ -105,6 +128,11 @@ pub record Demanded (ℓ : Limits) (openFrom : ℕ) (L : Layout) : Type 0 where
   pub telling : (m t : List ℕ) (a : Report) (t′ : List ℕ) → ReadCall Floats ℓ L m t a t′
       → (b : Report) (t″ : List ℕ) → ReadCall Thousandths ℓ L m t b t″
       → (a ≡ b) × (a .number ≡ 0 → rowsOf L (a .count) t″ ≡ map (rowInThousandths m) (rowsOf L (a .count) t′))
+  -- request 2026-06: the length that reading says is that of what is written
+  pub measuring : (ρ : DoubleRule) (m t : List ℕ) (a : Report) (n : ℕ) (t′ : List ℕ) → MeasuredCall ρ ℓ L m t a n t′
+      → OfLength ρ ℓ openFrom L m a n t′
+  pub lengths : (ρ : DoubleRule) (m t : List ℕ) (a : Report) (t′ : List ℕ) → ReadCall ρ ℓ L m t a t′
+      → OfShortestLength ρ ℓ openFrom m a
   -- true copies: two tables hold the same record exactly when the messages written are the same bytes
   pub copying : (s₁ t₁ : List ℕ) (n₁ : ℕ) (o₁ : List ℕ) (a₁ : Report) (o₁′ : List ℕ)
       → WriteCall ℓ openFrom L s₁ t₁ n₁ o₁ a₁ o₁′ → a₁ .number ≡ 0

@@ -10,6 +10,7 @@ use Rattle.scalar.specs.Scalars.{Floats, Thousandths, thousandth, thousandths, 
 use Rattle.scalar.specs.Scalars.{value, formsOf, formAt, shortest}
 use Rattle.scalar.specs.Scalars.{partHead, lastHeads, charLead, paired, stringFrom, stringAt, longestChunk, content}
 use Rattle.scalar.specs.Scalars.{shortestString, scalarFrom, intFrom, textFrom, shortestScalar}
+use Rattle.scalar.specs.Answers.{lengthOf}
 use Rattle.scalar.specs.Guesses.{wholeSize, wholeGuess, narrowMagnitude, narrowed, guess}
 use Rattle.record.specs.Model.Items.{Limits}
 use Rattle.record.specs.Model.Reading.{typeFrom, headOf, plainBy, plainFrom, definition, valueFrom, message}
@@ -17,7 +18,7 @@ use Rattle.record.specs.Model.Rows.{Row, row, rows, spans, span}
 use Rattle.record.specs.Model.Claims.{contentAt}
 use Rattle.record.specs.Model.Shortest.{objectCode, putType, putDefinition, putPlainBy, putValue, spell}
 use Rattle.record.specs.Model.Answers.{ReadResult, Accept, Refuse, judged, read, WriteResult, Wrote, Refused}
-use Rattle.record.specs.Model.Answers.{shortestOf, base, baseOpenFrom}
+use Rattle.record.specs.Model.Answers.{shortestOf, base, baseOpenFrom, asNumbers, shortestLength, readLength}
 use Rattle.record.specs.Model.Terms.{write}
 use Rattle.record.specs.Laws.Claimed.{ofKind, itemAt, ended}
 
@@ -464,3 +465,50 @@ unfolding judged message valueFrom plainFrom plainBy headOf definition typeFrom 
     stringFrom formsOf formAt value whole widened magnitude scaled leadingZeros partHead lastHeads charLead
     thousandths thousandth ieee.ofBits ieee.mul ieee.ofInt ieee.round ieee.toBits
 thousandths-read = (refl, refl, refl, refl, refl, refl)
+
+-- ---- 2026-06: the length of the shortest message. By the main rule: messages refused; a number, a text and a list in
+-- longer forms; a class definition and an object with a wide class code; lists of 47 and 48 elements; a map, a type by
+-- number and a reference; the same for another threshold of the open form; and refusal 9, which has 0
+abbrev shortestBase : List ℕ → ℕ
+shortestBase m = shortestLength Floats base baseOpenFrom m
+
+pub shortest-lengths :
+    (shortestBase [] ≡ 0)
+    × (shortestBase (0x51 ∷ 0x90 ∷ []) ≡ 0)
+    × (shortestBase (0x90 ∷ 0x90 ∷ []) ≡ 0)
+    × (shortestBase (0x49 ∷ 0x00 ∷ 0x00 ∷ 0x01 ∷ 0x2c ∷ []) ≡ 2)
+    × (shortestBase (0x52 ∷ 0x00 ∷ 0x07 ∷ 0x68 ∷ 0x65 ∷ 0x6c ∷ 0x6c ∷ 0x6f ∷ 0x2c ∷ 0x20 ∷ 0x05 ∷ 0x77 ∷ 0x6f ∷ 0x72
+    ∷ 0x6c ∷ 0x64 ∷ []) ≡ 13)
+    × (shortestBase (0x57 ∷ 0x90 ∷ 0x91 ∷ 0x5a ∷ []) ≡ 3)
+    × (shortestBase (0x43 ∷ 0x03 ∷ 0x43 ∷ 0x61 ∷ 0x72 ∷ 0x91 ∷ 0x05 ∷ 0x63 ∷ 0x6f ∷ 0x6c ∷ 0x6f ∷ 0x72 ∷ 0x4f ∷ 0x90
+    ∷ 0x03 ∷ 0x72 ∷ 0x65 ∷ 0x64 ∷ []) ≡ 17)
+    × (shortestBase (0x57 ∷ replicate 47 0x90 ++ (0x5a ∷ [])) ≡ 49)
+    × (shortestBase (0x58 ∷ 0xc8 ∷ 0x30 ∷ replicate 48 0x90) ≡ 50)
+    × (shortestBase (0x7b ∷ 0x4d ∷ 0x01 ∷ 0x61 ∷ 0x5a ∷ 0x4d ∷ 0xc8 ∷ 0x00 ∷ 0x5a ∷ 0x51 ∷ 0xc8 ∷ 0x00 ∷ []) ≡ 10)
+    × (shortestLength Floats base 8 (0x57 ∷ replicate 47 0x90 ++ (0x5a ∷ [])) ≡ 49)
+    × (readLength Floats base baseOpenFrom asNumbers (0x49 ∷ 0x00 ∷ 0x00 ∷ 0x01 ∷ 0x2c ∷ []) (replicate 5 0) ≡ 2)
+    × (readLength Floats base baseOpenFrom asNumbers (0x49 ∷ 0x00 ∷ 0x00 ∷ 0x01 ∷ 0x2c ∷ []) (replicate 4 0) ≡ 0)
+unfolding judged message valueFrom plainFrom plainBy headOf definition typeFrom pick scalarFrom intFrom textFrom
+    stringFrom formsOf formAt value whole widened magnitude scaled leadingZeros partHead lastHeads charLead
+    shortestLength lengthOf spell putValue putPlainBy putDefinition putType objectCode shortestScalar shortest guess
+    wholeGuess wholeSize narrowed narrowMagnitude shortestString content longestChunk
+shortest-lengths = (refl, refl, refl, refl, refl, refl, refl, refl, refl, refl, refl, refl, refl)
+
+-- by the rule of thousandths: 0 and 2 have short forms; 1.5 is a float; -0.001 takes eight bytes after its code, so
+-- that the shortest message is longer than the one read; and a message refused
+abbrev shortestInThousandths : List ℕ → ℕ
+shortestInThousandths m = shortestLength Thousandths base baseOpenFrom m
+
+pub thousandths-lengths :
+    (shortestInThousandths (0x5f ∷ 0x00 ∷ 0x00 ∷ 0x00 ∷ 0x00 ∷ []) ≡ 1)
+    × (shortestInThousandths (0x5f ∷ 0x00 ∷ 0x00 ∷ 0x07 ∷ 0xd0 ∷ []) ≡ 2)
+    × (shortestInThousandths (0x5f ∷ 0x00 ∷ 0x00 ∷ 0x05 ∷ 0xdc ∷ []) ≡ 5)
+    × (shortestInThousandths (0x79 ∷ 0x5f ∷ 0xff ∷ 0xff ∷ 0xff ∷ 0xff ∷ []) ≡ 10)
+    × (shortestBase (0x79 ∷ 0x5f ∷ 0xff ∷ 0xff ∷ 0xff ∷ 0xff ∷ []) ≡ 6)
+    × (shortestInThousandths (0x5f ∷ 0x00 ∷ 0x00 ∷ 0x05 ∷ []) ≡ 0)
+unfolding judged message valueFrom plainFrom plainBy headOf definition typeFrom pick scalarFrom intFrom textFrom
+    stringFrom formsOf formAt value whole widened magnitude scaled leadingZeros partHead lastHeads charLead
+    thousandths thousandth ieee.ofBits ieee.mul ieee.ofInt ieee.round ieee.toBits
+    shortestLength lengthOf spell putValue putPlainBy putDefinition putType objectCode shortestScalar shortest guess
+    wholeGuess wholeSize narrowed narrowMagnitude shortestString content longestChunk
+thousandths-lengths = (refl, refl, refl, refl, refl, refl)

@@ -1,18 +1,15 @@
--- The loop's invariant: what is left reads as the whole does, but for the bytes so far. The measure is how many units are left to read.
+-- The loop's invariant: the characters so far are passed. The measure is how many units are left to read.
 use native.Mathlib.Omega.{arith}
 use borrow.Author.Needs.{needs}
-use Rattle.scalar.specs.Scalars.{characters}
-use Rattle.texts.specs.Answers.{extentAt}
+use Rattle.texts.specs.Answers.{Passing}
 use Rattle.texts.specs.Ascii.{few-are, inside-are}
-use Rattle.texts.specs.At.{characters-none}
-use Rattle.texts.proofs.Strings.{Along, along-end, along-fault, along-more, char-says}
-use Rattle.texts.proofs.AsciiRuns.{along-run, steps-few, along-steps}
+use Rattle.texts.proofs.Strings.{passing-end, passing-fault, passing-more, char-says}
+use Rattle.texts.proofs.AsciiRuns.{passing-run, steps-few, passing-steps}
 use Rattle.texts.proofs.characters.Statement.{statement}
 use Rattle.texts.proofs.characters.Tie as tie
 
 abbrev Inv-loop : tie.InvT-loop
-Inv-loop message at units start here₀ left₀ bytes₀ here left bytes =
-    Along (extentAt (characters units) message at) (extentAt (characters left) message here) message at here bytes
+Inv-loop message at units start here₀ left₀ bytes₀ here left bytes = Passing units message at here left bytes
 
 abbrev μ-loop : tie.MeasureT-loop
 μ-loop message at units start here₀ left₀ bytes₀ here left bytes = left
@@ -25,7 +22,7 @@ sub-left : tie.Need-sub-left Inv-loop μ-loop
 sub-left c = steps-few _ _ _ (c .before .before .pre) (c .ascii-start .ensures) .0
 
 loop-holds : tie.Need-loop-holds Inv-loop μ-loop
-loop-holds c = along-steps _ _ _ (c .before .before .pre) (c .ascii-start .ensures)
+loop-holds c = passing-steps _ _ _ (c .before .before .pre) (c .ascii-start .ensures)
 
 -- ---- a run of ASCII
 add-here-2 : tie.Need-add-here-2 Inv-loop μ-loop
@@ -43,13 +40,13 @@ loop-less : tie.Need-loop-less Inv-loop μ-loop
 loop-less c = omega (arith, few-are _ _ _ (c .before .ascii .ensures))
 
 loop-again : tie.Need-loop-again Inv-loop μ-loop
-loop-again c = along-run _ (c .before .before .before .loop .inv) (c .before .ascii .ensures)
+loop-again c = passing-run (c .before .before .before .loop .inv) (omega arith) (c .before .ascii .ensures)
 
 -- ---- a character
 returns : tie.Need-returns Inv-loop μ-loop
 returns c =
     let R = c .before .before .before .before .before .before .before .loop .inv in
-    along-fault R _ _ (char-says (c .before .before .before .character .ensures) (c .before .number .given .1))
+    passing-fault R _ _ (char-says (c .before .before .before .character .ensures) (c .before .number .given .1))
 
 add-here-3 : tie.Need-add-here-3 Inv-loop μ-loop
 add-here-3 c = omega (arith, char-says (c .before .before .before .character .ensures) (c .before .size .given .1) .2)
@@ -72,10 +69,10 @@ loop-again-2 : tie.Need-loop-again-2 Inv-loop μ-loop
 loop-again-2 c =
     let R = c .before .before .before .before .before .before .before .loop .inv in
     let s = char-says (c .before .before .before .character .ensures) (c .before .size .given .1) in
-    along-more R _ _ _ (s .0) (s .5) (s .2)
+    passing-more R _ _ _ (s .0) (s .4) (s .5) (s .2)
 
 returns-2 : tie.Need-returns-2 Inv-loop μ-loop
-returns-2 c = search (along-end, characters-none, needs)
+returns-2 c = search (passing-end, needs)
 
 pub characters-spec : {M : Type 1} → statement M
 characters-spec =

@@ -1,20 +1,162 @@
--- `texts::read_string` meets its contract.
-use mathlib.Core.Path.{sym}
+-- The loop's invariant: what is left reads as the whole does, but for the content so far, of which the parts of the
+-- shortest form are known. The measure is how many bytes are left.
+use mathlib.Core.Path.{_≡_}
+use mathlib.Core.Logic.{⊎-elim}
+use Prim.Native.Nat.{_+_, _-_}
+use native.Mathlib.Omega.{arith}
 use borrow.Author.Needs.{needs}
-use Rattle.scalar.specs.TextAt.{string-ends}
-use Rattle.scalar.specs.AnswerLaws.{measured-as}
-use Rattle.texts.proofs.Strings.{joining-start}
+use lib.ListN.{length, take, drop}
+use Rattle.scalar.specs.TextUnits.{weights}
+use Rattle.scalar.specs.Decoded.{decoded}
+use Rattle.scalar.specs.StringLengths.{parts, partsAfter}
+use Rattle.texts.specs.Answers.{Parting}
+use Rattle.texts.proofs.Strings.{parting-start, parting-filled, on-none, on-fault, on-inside, on-place, on-few}
+use Rattle.texts.proofs.Strings.{on-cuts, on-room, on-cut, on-within, on-size, on-end, on-bytes, on-units, on-behind, on-shrinks}
+use Rattle.texts.proofs.Strings.{on-more, on-filled, on-last, on-shortest, on-heads, on-parts}
 use Rattle.texts.proofs.read_string.Statement.{statement}
 use Rattle.texts.proofs.read_string.Tie as tie
+use Rattle.texts.proofs.read_string.Reads as reads
+use Rattle.texts.proofs.read_string.Lts as lts
+use Rattle.texts.proofs.after_cut.Reads as after-cut-reads
+use Rattle.texts.proofs.chunk.Reads as chunk-reads
+use Rattle.texts.proofs.last_head_size.Reads as last-head-size-reads
 
-returns : tie.Need-returns
-returns c = sym (measured-as _ _ _ (string-ends _ _ _ (c .if1 .taken)))
+abbrev Inv-loop : tie.InvT-loop
+Inv-loop kind message at len here₀ total₀ bytes₀ cuts₀ filled₀ here total bytes cuts filled =
+    Parting kind message at here total bytes (parts cuts filled)
 
-read-on-requires : tie.Need-read-on-requires
-read-on-requires c κs = search (joining-start, needs)
+abbrev μ-loop : tie.MeasureT-loop
+μ-loop kind message at len here₀ total₀ bytes₀ cuts₀ filled₀ here total bytes cuts filled =
+    length message - here
 
-returns-2 : tie.Need-returns-2
-returns-2 c = search needs
+returns : tie.Need-returns Inv-loop μ-loop
+returns c = search (on-none, needs)
+
+loop-holds : tie.Need-loop-holds Inv-loop μ-loop
+loop-holds c = search (parting-start, needs)
+
+-- ---- a chunk
+returns-2 : tie.Need-returns-2 Inv-loop μ-loop
+returns-2 c = search (on-fault, needs)
+
+-- ---- a cut falls in it, or it fits the open part
+sub-if2 : tie.Need-sub-if2 Inv-loop μ-loop
+sub-if2 c = search (parting-filled, needs)
+
+add-after-cut : tie.Need-add-after-cut Inv-loop μ-loop
+add-after-cut c = search (on-place, needs)
+
+sub-after-cut : tie.Need-sub-after-cut Inv-loop μ-loop
+sub-after-cut c = search (parting-filled, needs)
+
+after-cut-requires : tie.Need-after-cut-requires Inv-loop μ-loop
+after-cut-requires c κs = (search (on-inside, needs), search needs, search (on-few, needs))
+
+add-cuts : tie.Need-add-cuts Inv-loop μ-loop
+add-cuts c = search (on-cuts, needs)
+
+add-filled : tie.Need-add-filled Inv-loop μ-loop
+add-filled c = search (on-room, needs)
+
+-- the parts after it
+abbrev calls : lts.Claims
+calls = (
+  chunk-reads.Asked,
+  chunk-reads.Learnt,
+  after-cut-reads.Asked,
+  after-cut-reads.Learnt,
+  last-head-size-reads.Asked,
+  last-head-size-reads.Learnt,
+)
+
+leads : (c : lts.Joined2 calls reads.Pre reads.Post Inv-loop μ-loop)
+    → let head = c .before .before in
+    let loop = head .before .before .before in
+    let start = loop .before .before .before in
+    partsAfter (loop .loop .cuts) (loop .loop .filled)
+    (weights (start .args .kind)
+    (decoded (start .args .kind)
+    (take (head .h .given .0 .1 .0) (drop (loop .loop .here + head .h .given .0 .0) (start .args .message .now)))))
+    ≡ parts (c .if2 .cuts) (c .if2 .filled)
+leads c =
+    let head = c .before .before in
+    let read = head .before .before in
+    let loop = read .before in
+    let fit = loop .before .before .shared-slice-known .given in
+    ⊎-elim
+    (λ w.
+    on-cut (loop .loop .inv) fit _ (read .chunk .ensures) _ _ _ _ _ (head .h .given .1) _ (w .1 .ensures) _ _ (w .2)
+    (w .3))
+    (λ w.
+    on-within (loop .loop .inv) fit _ (read .chunk .ensures) _ _ _ _ _ (head .h .given .1) (omega arith) _ _ (w .1)
+    (w .2))
+    (c .if2 .came)
+
+add-here : tie.Need-add-here Inv-loop μ-loop
+add-here c = search (on-size, needs)
+
+add-here-2 : tie.Need-add-here-2 Inv-loop μ-loop
+add-here-2 c = search (on-end, needs)
+
+add-total : tie.Need-add-total Inv-loop μ-loop
+add-total c = search (on-units, needs)
+
+add-bytes : tie.Need-add-bytes Inv-loop μ-loop
+add-bytes c = search (on-bytes, needs)
+
+-- ---- the last
+sub-t23 : tie.Need-sub-t23 Inv-loop μ-loop
+sub-t23 c = search (on-behind, needs)
+
+mul-t24 : tie.Need-mul-t24 Inv-loop μ-loop
+mul-t24 c = search (on-heads, leads (c .before .before), needs)
+
+add-t25 : tie.Need-add-t25 Inv-loop μ-loop
+add-t25 c = search (on-parts, leads (c .before .before), needs)
+
+last-head-size-requires : tie.Need-last-head-size-requires Inv-loop μ-loop
+last-head-size-requires c κs = search (on-filled, leads (c .before .before), needs)
+
+add-t27 : tie.Need-add-t27 Inv-loop μ-loop
+add-t27 c = search (on-shortest, leads (c .before .before .before), needs)
+
+returns-3 : tie.Need-returns-3 Inv-loop μ-loop
+returns-3 c = search (on-last, leads (c .before .before .before), needs)
+
+-- ---- another
+loop-less : tie.Need-loop-less Inv-loop μ-loop
+loop-less c = search (on-shrinks, needs)
+
+loop-again : tie.Need-loop-again Inv-loop μ-loop
+loop-again c = search (on-more, leads (c .before), needs)
 
 pub read-string-spec : {M : Type 1} → statement M
-read-string-spec = tie.close (tie.spec returns read-on-requires returns-2)
+read-string-spec =
+    tie.close
+    (tie.spec
+    Inv-loop
+    μ-loop
+    returns
+    loop-holds
+    (λ c κs. search needs)
+    (λ c. search needs)
+    returns-2
+    (λ c. search needs)
+    sub-if2
+    add-after-cut
+    sub-after-cut
+    after-cut-requires
+    add-cuts
+    add-filled
+    add-here
+    add-here-2
+    add-total
+    add-bytes
+    sub-t23
+    mul-t24
+    add-t25
+    last-head-size-requires
+    add-t27
+    returns-3
+    loop-less
+    loop-again)

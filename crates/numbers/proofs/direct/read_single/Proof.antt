@@ -1,8 +1,8 @@
 -- The only form of each kind.
 use mathlib.Core.Path.{ap, _∙_}
 use borrow.Author.Needs.{needs}
-use Rattle.scalar.specs.Scalars.{formsOf}
 use Rattle.scalar.specs.FormLaws.{forms-null, forms-false, forms-true}
+use Rattle.scalar.specs.Scalars.{formsOf}
 use Rattle.numbers.proofs.direct.read_single.Statement.{statement}
 use Rattle.numbers.proofs.direct.read_single.Tie as tie
 

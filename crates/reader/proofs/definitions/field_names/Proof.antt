@@ -1,18 +1,18 @@
 -- The loop's invariant: what is left reads as the whole does, with the rows so far in front. The measure is how many
 -- names are left.
-use Prim.Native.Nat.{_-_}
 use borrow.Author.Needs.{needs}
+use Prim.Native.Nat.{_-_}
 use Rattle.reader.proofs.ClassDefinitions.{ReadingNames, names-start, names-more, name-fits, names-done}
 use Rattle.reader.proofs.ClassDefinitions.{names-refused}
 use Rattle.reader.proofs.definitions.field_names.Statement.{statement}
 use Rattle.reader.proofs.definitions.field_names.Tie as tie
 
 abbrev Inv-loop : tie.InvT-loop
-Inv-loop message numbers₀ bytes₀ from count here₀ i₀ numbers bytes here i =
-    ReadingNames message numbers₀ bytes₀ from count numbers bytes here i
+Inv-loop message numbers₀ bytes₀ from count measuring here₀ sum₀ i₀ numbers bytes here sum i =
+    ReadingNames measuring message numbers₀ bytes₀ from count numbers bytes here sum i
 
 abbrev μ-loop : tie.MeasureT-loop
-μ-loop message numbers₀ bytes₀ from count here₀ i₀ numbers bytes here i = count - i
+μ-loop message numbers₀ bytes₀ from count measuring here₀ sum₀ i₀ numbers bytes here sum i = count - i
 
 loop-holds : tie.Need-loop-holds Inv-loop μ-loop
 loop-holds c = search (names-start, needs)
@@ -44,6 +44,7 @@ field-names-spec =
     (λ c. search needs)
     (λ c. search needs)
     (λ c. search needs)
+    (λ c κs. search needs)
     (λ c κs. search needs)
     add-here
     (λ c. search needs)

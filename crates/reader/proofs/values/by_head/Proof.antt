@@ -1,14 +1,22 @@
 -- Each way out has its law in proofs/Containers.antt.
-use Rattle.reader.proofs.Containers.{head-refused, head-leaf, head-holder, head-defined, leaf-fits, holder-fits}
 use borrow.Author.Needs.{needs}
+use Rattle.reader.proofs.Containers.{head-refused, head-leaf, head-holder, head-defined, leaf-fits, leaf-length, inner-fits}
+use Rattle.reader.proofs.Containers.{holder-fits}
+use mathlib.Core.Path.{refl}
 use Rattle.reader.proofs.values.by_head.Statement.{statement}
 use Rattle.reader.proofs.values.by_head.Tie as tie
 
 add-after : tie.Need-add-after
 add-after c = search (leaf-fits, needs)
 
+add-leaf-requires : tie.Need-add-leaf-requires
+add-leaf-requires c κs = search (leaf-length, needs)
+
+add-t31 : tie.Need-add-t31
+add-t31 c = search (inner-fits, needs)
+
 open-holder-requires : tie.Need-open-holder-requires
-open-holder-requires c κs = search (holder-fits, needs)
+open-holder-requires c κs = (search (holder-fits, needs), refl)
 
 returns : tie.Need-returns
 returns c = search (head-refused, needs)
@@ -30,7 +38,10 @@ by-head-spec =
     (λ c. search needs)
     add-after
     (λ c κs. search needs)
+    add-leaf-requires
     (λ c. search needs)
+    add-t31
+    (λ c κs. search needs)
     open-holder-requires
     (λ c. search needs)
     returns

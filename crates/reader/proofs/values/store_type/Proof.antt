@@ -4,11 +4,11 @@ use Rattle.reader.proofs.Containers.{named-fits, numbered-fits, stores-
 use Rattle.reader.proofs.values.store_type.Statement.{statement}
 use Rattle.reader.proofs.values.store_type.Tie as tie
 
-add-t11 : tie.Need-add-t11
-add-t11 c = search (named-fits, needs)
+add-t12 : tie.Need-add-t12
+add-t12 c = search (named-fits, needs)
 
-add-t19 : tie.Need-add-t19
-add-t19 c = search (numbered-fits, needs)
+add-t20 : tie.Need-add-t20
+add-t20 c = search (numbered-fits, needs)
 
 returns : tie.Need-returns
 returns c = search (stores-untyped, needs)
@@ -25,10 +25,10 @@ store-type-spec =
     (tie.spec
     (λ c. search needs)
     (λ c. search needs)
-    add-t11
+    add-t12
     (λ c κs. search needs)
     (λ c. search needs)
-    add-t19
+    add-t20
     (λ c κs. search needs)
     returns
     (λ c. search needs)
