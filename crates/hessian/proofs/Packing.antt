@@ -11,30 +11,30 @@ use Rattle.record.specs.Model.Claims.{contentAt}
 use Rattle.record.specs.Model.Answers.{base, baseOpenFrom, asBytes, lentRows}
 use Rattle.record.specs.Model.Calls.{ReadCall, WriteCall}
 use Rattle.record.specs.Laws.Bounds.{answer-small, written-small}
-use Rattle.reader.specs.declared.ReadAnswer.{ReadAnswer}
-use Rattle.reader.specs.declared.ReadAnswer.the-variants.{Accepted, Refused, TooFew}
-use Rattle.reader.specs.Answers.{report}
+use Rattle.reader.specs.declared.FillAnswer.{FillAnswer}
+use Rattle.reader.specs.declared.FillAnswer.the-variants.{Accepted, Refused, TooFew}
+use Rattle.reader.specs.Answers.{fillReport}
 use Rattle.writer.specs.declared.WriteAnswer.{WriteAnswer}
 use Rattle.writer.specs.declared.WriteAnswer.the-variants as wrote
 use Rattle.writer.specs.Answers as writes
 use Rattle.hessian.specs.Packed.{packed, answer, ReadGives, WriteGives}
 
 -- ---- reading
-module _ (ρ : DoubleRule) (m t : List ℕ) (r : ReadAnswer) (t′ : List ℕ)
-    (g : ReadCall ρ base asBytes m t (report r) t′) where
-  small : (r′ : ReadAnswer) → r ≡ r′ → (report r′ .count ≤ base .longest) × (report r′ .place ≤ base .longest)
+module _ (ρ : DoubleRule) (m t : List ℕ) (r : FillAnswer) (t′ : List ℕ)
+    (g : ReadCall ρ base asBytes m t (fillReport r) t′) where
+  small : (r′ : FillAnswer) → r ≡ r′ → (fillReport r′ .count ≤ base .longest) × (fillReport r′ .place ≤ base .longest)
   small r′ h =
       let s = answer-small ρ base (lentRows asBytes t) m (g .bytes) in
-      let f = ap report (sym h) ∙ g .report in
+      let f = ap fillReport (sym h) ∙ g .report in
       let c = ap (λ (x : Report). x .count) f in
       let p = ap (λ (x : Report). x .place) f in
       (omega (arith, s .0), omega (arith, s .1))
 
-  pub rows-small : (n k w : ℕ) → r ≡ Accepted n k w → n ≤ base .longest
-  rows-small n k w h = small (Accepted n k w) h .0
+  pub rows-small : (n k : ℕ) → r ≡ Accepted n k → n ≤ base .longest
+  rows-small n k h = small (Accepted n k) h .0
 
-  pub length-small : (n k w : ℕ) → r ≡ Accepted n k w → k ≤ base .longest
-  length-small n k w h = small (Accepted n k w) h .1
+  pub length-small : (n k : ℕ) → r ≡ Accepted n k → k ≤ base .longest
+  length-small n k h = small (Accepted n k) h .1
 
   pub place-small : (x o : ℕ) → r ≡ Refused x o → o ≤ base .longest
   place-small x o h = small (Refused x o) h .1
@@ -42,11 +42,11 @@ module _ (ρ : DoubleRule) (m t : List ℕ) (r : ReadAnswer) (t′ : List ℕ)
   pub needed-small : (n : ℕ) → r ≡ TooFew n → n ≤ base .longest
   needed-small n h = small (TooFew n) h .0
 
-  packed-as : (r′ : ReadAnswer) → r ≡ r′ → (v : ℕ) → v ≡ packed (report r′) → ReadGives ρ m t v t′
-  packed-as r′ h v q = record { report = report r; call = g; as-one = q ∙ ap packed (ap report (sym h)) }
+  packed-as : (r′ : FillAnswer) → r ≡ r′ → (v : ℕ) → v ≡ packed (fillReport r′) → ReadGives ρ m t v t′
+  packed-as r′ h v q = record { report = fillReport r; call = g; as-one = q ∙ ap packed (ap fillReport (sym h)) }
 
-  pub packed-accepted : (n k w v : ℕ) → r ≡ Accepted n k w → v ≡ packed (answer 0 n k) → ReadGives ρ m t v t′
-  packed-accepted n k w v h q = packed-as (Accepted n k w) h v q
+  pub packed-accepted : (n k v : ℕ) → r ≡ Accepted n k → v ≡ packed (answer 0 n k) → ReadGives ρ m t v t′
+  packed-accepted n k v h q = packed-as (Accepted n k) h v q
 
   pub packed-refused : (x o v : ℕ) → r ≡ Refused x o → v ≡ packed (answer x 0 o) → ReadGives ρ m t v t′
   packed-refused x o v h q = packed-as (Refused x o) h v q

@@ -33,6 +33,9 @@ of-writer-write s t n o r o′ g = of-numbers .writing s t n o _ o′ g
 pub of-reader-read-bytes : demands.OfReaderReadBytes
 of-reader-read-bytes ρ m t r t′ g = (of-bytes .reading ρ m t _ t′ (g .call), of-bytes .measuring ρ m t _ _ t′ g)
 
+pub of-reader-fill-bytes : demands.OfReaderFillBytes
+of-reader-fill-bytes ρ m t r t′ g = of-bytes .reading ρ m t _ t′ g
+
 pub of-writer-write-bytes : demands.OfWriterWriteBytes
 of-writer-write-bytes s t n o r o′ g = of-bytes .writing s t n o _ o′ g
 

@@ -1,7 +1,7 @@
 -- The demands, of each public function that reads or writes whole messages: instances of record's theorem
--- (Theorems/Demands.antt), for 01's limits and threshold. A call is what its function promises: MeasuredCall and
--- WriteCall of the answer's report (and length), and for C ReadGives, LengthGives, WriteGives and ContentGives
--- (Packed.antt). The proofs are in Called.antt.
+-- (Theorems/Demands.antt), for 01's limits and threshold. A call is what its function promises: MeasuredCall,
+-- ReadCall and WriteCall of the answer's report (and length), and for C ReadGives, LengthGives, WriteGives and
+-- ContentGives (Packed.antt). The proofs are in Called.antt.
 use mathlib.Core.{Path._≡_, Logic._↔_, Bool.true, List.List, List.map}
 use Prim.Native.Nat.{ℕ, _≤_, _<_}
 use lib.ListN.{length, take}
@@ -15,8 +15,9 @@ use Rattle.record.specs.Model.Answers.{base, baseOpenFrom, asNumbers, asBytes, 
 use Rattle.record.specs.Model.Terms.{rowInThousandths}
 use Rattle.record.specs.Model.Same.{SameRecord}
 use Rattle.record.specs.Model.Hops.{Skippable}
-use Rattle.record.specs.Model.Calls.{MeasuredCall, WriteCall, RecordOf, ShortestOf}
+use Rattle.record.specs.Model.Calls.{ReadCall, MeasuredCall, WriteCall, RecordOf, ShortestOf}
 use Rattle.record.specs.Theorems.Demands.{OfRead, OfLength, OfWrite, Demanded}
+use Rattle.reader.specs.declared.FillAnswer.{FillAnswer}
 use Rattle.reader.specs.declared.ReadAnswer.{ReadAnswer}
 use Rattle.reader.specs.Answers as reader
 use Rattle.writer.specs.declared.WriteAnswer.{WriteAnswer}
@@ -47,6 +48,11 @@ OfReaderReadBytes = (ρ : DoubleRule) (m t : List ℕ) (r : ReadAnswer) (t′ : 
     → MeasuredCall ρ base asBytes m t (reader.report r) (reader.shortest r) t′
     → OfRead ρ base asBytes m t (reader.report r) t′
     × OfLength ρ base baseOpenFrom asBytes m (reader.report r) (reader.shortest r) t′
+
+-- reader::fill_bytes and fill_bytes_thousandths, which do not measure
+abbrev pub OfReaderFillBytes : Type 0
+OfReaderFillBytes = (ρ : DoubleRule) (m t : List ℕ) (r : FillAnswer) (t′ : List ℕ)
+    → ReadCall ρ base asBytes m t (reader.fillReport r) t′ → OfRead ρ base asBytes m t (reader.fillReport r) t′
 
 abbrev pub OfWriterWriteBytes : Type 0
 OfWriterWriteBytes = (s t : List ℕ) (n : ℕ) (o : List ℕ) (r : WriteAnswer) (o′ : List ℕ)

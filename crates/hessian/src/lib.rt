@@ -1,7 +1,7 @@
 // The C interface: include/hessian.h declares these functions. A table crosses as bytes, eight big-endian bytes a
 // number, and the answer of the reader and of the writer as one number, a length as it is, other answers as a struct.
 // What a call gives stands in specs/Packed.antt, what follows from it in specs/Demands.antt.
-use reader::ReadAnswer;
+use reader::FillAnswer;
 use record::kinds::BYTES;
 use record::kinds::CLASS_NAME;
 use record::kinds::TEXT;
@@ -43,14 +43,10 @@ fn pack(number: u8, count: usize, place: usize) -> u64
 pub extern "C" fn hessian_read(message: &[u8], table: &mut [u8]) -> u64
     ensures { λ r. ⌜ ReadGives Floats (now (message .entry)) (now (table .entry)) r (now (table .exit)) ⌝ }
 {
-    match reader::read_bytes(message, table) {
-        ReadAnswer::Accepted {
-            rows,
-            length,
-            shortest: _,
-        } => pack(0, rows, length),
-        ReadAnswer::Refused { number, place } => pack(number, 0, place),
-        ReadAnswer::TooFew { needed } => pack(ROOM, needed, 0),
+    match reader::fill_bytes(message, table) {
+        FillAnswer::Accepted { rows, length } => pack(0, rows, length),
+        FillAnswer::Refused { number, place } => pack(number, 0, place),
+        FillAnswer::TooFew { needed } => pack(ROOM, needed, 0),
     }
 }
 
@@ -59,14 +55,10 @@ pub extern "C" fn hessian_read(message: &[u8], table: &mut [u8]) -> u64
 pub extern "C" fn hessian_read_thousandths(message: &[u8], table: &mut [u8]) -> u64
     ensures { λ r. ⌜ ReadGives Thousandths (now (message .entry)) (now (table .entry)) r (now (table .exit)) ⌝ }
 {
-    match reader::read_bytes_thousandths(message, table) {
-        ReadAnswer::Accepted {
-            rows,
-            length,
-            shortest: _,
-        } => pack(0, rows, length),
-        ReadAnswer::Refused { number, place: at } => pack(number, 0, at),
-        ReadAnswer::TooFew { needed: rows } => pack(ROOM, rows, 0),
+    match reader::fill_bytes_thousandths(message, table) {
+        FillAnswer::Accepted { rows, length } => pack(0, rows, length),
+        FillAnswer::Refused { number, place: at } => pack(number, 0, at),
+        FillAnswer::TooFew { needed: rows } => pack(ROOM, rows, 0),
     }
 }
 

@@ -23,10 +23,13 @@ use Rattle.scalar.specs.declared.Begun.{Begun}
 use Rattle.scalar.specs.declared.Begun.the-variants.{Starts, NoForm}
 use Rattle.scalar.specs.Scalars.{value, Form, form, formsOf, formAt, shortest}
 use Rattle.scalar.specs.Grammar.{Number, held, here, later}
-use Rattle.scalar.specs.Answers.{numberAt, lengthOf}
+use Rattle.scalar.specs.Answers.{numberAt, lengthOf, lengthRead}
 use Rattle.scalar.specs.NumberLengths.{length-read}
+use Rattle.numbers.specs.declared.NumberPassed.{NumberPassed}
+use Rattle.numbers.specs.declared.NumberPassed.the-variants as number-passed
+use Rattle.numbers.specs.declared.NumberRead.{NumberRead}
 use Rattle.numbers.specs.declared.NumberRead.the-variants.{Value, Refused}
-use Rattle.numbers.specs.Answers.{NumberMet, Takes}
+use Rattle.numbers.specs.Answers.{passed, Measured, NumberMet, Takes}
 use Rattle.scalar.specs.FormLaws.{forms-null, forms-false, forms-true, forms-int, forms-long, forms-double, forms-date}
 use Rattle.scalar.specs.FormLaws.{form-none, form-either}
 use Rattle.scalar.specs.NumberLaws.{size, form-here, form-skip, clear, proper, number-apart}
@@ -118,26 +121,17 @@ form-suits (w ∷ ws) b h = form-either Suits w ws b
 pub suits : (s : Sort) (b k u : ℕ) (r : Rule) → formAt (formsOf s) b ≡ Starts k u r → Suits (Starts k u r)
 suits s b k u r e = subst Suits e (form-suits (formsOf s) b (rooms s))
 
--- ---- an answer, with the length of the shortest form: a refusal has none
 module _ (s : Sort) (m : List ℕ) (p : ℕ) where
-  pub met-refused : {x o : ℕ} → Fault x o ≡ numberAt s m p → NumberMet s m p (Refused x o)
-  met-refused e = record { says = e; shortest = length-read s m p e }
-
-  pub met-value : {n v w : ℕ} → Done n v [] tt ≡ numberAt s m p → w ≡ lengthOf (shortest (formsOf s) v)
-      → NumberMet s m p (Value v n w)
-  met-value e l = record { says = e; shortest = l ∙ length-read s m p e }
-
-module _ (s : Sort) (m : List ℕ) (p : ℕ) where
-  pub reads-end : length m ≤ p → NumberMet s m p (Refused 2 (length m))
-  reads-end l = met-refused s m p (sym (number-ends s m p l))
+  pub reads-end : length m ≤ p → Fault 2 (length m) ≡ numberAt s m p
+  reads-end l = sym (number-ends s m p l)
 
   module _ (l : p < length m) (x : Begun) (is : x ≡ formAt (formsOf s) (getD m p 0)) where
-    pub reads-none : x ≡ NoForm → NumberMet s m p (Refused 3 p)
-    reads-none e = met-refused s m p (sym (number-none s m p l (sym is ∙ e)))
+    pub reads-none : x ≡ NoForm → Fault 3 p ≡ numberAt s m p
+    reads-none e = sym (number-none s m p l (sym is ∙ e))
 
     module _ (k u : ℕ) (r : Rule) (e : x ≡ Starts k u r) where
-      pub reads-cut : length m - p ≤ k → NumberMet s m p (Refused 2 (length m))
-      reads-cut h = met-refused s m p (sym (number-cut s m p l k u r (sym is ∙ e) (omega arith)))
+      pub reads-cut : length m - p ≤ k → Fault 2 (length m) ≡ numberAt s m p
+      reads-cut h = sym (number-cut s m p l k u r (sym is ∙ e) (omega arith))
 
       module _ (bytes : (i : ℕ) → Fits w8 (getD m i 0)) (h : k < length m - p) (n : ℕ)
           (at : n ≡ joined u (take k (drop (p + 1) m)) % 2 ^ 64) where
@@ -155,10 +149,27 @@ module _ (s : Sort) (m : List ℕ) (p : ℕ) where
         pub reads-takes : Takes r n
         reads-takes = rw same (suited .1)
 
-        pub reads-value : (v w : ℕ) → v ≡ value r n → w ≡ lengthOf (shortest (formsOf s) v)
-            → NumberMet s m p (Value v (k + 1) w)
-        reads-value v w q i =
-            met-value s m p
-            (ap (λ (z : ℕ). Done (k + 1) z [] tt) (q ∙ ap (value r) same)
-            ∙ rw (add-one p, add-one k) (sym (number-there s m p l k u r (sym is ∙ e) (omega arith))))
-            i
+        pub reads-value : (v : ℕ) → v ≡ value r n → Done (k + 1) v [] tt ≡ numberAt s m p
+        reads-value v q =
+            ap (λ (z : ℕ). Done (k + 1) z [] tt) (q ∙ ap (value r) same)
+            ∙ rw (add-one p, add-one k) (sym (number-there s m p l k u r (sym is ∙ e) (omega arith)))
+
+-- ---- with the length of the shortest form
+module _ (s : Sort) {n : NumberPassed} where
+  pub measured-refused : {x o : ℕ} → n ≡ number-passed.Refused x o → Measured s n (Refused x o)
+  measured-refused e = record {
+    says = sym (ap passed e);
+    shortest = sym (ap (λ (a : NumberPassed). lengthRead s (passed a)) e);
+  }
+
+  pub measured-value : {v k w : ℕ} → n ≡ number-passed.Value v k → w ≡ lengthOf (shortest (formsOf s) v)
+      → Measured s n (Value v k w)
+  measured-value e l = record {
+    says = sym (ap passed e);
+    shortest = l ∙ sym (ap (λ (a : NumberPassed). lengthRead s (passed a)) e);
+  }
+
+-- what is measured is what was passed
+pub met-measured : (s : Sort) (m : List ℕ) (p : ℕ) {n : NumberPassed} {r : NumberRead} → passed n ≡ numberAt s m p
+    → Measured s n r → NumberMet s m p r
+met-measured s m p e h = record { says = h .says ∙ e; shortest = h .shortest ∙ length-read s m p e }

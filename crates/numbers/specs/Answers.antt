@@ -16,13 +16,20 @@ use Rattle.scalar.specs.declared.Rule.the-variants.{WholeByte, WholePair, Float
 use Rattle.scalar.specs.declared.Written.{Written}
 use Rattle.scalar.specs.Scalars.{value, Form, form, formsOf}
 use Rattle.scalar.specs.Answers.{numberAt, lengthRead, numberLengthAt, report, reportOf, outputOf}
+use Rattle.numbers.specs.declared.NumberPassed.{NumberPassed}
+use Rattle.numbers.specs.declared.NumberPassed.the-variants as number-passed
 use Rattle.numbers.specs.declared.NumberRead.{NumberRead}
 use Rattle.numbers.specs.declared.NumberRead.the-variants.{Value, Refused}
 use Rattle.numbers.specs.declared.stores.Codes.{Codes}
 use Rattle.numbers.specs.declared.Spelling.{Spelling}
 use Rattle.numbers.specs.declared.Spelling.the-variants as spelling
 
--- a value read, and the bytes it takes; or a refusal's number and place
+-- a value passed, and the bytes it takes; or a refusal's number and place
+abbrev pub passed : NumberPassed → Answer ℕ
+passed (number-passed.Value v n) = Done n v [] tt
+passed (number-passed.Refused x o) = Fault x o
+
+-- the same of a value read
 abbrev pub told : NumberRead → Answer ℕ
 told (Value v n w) = Done n v [] tt
 told (Refused x o) = Fault x o
@@ -38,15 +45,15 @@ pub record NumberMet (s : Sort) (m : List ℕ) (p : ℕ) (r : NumberRead) : Type
   pub shortest : toldLength r ≡ numberLengthAt s m p
 
 -- ---- inside the code
+-- a value of the kind s as it was passed, and the length of its shortest form
+pub record Measured (s : Sort) (n : NumberPassed) (r : NumberRead) : Type 0 where
+  pub says : told r ≡ passed n
+  pub shortest : toldLength r ≡ lengthRead s (passed n)
+
 -- reading the form with k bytes after the first, which is at p and holds u
 abbrev pub formRead : List ℕ → ℕ → ℕ → ℕ → Rule → Answer ℕ
 formRead m p k u r =
     pick (leb (length m - p) k) (Fault 2 (length m)) (Done (k + 1) (value r (joined u (take k (drop (p + 1) m)))) [] tt)
-
--- what reading that form, of a value of the kind s, answers
-pub record FormMet (s : Sort) (m : List ℕ) (p k u : ℕ) (x : Rule) (r : NumberRead) : Type 0 where
-  pub says : told r ≡ formRead m p k u x
-  pub shortest : toldLength r ≡ lengthRead s (told r)
 
 -- the number whose two's complement is v is one from −d to d − 1
 abbrev pub Within : ℕ → ℕ → Type 0

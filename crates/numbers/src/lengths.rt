@@ -11,13 +11,13 @@ ghost use Prim.Native.Nat.{_^_, _<_};
 ghost use mir.Syntax.{w16};
 ghost use mir.Val.{toZ};
 ghost use Rattle.scalar.specs.declared.Sort.the-variants as sort;
-ghost use Rattle.scalar.specs.Scalars.{formsOf, shortest, whole as wholeOf, widened as widenedOf};
+ghost use Rattle.scalar.specs.Scalars.{formsOf, shortest, whole as wholeOf};
 ghost use Rattle.scalar.specs.Answers.{lengthOf};
 ghost use Rattle.numbers.specs.Answers.{HasCodes, Within, singleForm};
 
 // ---- ints and longs; first those that a form of so many bytes holds
 
-pub(crate) fn at_most_two(sort: Sort, codes: Codes, value: u64) -> usize
+fn at_most_two(sort: Sort, codes: Codes, value: u64) -> usize
     requires { ⌜ HasCodes sort codes × Within 0x800 value ⌝ }
     ensures { λ r. ⌜ r ≡ lengthOf (shortest (formsOf sort) value) ⌝ }
 {
@@ -27,7 +27,7 @@ pub(crate) fn at_most_two(sort: Sort, codes: Codes, value: u64) -> usize
     2
 }
 
-pub(crate) fn at_most_three(sort: Sort, codes: Codes, value: u64) -> usize
+fn at_most_three(sort: Sort, codes: Codes, value: u64) -> usize
     requires { ⌜ HasCodes sort codes × Within 0x4_0000 value ⌝ }
     ensures { λ r. ⌜ r ≡ lengthOf (shortest (formsOf sort) value) ⌝ }
 {
@@ -37,7 +37,7 @@ pub(crate) fn at_most_three(sort: Sort, codes: Codes, value: u64) -> usize
     3
 }
 
-pub(crate) fn at_most_five(sort: Sort, codes: Codes, value: u64) -> usize
+fn at_most_five(sort: Sort, codes: Codes, value: u64) -> usize
     requires { ⌜ HasCodes sort codes × Within 0x8000_0000 value ⌝ }
     ensures { λ r. ⌜ r ≡ lengthOf (shortest (formsOf sort) value) ⌝ }
 {
@@ -85,7 +85,7 @@ fn pair_length(u: u64) -> usize
 }
 
 // A double, form by form.
-pub(crate) fn double_by_forms(value: u64) -> usize
+fn double_by_forms(value: u64) -> usize
     ensures { λ r. ⌜ r ≡ lengthOf (shortest (formsOf sort.Double) value) ⌝ }
 {
     let u = doubles::whole_guess(0x1_0000, value);
@@ -98,7 +98,7 @@ pub(crate) fn double_by_forms(value: u64) -> usize
     9
 }
 
-// A double that was read from nine bytes. Those of the shorter forms are multiples of 2 ^ 29.
+// A double. Those of the shorter forms are multiples of 2 ^ 29.
 pub(crate) fn double_length(value: u64) -> usize
     ensures { λ r. ⌜ r ≡ lengthOf (shortest (formsOf sort.Double) value) ⌝ }
 {
@@ -106,20 +106,6 @@ pub(crate) fn double_length(value: u64) -> usize
         return double_by_forms(value);
     }
     9
-}
-
-// The double that a float is, which was read from five. Whole numbers of 16 bits are multiples of 2 ^ 37.
-pub(crate) fn float_length(float: u32, value: u64) -> usize
-    requires { ⌜ value ≡ widenedOf float ⌝ }
-    ensures { λ r. ⌜ r ≡ lengthOf (shortest (formsOf sort.Double) value) ⌝ }
-{
-    if value % 0x20_0000_0000 == 0 {
-        let u = doubles::whole_guess(0x1_0000, value);
-        if doubles::whole_pair(u) == value {
-            return pair_length(u);
-        }
-    }
-    5
 }
 
 // ---- others

@@ -25,9 +25,16 @@ ghost use Rattle.scalar.specs.declared.Rule.the-variants as Rule;
 ghost use Rattle.scalar.specs.declared.Sort.the-variants as Sort;
 ghost use Rattle.scalar.specs.Scalars.{value as valueOf, form, formsOf, formAt, shortest};
 ghost use Rattle.scalar.specs.Guesses.{guess as guessOf};
-ghost use Rattle.scalar.specs.Answers.{lengthOf, report, reportOf, outputOf};
-ghost use Rattle.numbers.specs.Answers.{NumberMet, Takes, Good, spelled, orElse, present, wholeForms, Writes};
+ghost use Rattle.scalar.specs.Answers.{numberAt, lengthOf, report, reportOf, outputOf};
+ghost use Rattle.numbers.specs.Answers.{passed, Measured, NumberMet, Takes, Good, spelled};
+ghost use Rattle.numbers.specs.Answers.{orElse, present, wholeForms, Writes};
 ghost use Rattle.scalar.specs.NumberLaws.{tried};
+
+// What passing a value at a place finds: the value and the bytes that it takes; or a refusal's number and place.
+pub enum NumberPassed {
+    Value { value: u64, size: usize },
+    Refused { number: u8, place: usize },
+}
 
 // What reading a value at a place finds: the value, the bytes that it takes and those of its shortest form; or a
 // refusal's number and place.
@@ -217,38 +224,58 @@ fn value_of(rule: Rule, u: u64) -> u64
     }
 }
 
-// The value of this kind at the place `at` of the message.
-pub fn read_number(sort: Sort, message: &[u8], at: usize) -> NumberRead
-    ensures { λ r. ⌜ NumberMet sort (now (message .entry)) at r ⌝ }
+// The value of this kind at the place `at` of the message, which is not measured.
+pub fn pass_number(sort: Sort, message: &[u8], at: usize) -> NumberPassed
+    ensures { λ r. ⌜ passed r ≡ numberAt sort (now (message .entry)) at ⌝ }
 {
     let len = message.len();
     if len <= at {
-        return NumberRead::Refused {
+        return NumberPassed::Refused {
             number: CUT,
             place: len,
         };
     }
     let begun = form_at(sort, message[at]);
     match begun {
-        Begun::NoForm => NumberRead::Refused {
+        Begun::NoForm => NumberPassed::Refused {
             number: BYTE,
             place: at,
         },
         Begun::Starts { more, held, rule } => {
             if len - at <= more {
-                return NumberRead::Refused {
+                return NumberPassed::Refused {
                     number: CUT,
                     place: len,
                 };
             }
-            let value = value_of(rule, wire::number_at(message, at + 1, more, held));
-            NumberRead::Value {
-                value,
+            NumberPassed::Value {
+                value: value_of(rule, wire::number_at(message, at + 1, more, held)),
                 size: more + 1,
-                shortest: number_length(sort, value),
             }
         }
     }
+}
+
+// A value of this kind as it was passed, with the length of its shortest form.
+pub(crate) fn measured(sort: Sort, n: NumberPassed) -> NumberRead
+    ensures { λ r. ⌜ Measured sort n r ⌝ }
+{
+    match n {
+        NumberPassed::Refused { number, place } => NumberRead::Refused { number, place },
+        NumberPassed::Value { value, size } => NumberRead::Value {
+            value,
+            size,
+            shortest: number_length(sort, value),
+        },
+    }
+}
+
+// The value of this kind at the place `at` of the message.
+pub fn read_number(sort: Sort, message: &[u8], at: usize) -> NumberRead
+    ensures { λ r. ⌜ NumberMet sort (now (message .entry)) at r ⌝ }
+{
+    let n = pass_number(sort, message, at);
+    measured(sort, n)
 }
 
 // ---- the shortest form
@@ -481,7 +508,7 @@ pub fn number_length(sort: Sort, value: u64) -> usize
         Sort::True => lengths::single_length(0x54, value),
         Sort::Int => lengths::int_length(value),
         Sort::Long => lengths::long_length(value),
-        Sort::Double => lengths::double_by_forms(value),
+        Sort::Double => lengths::double_length(value),
         Sort::Date => lengths::date_length(value),
     }
 }

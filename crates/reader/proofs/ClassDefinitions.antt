@@ -13,13 +13,12 @@ use borrow.Author.Tests.{eq-eqb}
 use Rattle.scalar.specs.Scalars.{Floats}
 use Rattle.flow.specs.Flow.{Done, One, byteAt}
 use Rattle.scalar.specs.declared.Lead.the-variants as lead
-use Rattle.scalar.specs.declared.Sort.the-variants.{Int}
 use Rattle.scalar.specs.declared.Encoding.the-variants.{Utf8}
-use Rattle.texts.specs.declared.StringRead.{StringRead}
-use Rattle.texts.specs.declared.StringRead.the-variants.{Content, Refused}
+use Rattle.texts.specs.declared.StringPassed.{StringPassed}
+use Rattle.texts.specs.declared.StringPassed.the-variants.{Content, Refused}
 use Rattle.scalar.specs.ChartLaws.{definition-byte}
 use Rattle.scalar.specs.Answers.{sized, measuredAt}
-use Rattle.texts.specs.Answers.{toldString}
+use Rattle.texts.specs.Answers.{PassedMet}
 use Rattle.record.specs.Model.Items.{Known, Definition, defined}
 use Rattle.record.specs.Model.Reading.{definition, valueFrom}
 use Rattle.record.specs.Model.Rows.{Row, row}
@@ -41,16 +40,14 @@ use Rattle.reader.specs.declared.definitions.DefinitionRead.the-variants
 use Rattle.record.specs.Laws.KnownArray.{knownIn, Kept, definedIn, defined-room, known-defined, kept-defined}
 use Rattle.record.specs.Laws.KnownArray.{references-stay, classes-counted, classesSlot}
 use Rattle.reader.specs.declared.Spot.{Spot}
-use Rattle.record.specs.Laws.RowLengths.{rowLength, measured-length, class-row-length, class-name-row-length}
-use Rattle.record.specs.Laws.RowLengths.{field-name-row-length, number-most}
-use Rattle.reader.specs.Contracts.{summed, added, gathered}
-use Rattle.reader.specs.Contracts.{PlaceIn, ReadyAt, LeadAt, StoresRow, StoresRows, ReadsRows, DefinitionReadSays}
+use Rattle.reader.specs.Contracts.{PlaceIn, ReadyAt, LeadAt, RowRead, StoresRow, StoresRows, ReadsRows}
+use Rattle.reader.specs.Contracts.{DefinitionReadSays}
 use Rattle.reader.specs.Contracts.{CountSays, CountMet, FieldCountMet, ClassReadSays, ClassReadMet, NamesReadSays}
 use Rattle.reader.specs.Contracts.{NamesReadMet, DefinesClass, DefinitionReadMet}
 use Rattle.reader.proofs.Tables.{stores-none, stores-single, stores-on, stores-top, stores-numbers-length}
 use Rattle.reader.proofs.Tables.{stores-bytes-length, reads-none, reads-on}
-use Rattle.reader.proofs.Gathering.{added-plain, gathered-append, gathered-small}
-use Rattle.reader.proofs.Sizes.{string-within}
+use Rattle.reader.proofs.Sizes.{passed-says, string-within, string-has}
+use Rattle.reader.proofs.Leaves.{plain-row, text-row}
 use Rattle.reader.proofs.Leaves.{byte-small}
 
 -- ---- one more class
@@ -68,15 +65,11 @@ pub count-says : {m : List ℕ} {p : ℕ} {x y : Count} → CountMet m p x → x
 count-says {m} {p} t e = subst (CountSays m p) e (t .says)
 
 module _ {m : List ℕ} {p : ℕ} {x : Count} (t : CountMet m p x) where
-  pub fields-lost : (u b j y o : ℕ) → x ≡ count.Refused y o → FieldCountMet m p u b j (class-read.Refused y o)
-  fields-lost u b j y o e = record { says = ⊎-elim (λ l. inl l) (λ n. inr (inl n)) (count-says t e) }
+  pub fields-lost : (u b y o : ℕ) → x ≡ count.Refused y o → FieldCountMet m p u b (class-read.Refused y o)
+  fields-lost u b y o e = record { says = ⊎-elim (λ l. inl l) (λ n. inr (inl n)) (count-says t e) }
 
-  pub count-fits : (v n k : ℕ) → x ≡ count.Is v n k → Fits w64 (k + 1)
-  count-fits v n k e = let s = count-says t e in omega (arith, s .4, number-most Int v)
-
-  pub fields-wide : (u b j v n k : ℕ) → x ≡ count.Is v n k → base .fields < v
-      → FieldCountMet m p u b j (class-read.Refused 7 p)
-  fields-wide u b j v n k e l =
+  pub fields-wide : (u b v n : ℕ) → x ≡ count.Is v n → base .fields < v → FieldCountMet m p u b (class-read.Refused 7 p)
+  fields-wide u b v n e l =
       let s = count-says t e in
       record {
         says = inr (inr (record {
@@ -90,11 +83,11 @@ module _ {m : List ℕ} {p : ℕ} {x : Count} (t : CountMet m p x) where
         }));
       }
 
-  pub fields-few : (u b j v n k : ℕ) → x ≡ count.Is v n k → v ≤ base .fields
-      → FieldCountMet m p u b j (class-read.Is u b v (p + n) (k + 1) j)
-  fields-few u b j v n k e l =
+  pub fields-few : (u b v n : ℕ) → x ≡ count.Is v n → v ≤ base .fields
+      → FieldCountMet m p u b (class-read.Is u b v (p + n))
+  fields-few u b v n e l =
       let s = count-says t e in
-      record { says = (refl, refl, l, (n, s .0, s .2, refl), s .3, omega (arith, s .4), refl) }
+      record { says = (refl, refl, l, (n, s .0, s .2, refl), s .3) }
 
 -- ---- a class's name, and its field count
 module _ {m ks : List ℕ} {p : ℕ} (w : LeadAt m p lead.Definition) (k : Kept ks) where
@@ -108,86 +101,78 @@ module _ {m ks : List ℕ} {p : ℕ} (w : LeadAt m p lead.Definition) (k : Kept 
     past : p + 1 ≤ length m
     past = omega (arith, w .inside)
 
-    module _ {x : StringRead} (t : toldString x ≡ measuredAt Utf8 m (p + 1)) where
+    module _ {x : StringPassed} (t : PassedMet Utf8 m (p + 1) x) where
       pub class-nameless : (y o : ℕ) → x ≡ Refused y o → ClassReadMet m (knownIn ks) p (class-read.Refused y o)
       class-nameless y o e = record {
-        says = definition-nameless base p (knownIn ks) m (p + 1) free past y o (sym t ∙ ap toldString e);
+        says = definition-nameless base p (knownIn ks) m (p + 1) free past y o (passed-says Utf8 m (p + 1) t e);
       }
 
-      module _ (u b z j : ℕ) (e : x ≡ Content u b z j) where
-        there : measuredAt Utf8 m (p + 1) ≡ Done z (sized u b j) [] tt
-        there = sym t ∙ ap toldString e
+      module _ (u b z : ℕ) (e : x ≡ Content u b z) where
+        there : measuredAt Utf8 m (p + 1) ≡ Done z (sized u b (passed-says Utf8 m (p + 1) t e .shortest)) [] tt
+        there = passed-says Utf8 m (p + 1) t e .says
 
         pub class-named : PlaceIn m (p + 1 + z)
-        class-named = record { bytes = w .bytes; within = string-within Utf8 m (w .bytes) (p + 1) t u b z j e .1 }
+        class-named = record { bytes = w .bytes; within = string-within Utf8 m (p + 1) t (w .bytes) u b z e .1 }
 
-        pub class-counted : (r : ClassRead) → FieldCountMet m (p + 1 + z) u b j r → ClassReadMet m (knownIn ks) p r
-        class-counted (class-read.Is u′ b′ n q own j′) y =
+        pub class-counted : (r : ClassRead) → FieldCountMet m (p + 1 + z) u b r → ClassReadMet m (knownIn ks) p r
+        class-counted (class-read.Is u′ b′ n q) y =
             let s = y .says in
             let i = s .3 in
             record {
               says = record {
                 says =
                     rw (s .0, s .1)
-                    (names-in base p (knownIn ks) m (p + 1) free past z u b j there (p + 1 + z) refl (class-named .within)
-                    (i .0) n (i .1) (omega (arith, s .2)) (s .2)
+                    (names-in base p (knownIn ks) m (p + 1) free past z u b _ there (p + 1 + z) refl
+                    (class-named .within) (i .0) n (i .1) (omega (arith, s .2)) (s .2)
                     (run (namesLeft n 0) (knownIn ks) m q) (ap (run (namesLeft n 0) (knownIn ks) m) (sym (i .3))));
                 few = s .2;
                 free = free;
-                onward = omega (arith, string-within Utf8 m (w .bytes) (p + 1) t u b z j e, i .2, i .3);
+                onward = omega (arith, string-within Utf8 m (p + 1) t (w .bytes) u b z e, i .2, i .3);
                 within = s .4;
-                own = λ o. s .5 ∙ sym (class-row-length m p n 0 o);
-                name = s .6 ∙ sym (measured-length Utf8 m (p + 1) z u b j [] tt there)
-                    ∙ sym (class-name-row-length m (p + 1) u′ b′ 1);
+                named = rw (s .0, s .1) (string-has Utf8 m (p + 1) t u b z e);
               };
             }
         class-counted (class-read.Refused y o) s = record {
           says = ⊎-elim
-              (λ l. definition-countless base p (knownIn ks) m (p + 1) free past z u b j there (p + 1 + z) refl
+              (λ l. definition-countless base p (knownIn ks) m (p + 1) free past z u b _ there (p + 1 + z) refl
               (class-named .within) y o l)
               (λ l. ⊎-elim
-              (λ n. rw (n .number, n .place) (definition-negative base p (knownIn ks) m (p + 1) free past z u b j there
+              (λ n. rw (n .number, n .place) (definition-negative base p (knownIn ks) m (p + 1) free past z u b _ there
               (p + 1 + z) refl (class-named .within) (n .size) (n .value) (n .is) (n .below)))
-              (λ n. rw (n .number, n .place) (definition-wide base p (knownIn ks) m (p + 1) free past z u b j there
+              (λ n. rw (n .number, n .place) (definition-wide base p (knownIn ks) m (p + 1) free past z u b _ there
               (p + 1 + z) refl (class-named .within) (n .size) (n .value) (n .is) (n .plain) (n .above)))
               l)
               (s .says);
         }
 
 -- ---- the loop over field names: what is left reads as the whole does, with the rows so far in front
-pub record ReadingNames
-    (w : ℕ) (m t₀ b₀ : List ℕ) (s : Spot) (n : ℕ)
-    (t b : List ℕ) (here sum i : ℕ) : Type 0 where
+pub record ReadingNames (m t₀ b₀ : List ℕ) (s : Spot) (n : ℕ) (t b : List ℕ) (here i : ℕ) : Type 0 where
   pub rows : List Row
   pub says : (c : Known) → front rows (run (namesLeft n i) c m here) ≡ run (namesLeft n 0) c m (s .at)
   pub counted : length rows ≡ i
-  pub measured : sum ≡ gathered w m (s .shortest) rows
-  pub stores : StoresRows t₀ b₀ (s .row) rows t b
+  pub stores : StoresRows m t₀ b₀ (s .row) rows t b
   pub few : i ≤ n
   pub onward : s .at + i ≤ here
   pub inside : here ≤ length m
   pub same-numbers : length t ≡ length t₀
   pub same-bytes : length b ≡ length b₀
 
-pub names-start : (w : ℕ) (m t b : List ℕ) (s : Spot) (n : ℕ) → PlaceIn m (s .at)
-    → ReadingNames w m t b s n t b (s .at) (s .shortest) 0
-names-start w m t b s n h = record {
+pub names-start : (m t b : List ℕ) (s : Spot) (n : ℕ) → PlaceIn m (s .at) → ReadingNames m t b s n t b (s .at) 0
+names-start m t b s n w = record {
   rows = [];
   says = λ c. front-none (run (namesLeft n 0) c m (s .at));
   counted = refl;
-  measured = refl;
-  stores = stores-none t b (s .row);
+  stores = stores-none m t b (s .row);
   few = omega arith;
   onward = omega arith;
-  inside = h .within;
+  inside = w .within;
   same-numbers = refl;
   same-bytes = refl;
 }
 
-module _ {w : ℕ} {m t₀ b₀ : List ℕ} {s : Spot} {n : ℕ} {t b : List ℕ} {here sum i : ℕ}
-    (R : ReadingNames w m t₀ b₀ s n t b here sum i) where
-  pub names-done : n ≤ i
-      → NamesReadMet m t₀ b₀ s n w (names-read.Done (record { at = here; row = s .row + n; shortest = sum })) t b
+module _ {m t₀ b₀ : List ℕ} {s : Spot} {n : ℕ} {t b : List ℕ} {here i : ℕ}
+    (R : ReadingNames m t₀ b₀ s n t b here i) where
+  pub names-done : n ≤ i → NamesReadMet m t₀ b₀ s n (names-read.Done (record { at = here; row = s .row + n })) t b
   names-done l = let e : i ≡ n = omega (arith, R .few) in record {
     says = record {
       rows = R .rows;
@@ -197,47 +182,42 @@ module _ {w : ℕ} {m t₀ b₀ : List ℕ} {s : Spot} {n : ℕ} {t b : List ℕ
           ∙ ap (λ (l : List Row). ReadTo here n l c) (append-nil (R .rows));
       counted = R .counted ∙ e;
       reached = refl;
-      measured = R .measured;
       stores = R .stores;
       onward = omega (arith, R .onward);
       within = R .inside;
     };
   }
 
-  module _ (l : i < n) {x : StringRead} (q : toldString x ≡ measuredAt Utf8 m here) where
-    pub names-refused : (y o : ℕ) → x ≡ Refused y o → NamesReadMet m t₀ b₀ s n w (names-read.Refused y o) t b
+  module _ (l : i < n) {x : StringPassed} (q : PassedMet Utf8 m here x) where
+    pub names-refused : (y o : ℕ) → x ≡ Refused y o → NamesReadMet m t₀ b₀ s n (names-read.Refused y o) t b
     names-refused y o e = record {
       says = λ c.
-          sym (R .says c) ∙ ap (front (R .rows)) (names-lost n i c m here l (R .inside) y o (sym q ∙ ap toldString e));
+          sym (R .says c)
+          ∙ ap (front (R .rows)) (names-lost n i c m here l (R .inside) y o (passed-says Utf8 m here q e));
     }
 
-    pub name-fits : PlaceIn m (s .at) → Fits w64 (length m) → (u h z j : ℕ) → x ≡ Content u h z j
-        → Fits w64 (here + z)
-    name-fits a f u h z j e = let v = string-within Utf8 m (a .bytes) here q u h z j e in omega (arith, v .1)
+    pub name-fits : PlaceIn m (s .at) → Fits w64 (length m) → (u h z : ℕ) → x ≡ Content u h z → Fits w64 (here + z)
+    name-fits w f u h z e = let v = string-within Utf8 m here q (w .bytes) u h z e in omega (arith, v .1)
 
-    pub names-more : PlaceIn m (s .at) → (u h z j : ℕ) → x ≡ Content u h z j
-        → (t′ b′ : List ℕ) → StoresRow t b (s .row + i) (row 17 here u h (s .row + i + 1)) t′ b′
-        → (sum′ : ℕ) → sum′ ≡ summed w sum j
-        → ReadingNames w m t₀ b₀ s n t′ b′ (here + z) sum′ (i + 1)
-    names-more a u h z j e t′ b′ d sum′ f =
-        let v = string-within Utf8 m (a .bytes) here q u h z j e in
-        let own : j ≡ rowLength m (row 17 here u h 1) =
-        sym (measured-length Utf8 m here z u h j [] tt (sym q ∙ ap toldString e))
-        ∙ sym (field-name-row-length m here u h 1) in
+    pub name-row : (u h z : ℕ) → x ≡ Content u h z → RowRead m 17 here u h
+    name-row u h z e = text-row 17 (omega arith) (λ k. omega arith) (string-has Utf8 m here q u h z e)
+
+    pub names-more : PlaceIn m (s .at) → (u h z : ℕ) → x ≡ Content u h z
+        → (t′ b′ : List ℕ) → StoresRow m t b (s .row + i) (row 17 here u h (s .row + i + 1)) t′ b′
+        → ReadingNames m t₀ b₀ s n t′ b′ (here + z) (i + 1)
+    names-more w u h z e t′ b′ d =
+        let v = string-within Utf8 m here q (w .bytes) u h z e in
         let next = ap (λ (j : ℕ). s .row + j) (sym (R .counted)) in
-        let both : StoresRows t₀ b₀ (s .row) (R .rows ++ (row 17 here u h 1 ∷ [])) t′ b′ =
+        let both : StoresRows m t₀ b₀ (s .row) (R .rows ++ (row 17 here u h 1 ∷ [])) t′ b′ =
         stores-on (R .stores) next (stores-single d) in
         record {
           rows = R .rows ++ (row 17 here u h 1 ∷ []);
           says = λ c.
               sym (front-front (R .rows) (row 17 here u h 1 ∷ []) (run (namesLeft n (i + 1)) c m (here + z)))
-              ∙ ap (front (R .rows)) (sym (names-step n i c m here l (R .inside) z u h j (sym q ∙ ap toldString e)))
+              ∙ ap (front (R .rows))
+              (sym (names-step n i c m here l (R .inside) z u h _ (passed-says Utf8 m here q e .says)))
               ∙ R .says c;
           counted = length-append (R .rows) (row 17 here u h 1 ∷ []) ∙ omega (arith, R .counted);
-          measured =
-              f ∙ ap (summed w sum) own ∙ sym (added-plain w m sum (row 17 here u h 1) (λ k. omega arith))
-              ∙ ap (λ (y : ℕ). added w m y (row 17 here u h 1)) (R .measured)
-              ∙ sym (gathered-append w m (s .shortest) (R .rows) (row 17 here u h 1 ∷ []));
           stores = both;
           few = omega arith;
           onward = omega (arith, R .onward, v .0);
@@ -251,10 +231,14 @@ pub class-says : {m : List ℕ} {c : Known} {p : ℕ} {x y : ClassRead} → Clas
     → ClassReadSays m c p y
 class-says {m} {c} {p} t e = subst (ClassReadSays m c p) e (t .says)
 
-pub names-say : {w : ℕ} {m t b : List ℕ} {s : Spot} {n : ℕ} {x y : NamesRead} {t′ b′ : List ℕ}
-    → NamesReadMet m t b s n w x t′ b′ → x ≡ y → NamesReadSays w m t b s n y t′ b′
-names-say {w} {m} {t} {b} {s} {n} {t′ = t′} {b′ = b′} h e =
-    subst (λ (y : NamesRead). NamesReadSays w m t b s n y t′ b′) e (h .says)
+pub names-say : {m t b : List ℕ} {s : Spot} {n : ℕ} {x y : NamesRead} {t′ b′ : List ℕ}
+    → NamesReadMet m t b s n x t′ b′ → x ≡ y → NamesReadSays m t b s n y t′ b′
+names-say {m} {t} {b} {s} {n} {t′ = t′} {b′ = b′} h e =
+    subst (λ (y : NamesRead). NamesReadSays m t b s n y t′ b′) e (h .says)
+
+-- its row names no text
+pub class-row : (m : List ℕ) (p f : ℕ) → RowRead m 15 p f 0
+class-row m p f = plain-row m 15 p f 0 (omega arith) refl (λ z. omega arith)
 
 -- what a definition at p reads as, with a name of u units and h bytes, from what its f field names read as
 abbrev definitionBy : ℕ → ℕ → ℕ → ℕ → ReadingAt ℕ → ReadingAt One
@@ -262,61 +246,51 @@ definitionBy p u h f o =
     topped p Definition (front (row 16 (p + 1) u h 1 ∷ []) (on o (λ e k c′. ReadTo e f [] (defined f c′))))
 
 module _ {m ks : List ℕ} {s : Spot} {x : ClassRead} (c : ClassReadMet m (knownIn ks) (s .at) x) where
-  pub definition-headless : (w : ℕ) (t b : List ℕ) (y o : ℕ) → x ≡ class-read.Refused y o
-      → (t′ b′ ks′ : List ℕ) → DefinitionReadMet m t b ks s w (definition-read.Refused y o) t′ b′ ks′
-  definition-headless w t b y o e t′ b′ ks′ = record { says = class-says c e }
+  pub definition-headless : (t b : List ℕ) (y o : ℕ) → x ≡ class-read.Refused y o
+      → (t′ b′ ks′ : List ℕ) → DefinitionReadMet m t b ks s (definition-read.Refused y o) t′ b′ ks′
+  definition-headless t b y o e t′ b′ ks′ = record { says = class-says c e }
 
-  module _ (a : ReadyAt m ks s) {u h f q i j : ℕ} (e : x ≡ class-read.Is u h f q i j) where
+  module _ (w : ReadyAt m ks s) {u h f q : ℕ} (e : x ≡ class-read.Is u h f q) where
     pub names-fit : length m < 2 ^ 63 → PlaceIn m q × (s .row + 2 + f < 2 ^ 64)
     names-fit l =
-        let v = class-says c e in
-        (record { bytes = a .at .bytes; within = v .within }, omega (arith, a .rows-few, v .few, v .onward, v .within))
+        let i = class-says c e in
+        (record { bytes = w .at .bytes; within = i .within }, omega (arith, w .rows-few, i .few, i .onward, i .within))
 
-    pub place-room : length m < 2 ^ 63 → Fits w64 (s .at + 1)
-    place-room l = let v = class-says c e in omega (arith, v .onward, v .within)
+    pub class-name-row : RowRead m 16 (s .at + 1) u h
+    class-name-row = text-row 16 (omega arith) (λ z. omega arith) (class-says c e .named)
 
     pub class-fits : Kept ks × (getD ks classesSlot 0 < base .classes) × (f ≤ base .fields)
-    class-fits = let v = class-says c e in (a .kept, omega (arith, v .free, classes-counted (a .kept)), v .few)
+    class-fits = let i = class-says c e in (w .kept, omega (arith, i .free, classes-counted (w .kept)), i .few)
 
-    module _ {w : ℕ} {t b : List ℕ} {x₁ x₂ : ℕ} {y : NamesRead} {t₁ b₁ : List ℕ}
-        (one : x₁ ≡ summed w (s .shortest) i) (two : x₂ ≡ summed w x₁ j)
-        (d : NamesReadMet m t b (record { at = q; row = s .row + 2; shortest = x₂ }) f w y t₁ b₁) where
+    module _ {t b : List ℕ} {y : NamesRead} {t₁ b₁ : List ℕ}
+        (d : NamesReadMet m t b (record { at = q; row = s .row + 2 }) f y t₁ b₁) where
       pub definition-unnamed : (z o : ℕ) → y ≡ names-read.Refused z o
-          → (ks′ : List ℕ) → DefinitionReadMet m t b ks s w (definition-read.Refused z o) t₁ b₁ ks′
+          → (ks′ : List ℕ) → DefinitionReadMet m t b ks s (definition-read.Refused z o) t₁ b₁ ks′
       definition-unnamed z o g ks′ = record {
         says = class-says c e .says ∙ ap (definitionBy (s .at) u h f) (names-say d g (knownIn ks));
       }
 
       pub definition-done : (s′ : Spot) → y ≡ names-read.Done s′ → {t₂ b₂ t₃ b₃ ks′ : List ℕ}
-          → StoresRow t₁ b₁ (s .row + 1) (row 16 (s .at + 1) u h (s .row + 2)) t₂ b₂
-          → StoresRow t₂ b₂ (s .row) (row 15 (s .at) f 0 (s′ .row)) t₃ b₃
+          → StoresRow m t₁ b₁ (s .row + 1) (row 16 (s .at + 1) u h (s .row + 2)) t₂ b₂
+          → StoresRow m t₂ b₂ (s .row) (row 15 (s .at) f 0 (s′ .row)) t₃ b₃
           → DefinesClass ks f ks′
-          → DefinitionReadMet m t b ks s w (definition-read.Done s′) t₃ b₃ ks′
+          → DefinitionReadMet m t b ks s (definition-read.Done s′) t₃ b₃ ks′
       definition-done s′ g {t₂} {b₂} {t₃} {b₃} name top given =
           let p : ℕ = s .at in
           let n : ℕ = s .row in
-          let k = class-says c e in
+          let i = class-says c e in
           let v = names-say d g in
-          let class = row 15 p f 0 (suc (suc (length (v .rows)))) in
-          let both : x₂ ≡ added w m (added w m (s .shortest) class) (row 16 (p + 1) u h 1) =
-          two
-          ∙ (λ z. summed w (one z) (k .name z))
-          ∙ ap (λ (z : ℕ). summed w (summed w (s .shortest) z) (rowLength m (row 16 (p + 1) u h 1)))
-          (k .own (suc (suc (length (v .rows)))))
-          ∙ sym (added-plain w m (summed w (s .shortest) (rowLength m class)) (row 16 (p + 1) u h 1) (λ z. omega arith))
-          ∙ ap (λ (z : ℕ). added w m z (row 16 (p + 1) u h 1))
-          (sym (added-plain w m (s .shortest) class (λ z. omega arith))) in
-          let next : n + 2 ≡ n + 1 + 1 = omega arith in
+          let two : n + 2 ≡ n + 1 + 1 = omega arith in
           let all : s′ .row ≡ n + suc (suc (length (v .rows))) = omega (arith, v .counted, v .reached) in
-          let inner : StoresRows t b (n + 1 + 1) (v .rows) t₁ b₁ =
-          subst (λ (k : ℕ). StoresRows t b k (v .rows) t₁ b₁) next (v .stores) in
-          let named : StoresRow t₁ b₁ (n + 1) (row 16 (p + 1) u h (n + 1 + 1)) t₂ b₂ =
-          subst (λ (z : ℕ). StoresRow t₁ b₁ (n + 1) (row 16 (p + 1) u h z) t₂ b₂) next name in
+          let inner : StoresRows m t b (n + 1 + 1) (v .rows) t₁ b₁ =
+          subst (λ (k : ℕ). StoresRows m t b k (v .rows) t₁ b₁) two (v .stores) in
+          let named : StoresRow m t₁ b₁ (n + 1) (row 16 (p + 1) u h (n + 1 + 1)) t₂ b₂ =
+          subst (λ (z : ℕ). StoresRow m t₁ b₁ (n + 1) (row 16 (p + 1) u h z) t₂ b₂) two name in
           record {
             says = record {
               rows = row 15 p f 0 (suc (suc (length (v .rows)))) ∷ row 16 (p + 1) u h 1 ∷ v .rows;
               says =
-                  k .says
+                  i .says
                   ∙ ap (definitionBy p u h f) (v .says (knownIn ks))
                   ∙ (λ j. ReadTo (s′ .at) tt
                   (row 15 p f 0 (suc (suc (length (append-nil (v .rows) j))))
@@ -324,51 +298,44 @@ module _ {m ks : List ℕ} {s : Spot} {x : ClassRead} (c : ClassReadMet m (known
                   (sym (given .known) j));
               reads = record {
                 counted = omega (arith, v .counted, v .reached);
-                measured = v .measured ∙ ap (λ (z : ℕ). gathered w m z (v .rows)) both;
                 stores = stores-top (row 15 p f 0 (suc (suc (length (v .rows)))))
                     (stores-top (row 16 (p + 1) u h 1) inner named)
-                    (subst (λ (z : ℕ). StoresRow t₂ b₂ n (row 15 p f 0 z) t₃ b₃) all top);
-                onward = omega (arith, k .onward, v .onward);
+                    (subst (λ (z : ℕ). StoresRow m t₂ b₂ n (row 15 p f 0 z) t₃ b₃) all top);
+                onward = omega (arith, i .onward, v .onward);
                 ready = record {
-                  at = record { bytes = a .at .bytes; within = v .within };
+                  at = record { bytes = w .at .bytes; within = v .within };
                   kept = given .kept;
-                  rows-few = omega (arith, a .rows-few, k .onward, v .onward, v .reached);
-                  references-few = omega (arith, given .references, a .references-few, k .onward, v .onward);
-                  small = subst (λ (z : ℕ). z < 2 ^ 64)
-                      (sym (v .measured ∙ ap (λ (z : ℕ). gathered w m z (v .rows)) both))
-                      (gathered-small w m (s .shortest) (class ∷ row 16 (p + 1) u h 1 ∷ v .rows) (a .small));
+                  rows-few = omega (arith, w .rows-few, i .onward, v .onward, v .reached);
+                  references-few = omega (arith, given .references, w .references-few, i .onward, v .onward);
                 };
               };
-              forward = omega (arith, k .onward, v .onward);
+              forward = omega (arith, i .onward, v .onward);
             };
           }
 
-pub definition-says : {m t b ks : List ℕ} {s : Spot} {w : ℕ} {x y : DefinitionRead} {t′ b′ ks′ : List ℕ}
-    → DefinitionReadMet m t b ks s w x t′ b′ ks′ → x ≡ y
-    → DefinitionReadSays (run (definition base (s .at)) (knownIn ks) m (s .at + 1)) w m t b s y t′ b′ ks′
-definition-says {m} {t} {b} {ks} {s} {w} {t′ = t′} {b′ = b′} {ks′ = ks′} h e =
+pub definition-says : {m t b ks : List ℕ} {s : Spot} {x y : DefinitionRead} {t′ b′ ks′ : List ℕ}
+    → DefinitionReadMet m t b ks s x t′ b′ ks′ → x ≡ y
+    → DefinitionReadSays (run (definition base (s .at)) (knownIn ks) m (s .at + 1)) m t b s y t′ b′ ks′
+definition-says {m} {t} {b} {ks} {s} {t′ = t′} {b′ = b′} {ks′ = ks′} h e =
     let o = run (definition base (s .at)) (knownIn ks) m (s .at + 1) in
-    subst (λ (y : DefinitionRead). DefinitionReadSays o w m t b s y t′ b′ ks′) e (h .says)
+    subst (λ (y : DefinitionRead). DefinitionReadSays o m t b s y t′ b′ ks′) e (h .says)
 
 -- ---- the loop over definitions: what is left is the whole, with the rows so far in front
-pub record ReadingDefinitions
-    (w : ℕ) (m t₀ b₀ ks₀ : List ℕ) (s₀ : Spot)
-    (t b ks : List ℕ) (s : Spot) : Type 0 where
+pub record ReadingDefinitions (m t₀ b₀ ks₀ : List ℕ) (s₀ : Spot) (t b ks : List ℕ) (s : Spot) : Type 0 where
   pub some : List Row
   pub says :
       (d : ℕ)
       → front some (run (byteAt (valueFrom Floats base d)) (knownIn ks) m (s .at))
       ≡ run (byteAt (valueFrom Floats base d)) (knownIn ks₀) m (s₀ .at)
-  pub reads : ReadsRows w m t₀ b₀ s₀ s t b ks some
+  pub reads : ReadsRows m t₀ b₀ s₀ s t b ks some
   pub same-numbers : length t ≡ length t₀
   pub same-bytes : length b ≡ length b₀
 
-pub definitions-start : (w : ℕ) (m t b ks : List ℕ) (s : Spot) → ReadyAt m ks s
-    → ReadingDefinitions w m t b ks s t b ks s
-definitions-start w m t b ks s h = record {
+pub definitions-start : (m t b ks : List ℕ) (s : Spot) → ReadyAt m ks s → ReadingDefinitions m t b ks s t b ks s
+definitions-start m t b ks s w = record {
   some = [];
   says = λ d. front-none (run (byteAt (valueFrom Floats base d)) (knownIn ks) m (s .at));
-  reads = reads-none w m t b ks s h;
+  reads = reads-none m t b ks s w;
   same-numbers = refl;
   same-bytes = refl;
 }
@@ -376,9 +343,9 @@ definitions-start w m t b ks s h = record {
 definition-code : (m : List ℕ) (p : ℕ) → LeadAt m p lead.Definition → getD m p 0 ≡ 0x43
 definition-code m p h = definition-byte (getD m p 0) (byte-small m p (h .bytes)) (h .lead)
 
-module _ {w : ℕ} {m t₀ b₀ ks₀ : List ℕ} {s₀ : Spot} {t b ks : List ℕ} {s : Spot}
-    (R : ReadingDefinitions w m t₀ b₀ ks₀ s₀ t b ks s) (l : LeadAt m (s .at) lead.Definition)
-    {x : DefinitionRead} {t′ b′ ks′ : List ℕ} (h : DefinitionReadMet m t b ks s w x t′ b′ ks′) where
+module _ {m t₀ b₀ ks₀ : List ℕ} {s₀ : Spot} {t b ks : List ℕ} {s : Spot}
+    (R : ReadingDefinitions m t₀ b₀ ks₀ s₀ t b ks s) (l : LeadAt m (s .at) lead.Definition)
+    {x : DefinitionRead} {t′ b′ ks′ : List ℕ} (h : DefinitionReadMet m t b ks s x t′ b′ ks′) where
   pub definitions-refused : (y o : ℕ) → x ≡ definition-read.Refused y o
       → (d : ℕ) → run (byteAt (valueFrom Floats base d)) (knownIn ks₀) m (s₀ .at) ≡ RefusedAt y o
   definitions-refused y o g d =
@@ -389,11 +356,11 @@ module _ {w : ℕ} {m t₀ b₀ ks₀ : List ℕ} {s₀ : Spot} {t b ks : List �
   pub definitions-forward : (s′ : Spot) → x ≡ definition-read.Done s′ → (s .at < s′ .at) × (s′ .at ≤ length m)
   definitions-forward s′ g = let v = definition-says h g in (v .forward, v .reads .ready .at .within)
 
-  pub definitions-more : (s′ : Spot) → x ≡ definition-read.Done s′ → ReadingDefinitions w m t₀ b₀ ks₀ s₀ t′ b′ ks′ s′
+  pub definitions-more : (s′ : Spot) → x ≡ definition-read.Done s′ → ReadingDefinitions m t₀ b₀ ks₀ s₀ t′ b′ ks′ s′
   definitions-more s′ g =
       let v = definition-says h g in
       let code = eq-eqb (getD m (s .at) 0) 0x43 (definition-code m (s .at) l) in
-      let both : ReadsRows w m t₀ b₀ s₀ s′ t′ b′ ks′ (R .some ++ v .rows) = reads-on (R .reads) (v .reads) in
+      let both : ReadsRows m t₀ b₀ s₀ s′ t′ b′ ks′ (R .some ++ v .rows) = reads-on (R .reads) (v .reads) in
       record {
         some = R .some ++ v .rows;
         says = λ d.

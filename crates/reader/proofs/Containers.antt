@@ -4,6 +4,7 @@ use mathlib.Core.Path.{_≡_, refl, sym, ap, subst, _∙_}
 use mathlib.Core.Bool.{Bool, false}
 use mathlib.Core.List.{List, [], _∷_}
 use mathlib.Core.Logic.{_⊎_, inl, inr}
+use mathlib.Core.Option.{Option, none, some}
 use Prim.Native.Nat.{ℕ, zero, suc, _+_, _/_, _%_, _^_, _≤_, _<_}
 use native.Mathlib.Numerals.{add-one}
 use native.Mathlib.Omega.{arith}
@@ -12,10 +13,7 @@ use lib.ListN.{length, take, getD, set, length-set}
 use lib.Seq.{getD-set-same, getD-set-other, take-set-le}
 use mir.Syntax.{w64}
 use mir.Val.{Fits}
-use borrow.Author.Tests.{le-leb, lt-leb, lt-ltb, le-ltb, eq-eqb, ne-eqb}
-use Rattle.scalar.specs.declared.Sort.the-variants.{Int}
-use Rattle.scalar.specs.Scalars.{formsOf, shortest}
-use Rattle.scalar.specs.Answers.{lengthOf}
+use borrow.Author.Tests.{le-leb, lt-leb, eq-eqb, ne-eqb}
 use Rattle.flow.specs.Flow.{pick}
 use Rattle.flow.specs.Tests.{pick-true, pick-false}
 use Rattle.record.specs.declared.Group.{Group}
@@ -31,21 +29,19 @@ use Rattle.reader.specs.declared.heads.Head.{Head}
 use Rattle.reader.specs.declared.heads.Head.the-variants as head
 use Rattle.reader.specs.declared.values.Beginning.{Beginning}
 use Rattle.reader.specs.declared.values.Beginning.the-variants as beginning
+use Rattle.reader.specs.declared.values.ValuesRead.{ValuesRead}
+use Rattle.reader.specs.declared.values.ValuesRead.the-variants as values-read
 use Rattle.record.specs.Model.Answers.{base}
 use Rattle.record.specs.Laws.KnownArray.{one-reference, references-more, types-same, known-opened, kept-opened}
 use Rattle.record.specs.Laws.KnownArray.{one-type}
 use Rattle.record.specs.Laws.KnownArray.{references-same, known-typed, kept-typed, knownIn, Kept, typesSlot}
 use Rattle.record.specs.Laws.KnownArray.{referencesSlot}
-use Rattle.record.specs.Laws.RowLengths.{listLength, few-length, more-length, objectLength, number-most}
-use Rattle.record.specs.Laws.RowLengths.{rowLength, row-length-moved, list-row-length, typed-list-row-length}
-use Rattle.record.specs.Laws.RowLengths.{map-row-length, typed-map-row-length, object-row-length}
 use Rattle.reader.specs.declared.Spot.{Spot}
-use Rattle.reader.specs.Contracts.{summed, added, HolderLength}
 use Rattle.reader.specs.Contracts.{groupOf, groupNumbers, StoresRow, StoresRows, typeOf, typeRows, typeTag}
 use Rattle.reader.specs.Contracts.{typeSecond, TypeRoom, EntersHolder, HolderFits, OpensHolder, HeadNeeds}
-use Rattle.reader.specs.Contracts.{HeadFits, ByHeadMet}
+use Rattle.reader.specs.Contracts.{HeadFits, HeadRows, ByHeadMet, RowRead, TypeNamed}
+use Rattle.reader.proofs.Leaves.{plain-row, text-row}
 use Rattle.reader.proofs.Tables.{stores-none, stores-single}
-use Rattle.reader.proofs.Gathering.{added-after}
 
 -- ---- where values stop
 module _ (m : List ℕ) (p : ℕ) where
@@ -162,86 +158,29 @@ module _ (p : ℕ) (g : GroupNumbers) (of : TypeItem) (given i e : ℕ) where
         go (suc (suc zero)) l = absurd (omega arith)
         go (suc (suc (suc s))) l = (λ j. row (11 + te j) p (i / 2) (se j) e) ∙ paired-row of
 
-pub stores-row-same : {t b t′ b′ : List ℕ} {k : ℕ} {r x : Row} → r ≡ x → StoresRow t b k r t′ b′
-    → StoresRow t b k x t′ b′
-stores-row-same {t} {b} {t′} {b′} {k} e h = subst (λ (r : Row). StoresRow t b k r t′ b′) e h
+pub stores-row-same : {m t b t′ b′ : List ℕ} {k : ℕ} {r x : Row} → r ≡ x → StoresRow m t b k r t′ b′
+    → StoresRow m t b k x t′ b′
+stores-row-same {m} {t} {b} {t′} {b′} {k} e h = subst (λ (r : Row). StoresRow m t b k r t′ b′) e h
 
--- no row of a double; the bytes that are its own
-pub holder-kind : (g : GroupNumbers) (of : TypeItem) (given i p e : ℕ) → holderRow (groupOf g) of given i p e .kind ≡ 5 → ⊥
-holder-kind g of given i p e h = go (groupOf g) of h
-  where
-    go : (g : Group) (of : TypeItem) → holderRow g of given i p e .kind ≡ 5 → ⊥
-    go (Counted n) Untyped h = omega arith
-    go (Counted n) (Named u b) h = omega arith
-    go (Counted n) (Numbered k) h = omega arith
-    go (Fields k n) of h = omega arith
-    go Open Untyped h = omega arith
-    go Open (Named u b) h = omega arith
-    go Open (Numbered k) h = omega arith
-    go Pairs Untyped h = omega arith
-    go Pairs (Named u b) h = omega arith
-    go Pairs (Numbered k) h = omega arith
+-- ---- the row of a list, map or object names no text
+holder-item : (m : List ℕ) (g : Group) (o : Option ℕ) (i p e : ℕ)
+    → let r = itemRow p e (heading g o i) in RowRead m (r .kind) (r .place) (r .first) (r .second)
+holder-item m (Counted n) none i p e = plain-row m 9 p i 0 (omega arith) refl (λ z. omega arith)
+holder-item m (Counted n) (some k) i p e = plain-row m 10 p i k (omega arith) refl (λ z. omega arith)
+holder-item m (Fields k n) o i p e = plain-row m 13 p k i (omega arith) refl (λ z. omega arith)
+holder-item m Open none i p e = plain-row m 9 p i 0 (omega arith) refl (λ z. omega arith)
+holder-item m Open (some k) i p e = plain-row m 10 p i k (omega arith) refl (λ z. omega arith)
+holder-item m Pairs none i p e = plain-row m 11 p i 0 (omega arith) refl (λ z. omega arith)
+holder-item m Pairs (some k) i p e = plain-row m 12 p i k (omega arith) refl (λ z. omega arith)
 
-module _ (g : GroupNumbers) (i : ℕ) where
-  abbrev Own : ℕ → Group → Type 0
-  Own n h = (m : List ℕ) (p e given : ℕ) (of : TypeItem) → n ≡ rowLength m (holderRow h of given i p e)
-
-  own-list : (n : ℕ) → n ≡ listLength i → (h : Group) → (h ≡ Open) ⊎ (h ≡ Counted (g .count)) → Own n h
-  own-list n q h (inl z) m p e given Untyped = rw (q, z) (sym (list-row-length m p i 0 e))
-  own-list n q h (inl z) m p e given (Named u b) = rw (q, z) (sym (typed-list-row-length m p i given e))
-  own-list n q h (inl z) m p e given (Numbered k) = rw (q, z) (sym (typed-list-row-length m p i k e))
-  own-list n q h (inr z) m p e given Untyped = rw (q, z) (sym (list-row-length m p i 0 e))
-  own-list n q h (inr z) m p e given (Named u b) = rw (q, z) (sym (typed-list-row-length m p i given e))
-  own-list n q h (inr z) m p e given (Numbered k) = rw (q, z) (sym (typed-list-row-length m p i k e))
-
-  own-map : Own 2 Pairs
-  own-map m p e given Untyped = sym (map-row-length m p (i / 2) 0 e)
-  own-map m p e given (Named u b) = sym (typed-map-row-length m p (i / 2) given e)
-  own-map m p e given (Numbered k) = sym (typed-map-row-length m p (i / 2) k e)
-
-  own-object : (n k f : ℕ) → n ≡ objectLength k → Own n (Fields k f)
-  own-object n k f q m p e given of = q ∙ sym (object-row-length m p k i e)
-
-  -- by the tests of the code
-  listed : (n : ℕ) → n ≡ listLength i → (s : ℕ) → (s ≡ 1 → ⊥) → s < 3
-      → Own n (groupOf (groupNumbers s (g .count) (g .class)))
-  listed n q zero y l = own-list n q (Counted (g .count)) (inr refl)
-  listed n q (suc zero) y l = absurd (y refl)
-  listed n q (suc (suc zero)) y l = own-list n q Open (inl refl)
-  listed n q (suc (suc (suc s))) y l = absurd (omega arith)
-
-  pub length-few : (g .shape ≡ 1 → ⊥) → g .shape < 3 → i < 8 → HolderLength g i 1
-  length-few y l h = record { own = listed 1 (sym (few-length i h)) (g .shape) y l }
-
-  pub length-many : (g .shape ≡ 1 → ⊥) → g .shape < 3 → 8 ≤ i → HolderLength g i 2
-  length-many y l h = record { own = listed 2 (sym (more-length i h)) (g .shape) y l }
-
-  pub length-pairs : 3 ≤ g .shape → HolderLength g i 2
-  length-pairs l = record { own = go (g .shape) l }
-    where
-      go : (s : ℕ) → 3 ≤ s → Own 2 (groupOf (groupNumbers s (g .count) (g .class)))
-      go zero l = absurd (omega arith)
-      go (suc zero) l = absurd (omega arith)
-      go (suc (suc zero)) l = absurd (omega arith)
-      go (suc (suc (suc s))) l = own-map
-
-  by-fields : (n : ℕ) → n ≡ objectLength (g .class) → g .shape ≡ 1 → HolderLength g i n
-  by-fields n q l = record { own = go (g .shape) l }
-    where
-      go : (s : ℕ) → s ≡ 1 → Own n (groupOf (groupNumbers s (g .count) (g .class)))
-      go zero l = absurd (omega arith)
-      go (suc zero) l = own-object n (g .class) (g .count) q
-      go (suc (suc s)) l = absurd (omega arith)
-
-  pub length-object : g .shape ≡ 1 → g .class < 16 → HolderLength g i 1
-  length-object l h = by-fields 1 (rw (lt-ltb (g .class) 16 h) refl) l
-
-  pub wide-fits : (n : ℕ) → n ≡ lengthOf (shortest (formsOf Int) (g .class)) → Fits w64 (1 + n)
-  wide-fits n e = omega (arith, number-most Int (g .class))
-
-  pub length-wide : g .shape ≡ 1 → 16 ≤ g .class → (n : ℕ) → n ≡ lengthOf (shortest (formsOf Int) (g .class))
-      → HolderLength g i (1 + n)
-  length-wide l h n e = by-fields (1 + n) (rw (le-ltb (g .class) 16 h) (omega (arith, e))) l
+-- v and z: what said which one it is, and what was read in it
+pub holder-row-read : {m : List ℕ} {v : Beginning} {y s : Spot} {g : GroupNumbers} {of : TypeItem} {given : ℕ}
+    → v ≡ beginning.Holder y g of given s → {z : ValuesRead} {s₂ : Spot} {i : ℕ} → z ≡ values-read.Done s₂ i → (r : Row)
+    → r ≡ itemRow (y .at) (s₂ .row) (heading (groupOf g) (typeOf given of) (parts (groupOf g) i))
+    → RowRead m (r .kind) (r .place) (r .first) (r .second)
+holder-row-read {m} {y = y} {g = g} {of = of} {given = given} a {s₂ = s₂} {i = i} b r q =
+    subst (λ (r : Row). RowRead m (r .kind) (r .place) (r .first) (r .second)) (sym q)
+    (holder-item m (groupOf g) (typeOf given of) (parts (groupOf g) i) (y .at) (s₂ .row))
 
 -- ---- the rows of types
 module _ (k p : ℕ) (of : TypeItem) (l : k + length (typeRows p of) < 2 ^ 64) where
@@ -251,16 +190,23 @@ module _ (k p : ℕ) (of : TypeItem) (l : k + length (typeRows p of) < 2 ^ 64) w
   pub numbered-fits : (n : ℕ) → of ≡ Numbered n → Fits w64 (k + 1)
   numbered-fits n e = let h = subst (λ (x : TypeItem). k + length (typeRows p x) < 2 ^ 64) e l in omega (arith, h)
 
-module _ (t b : List ℕ) (k p : ℕ) (of : TypeItem) where
-  pub stores-untyped : of ≡ Untyped → StoresRows t b k (typeRows p of) t b
-  stores-untyped e = rw e (stores-none t b k)
+module _ (m : List ℕ) (p : ℕ) (of : TypeItem) (h : TypeNamed m p of) where
+  pub named-row : (u n : ℕ) → of ≡ Named u n → RowRead m 18 p u n
+  named-row u n e = text-row 18 (omega arith) (λ z. omega arith) (subst (TypeNamed m p) e h)
 
-  pub stores-named : (u n : ℕ) → of ≡ Named u n → (t′ b′ : List ℕ) → StoresRow t b k (row 18 p u n (k + 1)) t′ b′
-      → StoresRows t b k (typeRows p of) t′ b′
+  pub numbered-row : (n : ℕ) → of ≡ Numbered n → RowRead m 19 p n 0
+  numbered-row n e = plain-row m 19 p n 0 (omega arith) refl (λ z. omega arith)
+
+module _ (m t b : List ℕ) (k p : ℕ) (of : TypeItem) where
+  pub stores-untyped : of ≡ Untyped → StoresRows m t b k (typeRows p of) t b
+  stores-untyped e = rw e (stores-none m t b k)
+
+  pub stores-named : (u n : ℕ) → of ≡ Named u n → (t′ b′ : List ℕ) → StoresRow m t b k (row 18 p u n (k + 1)) t′ b′
+      → StoresRows m t b k (typeRows p of) t′ b′
   stores-named u n e t′ b′ l = rw e (stores-single l)
 
-  pub stores-numbered : (n : ℕ) → of ≡ Numbered n → (t′ b′ : List ℕ) → StoresRow t b k (row 19 p n 0 (k + 1)) t′ b′
-      → StoresRows t b k (typeRows p of) t′ b′
+  pub stores-numbered : (n : ℕ) → of ≡ Numbered n → (t′ b′ : List ℕ) → StoresRow m t b k (row 19 p n 0 (k + 1)) t′ b′
+      → StoresRows m t b k (typeRows p of) t′ b′
   stores-numbered n e t′ b′ l = rw e (stores-single l)
 
 -- ---- a container opens
@@ -313,60 +259,51 @@ module _ (ks : List ℕ) (s : Spot) (q : ℕ) (of : TypeItem) (w : HolderFits ks
   pub enter-fits : Kept ks × (getD ks referencesSlot 0 + 1 < 2 ^ 64) × TypeRoom of (getD ks typesSlot 0)
   enter-fits = (w .kept, omega (arith, w .references-few, w .longer, w .fits), w .room)
 
-  pub type-rows-fit : (n : ℕ) → n ≡ s .row + 1 → n + length (typeRows (s .at + 1) of) < 2 ^ 64
-  type-rows-fit n e = omega (arith, w .rows-few, w .longer, w .fits)
+  pub type-rows-fit : s .row + 1 + length (typeRows (s .at + 1) of) < 2 ^ 64
+  type-rows-fit = omega (arith, w .rows-few, w .longer, w .fits)
 
-  pub rows-fit : (n : ℕ) → n ≡ s .row + 1 → (more : ℕ) (ks′ : List ℕ) → EntersHolder ks of more ks′ → Fits w64 (n + more)
-  rows-fit n e more ks′ i = omega (arith, w .rows-few, w .longer, w .fits, i .rows (s .at + 1))
+  pub rows-fit : (more : ℕ) (ks′ : List ℕ) → EntersHolder ks of more ks′ → Fits w64 (s .row + 1 + more)
+  rows-fit more ks′ e = omega (arith, w .rows-few, w .longer, w .fits, e .rows (s .at + 1))
 
 -- ---- `by_head`
-module _ (m t b ks : List ℕ) (s : Spot) (h : Head) (w : ℕ) where
-  pub head-refused : (x o : ℕ) → h ≡ head.Refused x o → ByHeadMet m t b ks s h w (beginning.Refused x o) t b ks
+module _ (m t b ks : List ℕ) (s : Spot) (h : Head) where
+  pub head-refused : (x o : ℕ) → h ≡ head.Refused x o → ByHeadMet m t b ks s h (beginning.Refused x o) t b ks
   head-refused x o e = rw e (record { says = refl })
 
-  pub head-leaf : (k x y q n : ℕ) → h ≡ head.Leaf k x y q n
-      → (t′ b′ : List ℕ) → StoresRow t b (s .row) (row k (s .at) x y (s .row + 1)) t′ b′
-      → (j : ℕ) → j ≡ added w m (s .shortest) (row k (s .at) x y (s .row + 1))
-      → ByHeadMet m t b ks s h w (beginning.Leaf (record { at = q; row = s .row + 1; shortest = j })) t′ b′ ks
-  head-leaf k x y q n e t′ b′ l j i = rw (e, i) (record {
-    says = (
-      ap (λ (z : ℕ). beginning.Leaf (record { at = q; row = s .row + 1; shortest = z }))
-          (added-after w m (s .shortest) k (s .at) x y (s .row + 1) 1),
-      refl,
-      stores-single l,
-    );
-  })
+  pub head-leaf : (k x y q : ℕ) → h ≡ head.Leaf k x y q
+      → (t′ b′ : List ℕ) → StoresRow m t b (s .row) (row k (s .at) x y (s .row + 1)) t′ b′
+      → ByHeadMet m t b ks s h (beginning.Leaf (record { at = q; row = s .row + 1 })) t′ b′ ks
+  head-leaf k x y q e t′ b′ l = rw e (record { says = (refl, refl, stores-single l) })
 
-  pub head-holder : (g : GroupNumbers) (q : ℕ) (of : TypeItem) (n : ℕ) → h ≡ head.Holder g q of n
-      → (j : ℕ) → j ≡ summed w (s .shortest) n
-      → (r : Beginning) (t′ b′ ks′ : List ℕ)
-      → OpensHolder t b ks s g (record { at = q; row = s .row + 1; shortest = j }) of r t′ b′ ks′
-      → ByHeadMet m t b ks s h w r t′ b′ ks′
-  head-holder g q of n e j i r t′ b′ ks′ y = rw e (record {
-    says = subst (λ (z : ℕ). OpensHolder t b ks s g (record { at = q; row = s .row + 1; shortest = z }) of r t′ b′ ks′)
-        i y;
-  })
+  pub head-holder : (g : GroupNumbers) (q : ℕ) (of : TypeItem) → h ≡ head.Holder g q of
+      → (r : Beginning) (t′ b′ ks′ : List ℕ) → OpensHolder ks s g q of r ks′
+      → StoresRows m t b (s .row + 1) (typeRows (s .at + 1) of) t′ b′
+      → ByHeadMet m t b ks s h r t′ b′ ks′
+  head-holder g q of e r t′ b′ ks′ w l = rw e (record { says = (w, l) })
 
-  pub head-defined : h ≡ head.Definition → (r : Beginning) → ByHeadMet m t b ks s h w r t b ks
+  pub head-defined : h ≡ head.Definition → (r : Beginning) → ByHeadMet m t b ks s h r t b ks
   head-defined e r = rw e (record { says = tt })
 
 module _ (m ks : List ℕ) (s : Spot) (h : Head) (w : HeadFits m ks s h) where
-  module _ (k x y q n : ℕ) (e : h ≡ head.Leaf k x y q n) where
-    leaf-needs : HeadNeeds m ks s (head.Leaf k x y q n)
-    leaf-needs = subst (HeadNeeds m ks s) e (w .fits)
+  pub leaf-fits : (k x y q : ℕ) → h ≡ head.Leaf k x y q → Fits w64 (s .row + 1)
+  leaf-fits k x y q e = record { fits = subst (HeadNeeds ks s) e (w .fits) }
 
-    pub leaf-fits : Fits w64 (s .row + 1)
-    leaf-fits = record { fits = leaf-needs .0 }
+  pub holder-fits : (g : GroupNumbers) (q : ℕ) (of : TypeItem) → h ≡ head.Holder g q of → HolderFits ks s q of
+  holder-fits g q of e = subst (HeadNeeds ks s) e (w .fits)
 
-    pub leaf-length : n ≡ rowLength m (row k (s .at) x y (s .row + 1))
-    leaf-length = leaf-needs .1 ∙ sym (row-length-moved m (row k (s .at) x y 1) (s .row + 1))
+  module _ (g : GroupNumbers) (q : ℕ) (of : TypeItem) (e : h ≡ head.Holder g q of) where
+    pub inner-place : Fits w64 (s .at + 1)
+    inner-place = place-fits ks s q of (holder-fits g q of e)
 
-  module _ (g : GroupNumbers) (q : ℕ) (of : TypeItem) (n : ℕ) (e : h ≡ head.Holder g q of n) where
-    pub holder-fits : HolderFits ks s q of
-    holder-fits = subst (HeadNeeds m ks s) e (w .fits)
+    pub inner-row : Fits w64 (s .row + 1)
+    inner-row = row-fits ks s q of (holder-fits g q of e)
 
-    pub inner-fits : Fits w64 (s .row + 1)
-    inner-fits = row-fits ks s q of holder-fits
+    pub inner-rows : s .row + 1 + length (typeRows (s .at + 1) of) < 2 ^ 64
+    inner-rows = type-rows-fit ks s q of (holder-fits g q of e)
 
-    pub holder-inner : HolderFits ks s q of × (s .row + 1 ≡ s .row + 1)
-    holder-inner = (holder-fits, refl)
+  -- the rows that are stored
+  pub leaf-row : (k x y q : ℕ) → h ≡ head.Leaf k x y q → RowRead m k (s .at) x y
+  leaf-row k x y q e = subst (HeadRows m (s .at)) e (w .named)
+
+  pub type-named : (g : GroupNumbers) (q : ℕ) (of : TypeItem) → h ≡ head.Holder g q of → TypeNamed m (s .at + 1) of
+  type-named g q of e = subst (HeadRows m (s .at)) e (w .named)

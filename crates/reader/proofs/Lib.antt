@@ -1,13 +1,13 @@
 pub mod Tables
 pub mod Sizes
 pub mod StoredRows
+pub mod LengthLaws
 pub mod Leaves
 pub mod Types
-pub mod Gathering
 pub mod Holders
 pub mod ValueHeads
 pub mod ClassDefinitions
 pub mod Containers
 pub mod ReadValues
-pub mod ThousandthLaws
 pub mod Message
+pub mod ThousandthLaws

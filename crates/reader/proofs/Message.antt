@@ -1,4 +1,4 @@
--- What the contracts of `read_value`, `judge`, `read_into`, `read` and `read_bytes` ask at each of their ways out.
+-- What the contracts of `read_value`, `judge`, `read_into` and of the functions over them ask at each way out.
 use mathlib.Core.Path.{_≡_, refl, sym, ap, subst, _∙_}
 use mathlib.Core.List.{List, [], append-nil}
 use Prim.Native.Nat.{ℕ, zero, suc, _+_, _≤_, _<_}
@@ -8,7 +8,7 @@ use mir.Syntax.{w8}
 use mir.Val.{Fits}
 use Rattle.scalar.specs.Scalars.{Floats, Thousandths}
 use Rattle.flow.specs.Tests.{bytes-all}
-use Rattle.flow.specs.Flow.{Bytes, One, byteAt, overlay}
+use Rattle.flow.specs.Flow.{Bytes, Report, One, byteAt, overlay}
 use Rattle.record.specs.declared.Group.the-variants.{Counted}
 use Rattle.record.specs.Model.Items.{Known, start}
 use Rattle.record.specs.Model.Reading.{Opening, valueFrom}
@@ -26,13 +26,16 @@ use Rattle.reader.specs.declared.values.ValuesRead.the-variants as value
 use Rattle.reader.specs.declared.Judged.{Judged}
 use Rattle.reader.specs.declared.Judged.the-variants as judged
 use Rattle.reader.specs.declared.ReadAnswer.{ReadAnswer}
-use Rattle.reader.specs.declared.ReadAnswer.the-variants as answer
-use Rattle.reader.specs.Answers.{report, shortest}
+use Rattle.reader.specs.declared.ReadAnswer.the-variants as read-answer
+use Rattle.reader.specs.declared.FillAnswer.{FillAnswer}
+use Rattle.reader.specs.declared.FillAnswer.the-variants as answer
+use Rattle.reader.specs.Answers.{report, shortest, fillReport}
 use Rattle.record.specs.Laws.KnownArray.{knownIn, knownSize}
 use Rattle.reader.specs.Contracts.{ReadyAt, ValuesReadSays, ValuesReadMet}
-use Rattle.reader.specs.Contracts.{messageStart, messageScope, OneValueMet, IsRecord, JudgedSays, JudgedMet}
-use Rattle.reader.specs.Contracts.{lengthBy, LengthMet, ReadIntoMet}
-use Rattle.reader.proofs.Gathering.{gathered-off, gathered-floats, gathered-thousandths}
+use Rattle.reader.specs.Contracts.{messageStart, OneValueMet, IsRecord, JudgedSays, JudgedMet, ReadIntoMet}
+use Rattle.reader.specs.Contracts.{notedAll, IsSum, lengthBy, withLength}
+use Rattle.reader.proofs.StoredRows.{noted-laid}
+use Rattle.reader.proofs.LengthLaws.{sum-floats, sum-thousandths}
 
 -- ---- before the first byte nothing is known
 abbrev blank : List ℕ
@@ -44,7 +47,6 @@ ready-first m bytes = record {
   kept = record { sized = refl; classes-few = omega arith; types-few = omega arith };
   rows-few = omega arith;
   references-few = omega arith;
-  small = omega arith;
 }
 
 -- ---- a group of one is one value
@@ -74,84 +76,93 @@ module _ (f : Opening One) (c : Known) (m : List ℕ) (p : ℕ) where
       go (RefusedAt y z) h = cc
 
 -- ---- read_value
-pub one-met : (m t b : List ℕ) (w : ℕ) (r : ValuesRead) (t′ b′ ks′ : List ℕ)
-    → ValuesReadMet m t b blank messageStart (Counted 1) (messageScope w) r t′ b′ ks′
-    → OneValueMet m t b w r t′ b′
-one-met m t b w r t′ b′ ks′ a = record { after = ks′; met = a }
+pub one-met : (m t b : List ℕ) (r : ValuesRead) (t′ b′ ks′ : List ℕ)
+    → ValuesReadMet m t b blank messageStart (Counted 1) (base .containers) r t′ b′ ks′
+    → OneValueMet m t b r t′ b′
+one-met m t b r t′ b′ ks′ a = record { after = ks′; met = a }
 
 -- what reading says, where it answered r
-abbrev SaysOf : ℕ → List ℕ → List ℕ → List ℕ → ValuesRead → List ℕ → List ℕ → List ℕ → Type 0
-SaysOf w m t b r t′ b′ ks′ =
+abbrev SaysOf : List ℕ → List ℕ → List ℕ → ValuesRead → List ℕ → List ℕ → List ℕ → Type 0
+SaysOf m t b r t′ b′ ks′ =
     ValuesReadSays (run (rest (valueFrom Floats base (base .containers)) (Counted 1) 0) start m 0)
-    w m t b messageStart (Counted 1) r t′ b′ ks′
+    m t b messageStart (Counted 1) r t′ b′ ks′
 
 -- ---- judge
--- z: a refusal
-refuses : (m : List ℕ) (w : ℕ) (z : Judged) (x y : ℕ) → z ≡ judged.Refused x y
-    → ((lent : ℕ) → read Floats base lent m ≡ Refuse x 0 y) → JudgedMet m w z
-refuses m w z x y i h = subst (JudgedMet m w) (sym i) (record { says = h })
+-- z: a refusal. u and u′ are the numbers lent for the sum
+refuses : (m u u′ : List ℕ) (z : Judged) (x y : ℕ) → z ≡ judged.Refused x y
+    → ((lent : ℕ) → read Floats base lent m ≡ Refuse x 0 y) → JudgedMet m u z u′
+refuses m u u′ z x y i h = subst (λ (z : Judged). JudgedMet m u z u′) (sym i) (record { says = h })
 
-module _ (m : List ℕ) (w : ℕ) (z : Judged) where
-  pub judge-empty : z ≡ judged.Refused 1 0 → length m ≡ 0 → JudgedMet m w z
-  judge-empty i e = refuses m w z 1 0 i (λ lent. read-empty base lent m e)
+module _ (m u : List ℕ) (z : Judged) where
+  pub judge-empty : z ≡ judged.Refused 1 0 → length m ≡ 0 → JudgedMet m u z u
+  judge-empty i e = refuses m u u z 1 0 i (λ lent. read-empty base lent m e)
 
   module _ (some : length m ≡ 0 → ⊥) where
-    pub judge-long : z ≡ judged.Refused 1 0 → base .longest < length m → JudgedMet m w z
-    judge-long i l = refuses m w z 1 0 i (λ lent. read-long base lent m (omega arith) l)
+    pub judge-long : z ≡ judged.Refused 1 0 → base .longest < length m → JudgedMet m u z u
+    judge-long i l = refuses m u u z 1 0 i (λ lent. read-long base lent m (omega arith) l)
 
-    module _ (short : length m ≤ base .longest) (r : ValuesRead) (t b t′ b′ : List ℕ)
-        (a : OneValueMet m t b w r t′ b′) where
+    module _ (short : length m ≤ base .longest) (r : ValuesRead) (b u′ b′ : List ℕ)
+        (a : OneValueMet m u b r u′ b′) where
       abbrev ks′ : List ℕ
       ks′ = a .after
 
-      said : (r′ : ValuesRead) → r ≡ r′ → SaysOf w m t b r′ t′ b′ ks′
-      said r′ e = subst (λ (z : ValuesRead). SaysOf w m t b z t′ b′ ks′) e (a .met .says)
+      said : (r′ : ValuesRead) → r ≡ r′ → SaysOf m u b r′ u′ b′ ks′
+      said r′ e = subst (λ (z : ValuesRead). SaysOf m u b z u′ b′ ks′) e (a .met .says)
 
-      pub judge-refused : (x y : ℕ) → r ≡ values-read.Refused x y → z ≡ judged.Refused x y → JudgedMet m w z
+      pub judge-refused : (x y : ℕ) → r ≡ values-read.Refused x y → z ≡ judged.Refused x y → JudgedMet m u z u′
       judge-refused x y e i =
-          let lost = single-lost (valueFrom Floats base (base .containers)) start m 0 x y (said (values-read.Refused x y) e) in
-          refuses m w z x y i (λ lent. read-lost base lent m (omega arith) short x y lost)
+          let lost = single-lost (valueFrom Floats base (base .containers)) start m 0 x y
+          (said (values-read.Refused x y) e) in
+          refuses m u u′ z x y i (λ lent. read-lost base lent m (omega arith) short x y lost)
 
       module _ (s : Spot) (i : ℕ) (e : r ≡ values-read.Done s i) where
         read-as : run (byteAt (valueFrom Floats base (base .containers))) start m 0
             ≡ ReadTo (s .at) tt (said (values-read.Done s i) e .rows) (knownIn ks′)
         read-as =
-            let v = said (values-read.Done s i) e in
-            single-got (valueFrom Floats base (base .containers)) start m 0 (s .at) i (v .rows) (knownIn ks′) (v .says)
+            let w = said (values-read.Done s i) e in
+            single-got (valueFrom Floats base (base .containers)) start m 0 (s .at) i (w .rows) (knownIn ks′) (w .says)
 
-        pub judge-over : s .at < length m → z ≡ judged.Refused 8 (s .at) → JudgedMet m w z
+        pub judge-over : s .at < length m → z ≡ judged.Refused 8 (s .at) → JudgedMet m u z u′
         judge-over l j =
             let rs = said (values-read.Done s i) e .rows in
-            refuses m w z 8 (s .at) j
+            refuses m u u′ z 8 (s .at) j
             (λ lent. read-over base lent m (omega arith) short (s .at) rs (knownIn ks′) read-as l)
 
-        pub judge-record : length m ≤ s .at → z ≡ judged.Record (s .row) (s .shortest) → JudgedMet m w z
-        judge-record l j =
-            let v = said (values-read.Done s i) e in
-            let n : s .at ≡ length m = omega (arith, v .reads .ready .at .within) in
-            subst (JudgedMet m w) (sym j) (record {
+        pub judge-record : length m ≤ s .at → length b ≡ 0 → z ≡ judged.Record (s .row) → JudgedMet m u z u′
+        judge-record l none-lent j =
+            let w = said (values-read.Done s i) e in
+            let n : s .at ≡ length m = omega (arith, w .reads .ready .at .within) in
+            let v : lentRows asBytes b ≡ 0 = omega arith in
+            subst (λ (z : Judged). JudgedMet m u z u′) (sym j) (record {
               says = record {
-                rows = v .rows;
+                rows = w .rows;
                 after = knownIn ks′;
-                says = read-as ∙ ap (λ (z : ℕ). ReadTo z tt (v .rows) (knownIn ks′)) n;
-                counted = omega (arith, v .reads .counted);
-                measured = v .reads .measured;
+                says = read-as ∙ ap (λ (z : ℕ). ReadTo z tt (w .rows) (knownIn ks′)) n;
+                counted = omega (arith, w .reads .counted);
+                measured =
+                    w .reads .stores .numbers
+                    ∙ ap (λ (z : ℕ). notedAll (length u) z m u 0 (numbered 0 (w .rows))) v;
                 some = omega arith;
                 short = short;
               };
             })
 
 -- ---- the length of what was judged
-record-length : (m : List ℕ) → Bytes m → (w : ℕ) (n k : ℕ) → IsRecord m w n k → k ≡ lengthBy w m
-record-length m b zero n k x = x .measured ∙ gathered-off m (x .rows)
-record-length m b (suc zero) n k x =
-    let l = length-read Floats base baseOpenFrom (omega arith) (omega arith) m b (x .some) (x .short)
-    (x .rows) (x .after) (x .says) in
-    x .measured ∙ gathered-floats m (x .rows) (l .1) ∙ l .0
-record-length m b (suc (suc w)) n k x =
-    let l = length-read Thousandths base baseOpenFrom (omega arith) (omega arith) m b (x .some) (x .short)
-    (x .rows) (x .after) (x .says) in
-    x .measured ∙ gathered-thousandths w m (x .rows) (l .1) ∙ l .0
+record-length : (m : List ℕ) → Bytes m → (u u′ : List ℕ) → IsSum u → (n : ℕ) → IsRecord m u n u′
+    → getD u′ 0 0 ≡ lengthBy (length u) m
+record-length m b u u′ s n x = go (length u) (s .some) (s .few) (x .measured)
+  where
+    go : (w : ℕ) → 0 < w → w ≤ 2 → u′ ≡ notedAll w 0 m u 0 (numbered 0 (x .rows)) → getD u′ 0 0 ≡ lengthBy w m
+    go zero l f e = absurd (omega arith)
+    go (suc zero) l f e =
+        let q = length-read Floats base baseOpenFrom (omega arith) (omega arith) m b (x .some) (x .short)
+        (x .rows) (x .after) (x .says) in
+        ap (λ (z : List ℕ). getD z 0 0) e ∙ sum-floats m u (x .rows) (s .some) (s .none-yet) (q .1) ∙ q .0
+    go (suc (suc zero)) l f e =
+        let q = length-read Thousandths base baseOpenFrom (omega arith) (omega arith) m b (x .some) (x .short)
+        (x .rows) (x .after) (x .says) in
+        ap (λ (z : List ℕ). getD z 0 0) e ∙ sum-thousandths m u (x .rows) (s .some) (s .none-yet) (q .1) ∙ q .0
+    go (suc (suc (suc w))) l f e = absurd (omega arith)
 
 refused-length : (m : List ℕ) (w : ℕ) (x o : ℕ) → ((lent : ℕ) → read Floats base lent m ≡ Refuse x 0 o)
     → 0 ≡ lengthBy w m
@@ -159,113 +170,145 @@ refused-length m zero x o h = refl
 refused-length m (suc zero) x o h = sym (length-refused Floats base baseOpenFrom m x o h)
 refused-length m (suc (suc w)) x o h = sym (length-refused Thousandths base baseOpenFrom m x o h)
 
-module _ (m : List ℕ) (bytes : (i : ℕ) → Fits w8 (getD m i 0)) (w : ℕ) (r : Judged) (a : JudgedMet m w r) where
-  pub length-lost : (x o : ℕ) → r ≡ judged.Refused x o → LengthMet m w 0
-  length-lost x o e = record { is = refused-length m w x o (subst (λ (z : Judged). JudgedSays m w z) e (a .says)) }
+module _ (m : List ℕ) (bytes : (i : ℕ) → Fits w8 (getD m i 0)) (u : List ℕ) (r : Judged) (u′ : List ℕ)
+    (a : JudgedMet m u r u′) where
+  judged-says : (z : Judged) → r ≡ z → JudgedSays m u z u′
+  judged-says z e = subst (λ (z : Judged). JudgedSays m u z u′) e (a .says)
 
-  pub length-got : (n k : ℕ) → r ≡ judged.Record n k → LengthMet m w k
-  length-got n k e = record {
-    is = record-length m (bytes-all m (λ i. bytes i .fits)) w n k
-        (subst (λ (z : Judged). JudgedSays m w z) e (a .says));
-  }
+  -- ---- length_by
+  pub length-lost : (x o : ℕ) → r ≡ judged.Refused x o → 0 ≡ lengthBy (length u) m
+  length-lost x o e = refused-length m (length u) x o (judged-says (judged.Refused x o) e)
 
--- ---- shortest_length and the same in thousandths
-pub length-floats : (m : List ℕ) (k : ℕ) → LengthMet m 1 k
-    → k ≡ shortestLength Floats base baseOpenFrom m
-length-floats m k x = x .is
+  module _ (s : IsSum u) (n : ℕ) (e : r ≡ judged.Record n) where
+    pub length-got : getD u′ 0 0 ≡ lengthBy (length u) m
+    length-got = record-length m (bytes-all m (λ i. bytes i .fits)) u u′ s n (judged-says (judged.Record n) e)
 
-pub length-thousandths : (m : List ℕ) (k : ℕ) → LengthMet m 2 k
-    → k ≡ shortestLength Thousandths base baseOpenFrom m
-length-thousandths m k x = x .is
-
--- ---- read_into
-module _ (m : List ℕ) (m-bytes : (i : ℕ) → Fits w8 (getD m i 0)) (t b : List ℕ) (lent : ℕ) (w : ℕ)
-    (r : Judged) (a : JudgedMet m w r) where
-  pub into-refused : (x o : ℕ) → r ≡ judged.Refused x o → ReadIntoMet m t b lent w (answer.Refused x o) t b
-  into-refused x o e =
-      let h : read Floats base lent m ≡ Refuse x 0 o = subst (λ (z : Judged). JudgedSays m w z) e (a .says) lent in
-      record {
-        says = sym (ap readNumbers h);
-        measures = sym (ap (lengthAnswered (lengthBy w m)) h);
-        numbers = sym (ap (λ (z : ReadResult). filled asNumbers t z) h);
-        bytes = sym (ap (λ (z : ReadResult). filled asBytes b z) h);
-      }
-
-  module _ (n k : ℕ) (e : r ≡ judged.Record n k) where
-    record-of : IsRecord m w n k
-    record-of = subst (λ (z : Judged). JudgedSays m w z) e (a .says)
-
-    pub into-few : lent < n → ReadIntoMet m t b lent w (answer.TooFew n) t b
-    into-few l =
-        let x = record-of in
-        let h : read Floats base lent m ≡ Refuse 9 n 0 =
-        read-small base lent m (x .some) (x .short) (length m) (x .rows) (x .after) (x .says)
-        (omega arith) (omega (arith, x .counted))
-        ∙ ap (λ (z : ℕ). Refuse 9 z 0) (x .counted) in
+  -- ---- read_into
+  module _ (t b : List ℕ) (lent : ℕ) where
+    pub into-refused : (x o : ℕ) → r ≡ judged.Refused x o → ReadIntoMet m t b u lent (answer.Refused x o) t b u′
+    into-refused x o e =
+        let h : read Floats base lent m ≡ Refuse x 0 o = judged-says (judged.Refused x o) e lent in
         record {
           says = sym (ap readNumbers h);
-          measures = sym (ap (lengthAnswered (lengthBy w m)) h);
+          measures = λ s. sym (ap (lengthAnswered (lengthBy (length u) m)) h);
           numbers = sym (ap (λ (z : ReadResult). filled asNumbers t z) h);
           bytes = sym (ap (λ (z : ReadResult). filled asBytes b z) h);
         }
 
-    pub into-record : n ≤ lent → (v : ValuesRead) (t′ b′ : List ℕ) → OneValueMet m t b 0 v t′ b′
-        → ReadIntoMet m t b lent w (answer.Accepted n (length m) k) t′ b′
-    into-record l v t′ b′ x = go v (x .met .says)
-      where
-        h : read Floats base lent m ≡ Accept (numbered 0 (record-of .rows)) (length m)
-        h =
-            let q = record-of in
-            read-got base lent m (q .some) (q .short) (length m) (q .rows) (q .after) (q .says)
-            (omega arith) (omega (arith, q .counted))
+    module _ (n : ℕ) (e : r ≡ judged.Record n) where
+      record-of : IsRecord m u n u′
+      record-of = judged-says (judged.Record n) e
 
-        go : (v : ValuesRead) → SaysOf 0 m t b v t′ b′ (x .after)
-            → ReadIntoMet m t b lent w (answer.Accepted n (length m) k) t′ b′
-        go (values-read.Refused y o) s =
-            let i = single-lost (valueFrom Floats base (base .containers)) start m 0 y o s in
-            let j = record-of .says in
-            let z : _≡_ {A = ℕ} 0 1 = cc in
-            absurd (omega arith)
-        go (values-read.Done q i) s =
-            let u = record-of in
-            let g =
-            single-got (valueFrom Floats base (base .containers)) start m 0 (q .at) i
-            (s .rows) (knownIn (x .after)) (s .says) in
-            let y = u .says in
-            let same : s .rows ≡ u .rows = cc in
-            record {
-              says =
-                  sym (ap readNumbers h
-                  ∙ ap (λ (z : ℕ). record { number = 0; count = z; place = length m })
-                  (numbered-length 0 (u .rows) ∙ u .counted));
-              measures =
-                  record-length m (bytes-all m (λ i. m-bytes i .fits)) w n k u
-                  ∙ sym (ap (lengthAnswered (lengthBy w m)) h);
-              numbers =
-                  s .reads .stores .numbers
-                  ∙ ap (λ (z : List Row). overlay (asNumbers .width) (asNumbers .encode) t 0 (numbered 0 z)) same
-                  ∙ sym (ap (λ (z : ReadResult). filled asNumbers t z) h);
-              bytes =
-                  s .reads .stores .bytes
-                  ∙ ap (λ (z : List Row). overlay (asBytes .width) (asBytes .encode) b 0 (numbered 0 z)) same
-                  ∙ sym (ap (λ (z : ReadResult). filled asBytes b z) h);
-            }
+      pub into-few : lent < n → ReadIntoMet m t b u lent (answer.TooFew n) t b u′
+      into-few l =
+          let w = record-of in
+          let h : read Floats base lent m ≡ Refuse 9 n 0 =
+          read-small base lent m (w .some) (w .short) (length m) (w .rows) (w .after) (w .says)
+          (omega arith) (omega (arith, w .counted))
+          ∙ ap (λ (z : ℕ). Refuse 9 z 0) (w .counted) in
+          record {
+            says = sym (ap readNumbers h);
+            measures = λ s. sym (ap (lengthAnswered (lengthBy (length u) m)) h);
+            numbers = sym (ap (λ (z : ReadResult). filled asNumbers t z) h);
+            bytes = sym (ap (λ (z : ReadResult). filled asBytes b z) h);
+          }
 
--- ---- read, read_bytes
+      pub into-record : n ≤ lent → lent ≤ lentRows asNumbers t + lentRows asBytes b
+          → (v : ValuesRead) (t′ b′ : List ℕ) → OneValueMet m t b v t′ b′
+          → ReadIntoMet m t b u lent (answer.Accepted n (length m)) t′ b′ u′
+      into-record l room v t′ b′ x = go v (x .met .says)
+        where
+          h : read Floats base lent m ≡ Accept (numbered 0 (record-of .rows)) (length m)
+          h =
+              let w = record-of in
+              read-got base lent m (w .some) (w .short) (length m) (w .rows) (w .after) (w .says)
+              (omega arith) (omega (arith, w .counted))
+
+          go : (v : ValuesRead) → SaysOf m t b v t′ b′ (x .after)
+              → ReadIntoMet m t b u lent (answer.Accepted n (length m)) t′ b′ u′
+          go (values-read.Refused y o) s =
+              let i = single-lost (valueFrom Floats base (base .containers)) start m 0 y o s in
+              let j = record-of .says in
+              let z : _≡_ {A = ℕ} 0 1 = cc in
+              absurd (omega arith)
+          go (values-read.Done q i) s =
+              let w = record-of in
+              let g =
+              single-got (valueFrom Floats base (base .containers)) start m 0 (q .at) i
+              (s .rows) (knownIn (x .after)) (s .says) in
+              let y = w .says in
+              let same : s .rows ≡ w .rows = cc in
+              record {
+                says =
+                    sym (ap readNumbers h
+                    ∙ ap (λ (z : ℕ). record { number = 0; count = z; place = length m })
+                    (numbered-length 0 (w .rows) ∙ w .counted));
+                measures = λ z. length-got z n e ∙ sym (ap (lengthAnswered (lengthBy (length u) m)) h);
+                numbers =
+                    s .reads .stores .numbers
+                    ∙ ap (λ (z : List Row). notedAll (length t) (lentRows asBytes b) m t 0 (numbered 0 z)) same
+                    ∙ noted-laid m t b 0 (numbered 0 (w .rows))
+                    (omega (arith, numbered-length 0 (w .rows), w .counted))
+                    ∙ sym (ap (λ (z : ReadResult). filled asNumbers t z) h);
+                bytes =
+                    s .reads .stores .bytes
+                    ∙ ap (λ (z : List Row). overlay (asBytes .width) (asBytes .encode) b 0 (numbered 0 z)) same
+                    ∙ sym (ap (λ (z : ReadResult). filled asBytes b z) h);
+              }
+
+-- ---- an answer with a length
+pub with-refused : (r : FillAnswer) (w x o : ℕ) → r ≡ answer.Refused x o → read-answer.Refused x o ≡ withLength r w
+with-refused r w x o e = sym (ap (λ (r : FillAnswer). withLength r w) e)
+
+pub with-few : (r : FillAnswer) (w n : ℕ) → r ≡ answer.TooFew n → read-answer.TooFew n ≡ withLength r w
+with-few r w n e = sym (ap (λ (r : FillAnswer). withLength r w) e)
+
+pub with-accepted : (r : FillAnswer) (w n k : ℕ) → r ≡ answer.Accepted n k → read-answer.Accepted n k w ≡ withLength r w
+with-accepted r w n k e = sym (ap (λ (r : FillAnswer). withLength r w) e)
+
+same-report : (r : FillAnswer) (w : ℕ) → report (withLength r w) ≡ fillReport r
+same-report (answer.Accepted n k) w = refl
+same-report (answer.Refused x o) w = refl
+same-report (answer.TooFew n) w = refl
+
+-- ---- numbers lent for a sum, as they are at first
+pub sum-of-one : IsSum (replicate 1 0)
+sum-of-one = record { some = omega arith; few = omega arith; none-yet = refl }
+
+pub sum-of-two : IsSum (replicate 2 0)
+sum-of-two = record { some = omega arith; few = omega arith; none-yet = refl }
+
+-- ---- read, read_bytes, fill_bytes
 -- one table, with as many rows lent as it has
-module _ (m : List ℕ) (bytes : (i : ℕ) → Fits w8 (getD m i 0)) (t b : List ℕ) (r : ReadAnswer) (t′ b′ : List ℕ) where
-  module _ (w : ℕ) where
-    pub numbers-call : ReadIntoMet m t b (lentRows asNumbers t) w r t′ b′
-        → ReadCall Floats base asNumbers m t (report r) t′
-    numbers-call x = record { bytes = bytes-all m (λ i. bytes i .fits); report = x .says; table = x .numbers }
+module _ (m : List ℕ) (bytes : (i : ℕ) → Fits w8 (getD m i 0)) (t b u : List ℕ) (r : FillAnswer)
+    (t′ b′ u′ : List ℕ) where
+  pub numbers-call : ReadIntoMet m t b u (lentRows asNumbers t) r t′ b′ u′
+      → ReadCall Floats base asNumbers m t (fillReport r) t′
+  numbers-call x = record { bytes = bytes-all m (λ i. bytes i .fits); report = x .says; table = x .numbers }
 
-    pub bytes-call : ReadIntoMet m t b (lentRows asBytes b) w r t′ b′ → ReadCall Floats base asBytes m b (report r) b′
-    bytes-call x = record { bytes = bytes-all m (λ i. bytes i .fits); report = x .says; table = x .bytes }
+  pub bytes-call : ReadIntoMet m t b u (lentRows asBytes b) r t′ b′ u′
+      → ReadCall Floats base asBytes m b (fillReport r) b′
+  bytes-call x = record { bytes = bytes-all m (λ i. bytes i .fits); report = x .says; table = x .bytes }
 
-  pub read-numbers : ReadIntoMet m t b (lentRows asNumbers t) 1 r t′ b′
-      → MeasuredCall Floats base asNumbers m t (report r) (shortest r) t′
-  read-numbers x = record { call = numbers-call 1 x; shortest = x .measures }
+-- with a sum of one number
+module _ (m : List ℕ) (bytes : (i : ℕ) → Fits w8 (getD m i 0)) (t b : List ℕ) (r : FillAnswer) (t′ b′ u′ : List ℕ)
+    (a : ReadAnswer) (e : a ≡ withLength r (getD u′ 0 0)) where
+  by-one : (lent : ℕ) → ReadIntoMet m t b (replicate 1 0) lent r t′ b′ u′
+      → shortest a ≡ lengthAnswered (lengthBy 1 m) (read Floats base lent m)
+  by-one lent x = ap shortest e ∙ x .measures sum-of-one
 
-  pub read-table : ReadIntoMet m t b (lentRows asBytes b) 1 r t′ b′
-      → MeasuredCall Floats base asBytes m b (report r) (shortest r) b′
-  read-table x = record { call = bytes-call 1 x; shortest = x .measures }
+  pub read-numbers : ReadIntoMet m t b (replicate 1 0) (lentRows asNumbers t) r t′ b′ u′
+      → MeasuredCall Floats base asNumbers m t (report a) (shortest a) t′
+  read-numbers x = record {
+    call = subst (λ (z : Report). ReadCall Floats base asNumbers m t z t′)
+        (sym (ap report e ∙ same-report r (getD u′ 0 0))) (numbers-call m bytes t b (replicate 1 0) r t′ b′ u′ x);
+    shortest = by-one (lentRows asNumbers t) x;
+  }
+
+  pub read-table : ReadIntoMet m t b (replicate 1 0) (lentRows asBytes b) r t′ b′ u′
+      → MeasuredCall Floats base asBytes m b (report a) (shortest a) b′
+  read-table x = record {
+    call = subst (λ (z : Report). ReadCall Floats base asBytes m b z b′)
+        (sym (ap report e ∙ same-report r (getD u′ 0 0))) (bytes-call m bytes t b (replicate 1 0) r t′ b′ u′ x);
+    shortest = by-one (lentRows asBytes b) x;
+  }

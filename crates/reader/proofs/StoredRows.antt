@@ -1,18 +1,20 @@
 -- What the contracts on rows ask at each way out of the code.
-use mathlib.Core.Path.{_≡_, sym, ap, _∙_}
+use mathlib.Core.Path.{_≡_, refl, sym, ap, _∙_}
 use mathlib.Core.List.{List, [], _∷_, _++_}
-use Prim.Native.Nat.{ℕ, suc, _+_, _*_, _/_, _%_, _≤_, _<_}
+use Prim.Native.Nat.{ℕ, zero, suc, _+_, _*_, _/_, _%_, _≤_, _<_}
 use native.Mathlib.Omega.{arith}
 use lib.ListN.{length, set, length-append}
-use Rattle.flow.specs.Flow.{stored, put}
-use Rattle.flow.specs.OverlayLaws.{stored-out, stored-sets, length-stored, stored-seam}
+use borrow.Author.Tests.{lt-ltb, le-ltb}
+use Rattle.flow.specs.Tests.{pick-true, pick-false}
+use Rattle.flow.specs.Flow.{stored, put, overlay}
+use Rattle.flow.specs.OverlayLaws.{stored-out, stored-sets, length-stored, stored-seam, length-put}
 use Rattle.wire.specs.BigEndian.{be}
 use Rattle.wire.specs.Laws.{be-length}
 use Rattle.record.specs.Model.Rows.{Row, row}
 use Rattle.record.specs.Model.Answers.{asNumbers, asBytes, lentRows}
 use Rattle.record.specs.Laws.TableLaws.{bytes-sized}
-use Rattle.reader.specs.Contracts.{StoresRow}
-use Rattle.reader.proofs.Tables.{stores-row}
+use Rattle.reader.specs.Contracts.{adding, noted, notedAll, StoresRow}
+use Rattle.reader.proofs.Tables.{numbers-sized}
 
 -- ---- a row that does not fit
 pub numbers-out : (t : List ℕ) (k : ℕ) (r : Row) → lentRows asNumbers t ≤ k
@@ -25,9 +27,53 @@ pub bytes-out : (t : List ℕ) (k : ℕ) (r : Row) → lentRows asBytes t ≤ k
 unfolding put
 bytes-out t k r h = sym (stored-out t (k * 40) (asBytes .encode r) (omega (arith, bytes-sized r)))
 
-pub stores-row-none : (t b : List ℕ) (k : ℕ) (r : Row) → lentRows asNumbers t + lentRows asBytes b ≤ k
-    → StoresRow t b k r t b
-stores-row-none t b k r h = stores-row (numbers-out t k r (omega arith)) (bytes-out b k r (omega arith))
+-- ---- a row in both: there is room; there is none, and the numbers are none, or a sum, or a table
+module _ (m t b : List ℕ) (k : ℕ) (r : Row) where
+  abbrev lent-bytes : ℕ
+  lent-bytes = lentRows asBytes b
+
+  noted-room : (w : ℕ) → w ≡ length t → k < lentRows asNumbers t + lent-bytes
+      → noted w lent-bytes m t k r ≡ put (asNumbers .width) (asNumbers .encode) t k r
+  noted-room zero e h = numbers-out t k r (omega arith)
+  noted-room (suc zero) e h = pick-true _ _ (lt-ltb k lent-bytes (omega arith)) ∙ numbers-out t k r (omega arith)
+  noted-room (suc (suc zero)) e h = pick-true _ _ (lt-ltb k lent-bytes (omega arith)) ∙ numbers-out t k r (omega arith)
+  noted-room (suc (suc (suc w))) e h = refl
+
+  noted-over : (w : ℕ) → w ≡ length t → lentRows asNumbers t + lent-bytes ≤ k
+      → noted w lent-bytes m t k r ≡ adding w m t r
+  noted-over zero e h = refl
+  noted-over (suc zero) e h = pick-false _ _ (le-ltb k lent-bytes (omega arith))
+  noted-over (suc (suc zero)) e h = pick-false _ _ (le-ltb k lent-bytes (omega arith))
+  noted-over (suc (suc (suc w))) e h = sym (numbers-out t k r (omega arith))
+
+  pub stores-room : {t′ b′ : List ℕ} → k < lentRows asNumbers t + lentRows asBytes b
+      → t′ ≡ put (asNumbers .width) (asNumbers .encode) t k r → b′ ≡ put (asBytes .width) (asBytes .encode) b k r
+      → StoresRow m t b k r t′ b′
+  stores-room h e f = record { numbers = e ∙ sym (noted-room (length t) refl h); bytes = f }
+
+  pub stores-added : {t′ : List ℕ} → lentRows asNumbers t + lentRows asBytes b ≤ k → t′ ≡ adding (length t) m t r
+      → StoresRow m t b k r t′ b
+  stores-added h e =
+      record { numbers = e ∙ sym (noted-over (length t) refl h); bytes = bytes-out b k r (omega arith) }
+
+  pub stores-nothing : length t ≡ 0 → lentRows asBytes b ≤ k → StoresRow m t b k r t b
+  stores-nothing e h = stores-added (omega arith) (sym (ap (λ (w : ℕ). adding w m t r) e))
+
+  pub stores-over : lentRows asNumbers t + lentRows asBytes b ≤ k → length t ≤ 0 → StoresRow m t b k r t b
+  stores-over h z = stores-nothing (omega arith) (omega arith)
+
+-- ---- every row fits: they are laid over
+pub noted-laid : (m t b : List ℕ) (k : ℕ) (rs : List Row) → k + length rs ≤ lentRows asNumbers t + lentRows asBytes b
+    → notedAll (length t) (lentRows asBytes b) m t k rs ≡ overlay (asNumbers .width) (asNumbers .encode) t k rs
+unfolding overlay
+noted-laid m t b k [] h = refl
+noted-laid m t b k (r ∷ rs) h =
+    let t₁ = put (asNumbers .width) (asNumbers .encode) t k r in
+    let w : length t₁ ≡ length t = length-put (asNumbers .width) (asNumbers .encode) numbers-sized t k r in
+    ap (λ (z : List ℕ). notedAll (length t) (lentRows asBytes b) m z (suc k) rs)
+    (noted-room m t b k r (length t) refl (omega arith))
+    ∙ ap (λ (z : ℕ). notedAll z (lentRows asBytes b) m t₁ (suc k) rs) (sym w)
+    ∙ noted-laid m t₁ b (suc k) rs (omega arith)
 
 -- ---- its five numbers, one by one
 seam : (l : List ℕ) (i j : ℕ) (a b : List ℕ) → j ≡ i + length a → j + length b ≤ length l

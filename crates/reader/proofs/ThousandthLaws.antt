@@ -6,7 +6,7 @@ use mathlib.Core.List.{List, map}
 use Prim.Native.Nat.{ℕ, _+_, _-_, _*_, _≤_, _<_}
 use native.Mathlib.Omega.{arith}
 use lib.Dec.{leb, eqb}
-use lib.ListN.{length, take, drop, getD}
+use lib.ListN.{length, take, drop, getD, replicate}
 use lib.Seq.{getD-take, getD-drop}
 use mir.Syntax.{w8, w32}
 use mir.Val.{Fits, toZ}
@@ -15,25 +15,24 @@ use Rattle.flow.specs.Flow.{put, overlay}
 use Rattle.flow.specs.Tests.{pick-true, pick-false}
 use Rattle.flow.specs.OverlayLaws.{length-put}
 use Rattle.wire.specs.BigEndian.{joined, eightAt}
-use Rattle.scalar.specs.declared.Sort.the-variants.{Double}
-use Rattle.scalar.specs.Scalars.{thousandths, Floats, Thousandths, formsOf, shortest as shortestOf}
-use Rattle.scalar.specs.Answers.{lengthOf}
+use Rattle.scalar.specs.Scalars.{thousandths, Floats, Thousandths}
 use Rattle.record.specs.Model.Rows.{Row, row}
 use Rattle.record.specs.Model.Answers.{Layout, base, baseOpenFrom, asNumbers, asBytes, lentRows, read, lengthAnswered}
-use Rattle.record.specs.Model.Answers.{readLength}
+use Rattle.record.specs.Model.Answers.{shortestLength}
 use Rattle.record.specs.Model.Calls.{Keeps, ReadCall, MeasuredCall}
 use Rattle.record.specs.Laws.TableLaws.{numbers-keep, bytes-keep}
 use Rattle.record.specs.Laws.ThousandthRows.{length-in-thousandths}
-use Rattle.record.specs.Laws.RowLengths.{rowLength, lengthUnder, under-other-kind, number-row-length}
 use Rattle.record.specs.Model.Terms.{firstInThousandths, rowInThousandths}
 use Rattle.record.specs.ForReader.Retelling.{HeldRows, retoldTo, retold-start, retold-length, retold-row, retold-next}
 use Rattle.record.specs.ForReader.Retelling.{retold-all, held-room, refused-call, accepted-held, accepted-call}
 use Rattle.reader.specs.declared.ReadAnswer.{ReadAnswer}
 use Rattle.reader.specs.declared.ReadAnswer.the-variants.{Accepted, Refused, TooFew}
-use Rattle.reader.specs.Answers.{report, shortest}
+use Rattle.reader.specs.declared.FillAnswer.{FillAnswer}
+use Rattle.reader.specs.declared.FillAnswer.the-variants as fill
+use Rattle.reader.specs.Answers.{report, shortest, fillReport}
 use Rattle.reader.specs.OneAnswer.{answerOf, one-answer}
-use Rattle.reader.specs.Contracts.{lengthBy, ReadIntoMet, Retold}
-use Rattle.reader.proofs.Message.{numbers-call, bytes-call}
+use Rattle.reader.specs.Contracts.{lengthBy, withLength, ReadIntoMet, Retold}
+use Rattle.reader.proofs.Message.{sum-of-two, numbers-call, bytes-call}
 
 -- ---- a row's first number, by the tests
 module _ (m : List ℕ) (x : Row) where
@@ -60,18 +59,6 @@ module _ (m : List ℕ) (x : Row) where
         eq-eqb (getD m (x .place) 0) 0x5f b,
         le-leb (x .place + 5) (length m) l,
       ) refl))
-
--- ---- the bytes that are a row's own
-module _ (m : List ℕ) (x : Row) where
-  pub length-other : (own : ℕ) → own ≡ rowLength m x → (x .kind ≡ 5 → ⊥) → own ≡ lengthUnder Thousandths m x
-  length-other own e h = e ∙ sym (under-other-kind m x Thousandths h)
-
-  pub length-double : x .kind ≡ 5 → (v n : ℕ) → v ≡ firstInThousandths m x → n ≡ lengthOf (shortestOf (formsOf Double) v)
-      → n ≡ lengthUnder Thousandths m x
-  length-double k v n d e =
-      e ∙ ap (λ (v : ℕ). lengthOf (shortestOf (formsOf Double) v)) d
-      ∙ sym (ap (λ (j : ℕ). rowLength m (row j (x .place) (firstInThousandths m x) (x .second) (x .after))) k
-      ∙ number-row-length m (x .place) (firstInThousandths m x) (x .second) (x .after) Double)
 
 -- ---- the row k of a table
 module _ (t : List ℕ) (k : ℕ) where
@@ -119,7 +106,8 @@ module _ (L : Layout) (keeps : Keeps L) (m T : List ℕ) (n : ℕ) where
     rows-are = λ x.
         let q = R .rows-are x in
         let a : r ≡ getD (x .held) i (row 0 0 0 0 0) =
-        d ∙ ap (λ (l : List ℕ). L .decode (take (L .width) (drop (i * L .width) l))) q ∙ retold-row L keeps m T n x i h in
+        d ∙ ap (λ (l : List ℕ). L .decode (take (L .width) (drop (i * L .width) l))) q
+        ∙ retold-row L keeps m T n x i h in
         f ∙ ap (λ (l : List ℕ). put (L .width) (L .encode) l i s) q
         ∙ retold-next L keeps m T n x i h s (e ∙ ap (rowInThousandths m) a);
   }
@@ -131,98 +119,125 @@ module _ (L : Layout) (keeps : Keeps L) (m T : List ℕ) (n : ℕ) where
         subst (λ (j : ℕ). T′ ≡ retoldTo L keeps m T n x j) e (R .rows-are x) ∙ retold-all L keeps m T n x;
   }
 
--- ---- the answer in thousandths, by that of the main rule with the length of this one
-module _ (L : Layout) (keeps : Keeps L) (m t : List ℕ) (r : ReadAnswer) (t₁ : List ℕ)
-    (g : ReadCall Floats base L m t (report r) t₁)
-    (q : shortest r ≡ lengthAnswered (lengthBy 2 m) (read Floats base (lentRows L t) m)) where
-  as-told : (s : ReadAnswer) → r ≡ s → ReadCall Floats base L m t (report s) t₁
-  as-told s e = subst (λ (x : ReadAnswer). ReadCall Floats base L m t (report x) t₁) e g
+-- ---- the answer in thousandths, by that of the main rule
+module _ (L : Layout) (keeps : Keeps L) (m t : List ℕ) (r : FillAnswer) (t₁ : List ℕ)
+    (g : ReadCall Floats base L m t (fillReport r) t₁) where
+  as-told : (s : FillAnswer) → r ≡ s → ReadCall Floats base L m t (fillReport s) t₁
+  as-told s e = subst (λ (x : FillAnswer). ReadCall Floats base L m t (fillReport x) t₁) e g
 
-  length-told : (s : ReadAnswer) → r ≡ s → shortest s ≡ readLength Thousandths base baseOpenFrom L m t
-  length-told s e =
-      sym (ap shortest e) ∙ q ∙ sym (length-in-thousandths m base (lentRows L t) (lengthBy 2 m))
-
-  pub refused-told : (x o : ℕ) → r ≡ Refused x o → MeasuredCall Thousandths base L m t (report (Refused x o)) 0 t₁
-  refused-told x o e = record {
-    call = refused-call base (omega arith) L keeps m t (report (Refused x o)) t₁ (as-told (Refused x o) e) (λ z. other z);
-    shortest = length-told (Refused x o) e;
-  }
+  pub refused-told : (x o : ℕ) → r ≡ fill.Refused x o
+      → ReadCall Thousandths base L m t (fillReport (fill.Refused x o)) t₁
+  refused-told x o e =
+      refused-call base (omega arith) L keeps m t (report (Refused x o)) t₁ (as-told (fill.Refused x o) e)
+      (λ z. other z)
     where
       other : x ≡ 0 → ⊥
       other z =
           let a : answerOf (report (Refused x o)) 0 ≡ Refused x o =
-          one-answer Floats base L m t t₁ (Refused x o) (as-told (Refused x o) e) in
+          one-answer Floats base L m t t₁ (Refused x o) (as-told (fill.Refused x o) e) in
           let b : answerOf (report (Refused x o)) 0 ≡ Accepted 0 o 0 = rw z refl in
           let y : _≡_ {A = ℕ} 0 1 = cc in
           omega arith
 
-  pub few-told : (n : ℕ) → r ≡ TooFew n → MeasuredCall Thousandths base L m t (report (TooFew n)) 0 t₁
-  few-told n e = record {
-    call = refused-call base (omega arith) L keeps m t (report (TooFew n)) t₁ (as-told (TooFew n) e) (λ z. omega arith);
-    shortest = length-told (TooFew n) e;
-  }
+  pub few-told : (n : ℕ) → r ≡ fill.TooFew n → ReadCall Thousandths base L m t (fillReport (fill.TooFew n)) t₁
+  few-told n e =
+      refused-call base (omega arith) L keeps m t (report (TooFew n)) t₁ (as-told (fill.TooFew n) e) (λ z. omega arith)
 
-  module _ (n k w : ℕ) (e : r ≡ Accepted n k w) where
+  module _ (n k : ℕ) (e : r ≡ fill.Accepted n k) where
     held : HeldRows L t₁ n
-    held = accepted-held base (omega arith) L keeps m t (report (Accepted n k w)) t₁ (as-told (Accepted n k w) e) refl
+    held = accepted-held base (omega arith) L keeps m t (fillReport (fill.Accepted n k)) t₁
+        (as-told (fill.Accepted n k) e) refl
 
     pub accepted-room : n * L .width ≤ length t₁
     accepted-room = held-room L keeps t₁ n held
 
     pub accepted-told : (t₂ : List ℕ) → Retold L m t₁ n t₂
-        → MeasuredCall Thousandths base L m t (report (Accepted n k w)) w t₂
-    accepted-told t₂ x = record {
-      call = accepted-call base (omega arith) L keeps m t (report (Accepted n k w)) t₁ (as-told (Accepted n k w) e) refl
-          t₂ (λ h. x .retold h);
-      shortest = length-told (Accepted n k w) e;
-    }
+        → ReadCall Thousandths base L m t (fillReport (fill.Accepted n k)) t₂
+    accepted-told t₂ x =
+        accepted-call base (omega arith) L keeps m t (fillReport (fill.Accepted n k)) t₁ (as-told (fill.Accepted n k) e)
+        refl t₂ (λ h. x .retold h)
+
+-- ---- with the length: u′ are the two numbers lent for the sum, afterwards
+module _ (m t b : List ℕ) (lent : ℕ) (r : FillAnswer) (t₁ b₁ u′ : List ℕ)
+    (h : ReadIntoMet m t b (replicate 2 0) lent r t₁ b₁ u′) where
+  length-told : (s : FillAnswer) → r ≡ s → shortest (withLength s (getD u′ 0 0))
+      ≡ lengthAnswered (shortestLength Thousandths base baseOpenFrom m) (read Thousandths base lent m)
+  length-told s e =
+      sym (ap (λ (r : FillAnswer). shortest (withLength r (getD u′ 0 0))) e)
+      ∙ h .measures sum-of-two
+      ∙ sym (length-in-thousandths m base lent (lengthBy 2 m))
 
 -- ---- the same of a table of numbers, and of bytes, by what `read_into` promises
-module _ (m : List ℕ) (bytes : (i : ℕ) → Fits w8 (getD m i 0)) (t b : List ℕ) (r : ReadAnswer) (t₁ b₁ : List ℕ) where
-  module _ (h : ReadIntoMet m t b (lentRows asNumbers t) 2 r t₁ b₁) where
-    pub numbers-refused : (x o : ℕ) → r ≡ Refused x o
+module _ (m : List ℕ) (bytes : (i : ℕ) → Fits w8 (getD m i 0)) (t b : List ℕ) (r : FillAnswer) (t₁ b₁ u′ : List ℕ) where
+  module _ (h : ReadIntoMet m t b (replicate 2 0) (lentRows asNumbers t) r t₁ b₁ u′) where
+    by-floats : ReadCall Floats base asNumbers m t (fillReport r) t₁
+    by-floats = numbers-call m bytes t b (replicate 2 0) r t₁ b₁ u′ h
+
+    pub numbers-refused : (x o : ℕ) → r ≡ fill.Refused x o
         → MeasuredCall Thousandths base asNumbers m t (report (Refused x o)) 0 t₁
-    numbers-refused =
-        refused-told asNumbers numbers-keep m t r t₁ (numbers-call m bytes t b r t₁ b₁ 2 h)
-        (h .measures)
+    numbers-refused x o e = record {
+      call = refused-told asNumbers numbers-keep m t r t₁ by-floats x o e;
+      shortest = length-told m t b (lentRows asNumbers t) r t₁ b₁ u′ h (fill.Refused x o) e;
+    }
 
-    pub numbers-few : (n : ℕ) → r ≡ TooFew n → MeasuredCall Thousandths base asNumbers m t (report (TooFew n)) 0 t₁
-    numbers-few =
-        few-told asNumbers numbers-keep m t r t₁ (numbers-call m bytes t b r t₁ b₁ 2 h)
-        (h .measures)
+    pub numbers-few : (n : ℕ) → r ≡ fill.TooFew n → MeasuredCall Thousandths base asNumbers m t (report (TooFew n)) 0 t₁
+    numbers-few n e = record {
+      call = few-told asNumbers numbers-keep m t r t₁ by-floats n e;
+      shortest = length-told m t b (lentRows asNumbers t) r t₁ b₁ u′ h (fill.TooFew n) e;
+    }
 
-    module _ (n k w : ℕ) (e : r ≡ Accepted n k w) where
+    module _ (n k : ℕ) (e : r ≡ fill.Accepted n k) where
       pub numbers-room : n * 5 ≤ length t₁
-      numbers-room =
-          accepted-room asNumbers numbers-keep m t r t₁ (numbers-call m bytes t b r t₁ b₁ 2 h)
-          (h .measures) n k w e
+      numbers-room = accepted-room asNumbers numbers-keep m t r t₁ by-floats n k e
 
       pub numbers-told : (t₂ : List ℕ) → Retold asNumbers m t₁ n t₂
-          → MeasuredCall Thousandths base asNumbers m t (report (Accepted n k w)) w t₂
-      numbers-told =
-          accepted-told asNumbers numbers-keep m t r t₁ (numbers-call m bytes t b r t₁ b₁ 2 h)
-          (h .measures) n k w e
+          → MeasuredCall Thousandths base asNumbers m t (report (Accepted n k (getD u′ 0 0))) (getD u′ 0 0) t₂
+      numbers-told t₂ x = record {
+        call = accepted-told asNumbers numbers-keep m t r t₁ by-floats n k e t₂ x;
+        shortest = length-told m t b (lentRows asNumbers t) r t₁ b₁ u′ h (fill.Accepted n k) e;
+      }
 
-  module _ (h : ReadIntoMet m t b (lentRows asBytes b) 2 r t₁ b₁) where
-    pub bytes-refused : (x o : ℕ) → r ≡ Refused x o
+  module _ (h : ReadIntoMet m t b (replicate 2 0) (lentRows asBytes b) r t₁ b₁ u′) where
+    in-bytes : ReadCall Floats base asBytes m b (fillReport r) b₁
+    in-bytes = bytes-call m bytes t b (replicate 2 0) r t₁ b₁ u′ h
+
+    pub bytes-refused : (x o : ℕ) → r ≡ fill.Refused x o
         → MeasuredCall Thousandths base asBytes m b (report (Refused x o)) 0 b₁
-    bytes-refused =
-        refused-told asBytes bytes-keep m b r b₁ (bytes-call m bytes t b r t₁ b₁ 2 h)
-        (h .measures)
+    bytes-refused x o e = record {
+      call = refused-told asBytes bytes-keep m b r b₁ in-bytes x o e;
+      shortest = length-told m t b (lentRows asBytes b) r t₁ b₁ u′ h (fill.Refused x o) e;
+    }
 
-    pub bytes-few : (n : ℕ) → r ≡ TooFew n → MeasuredCall Thousandths base asBytes m b (report (TooFew n)) 0 b₁
-    bytes-few =
-        few-told asBytes bytes-keep m b r b₁ (bytes-call m bytes t b r t₁ b₁ 2 h)
-        (h .measures)
+    pub bytes-few : (n : ℕ) → r ≡ fill.TooFew n → MeasuredCall Thousandths base asBytes m b (report (TooFew n)) 0 b₁
+    bytes-few n e = record {
+      call = few-told asBytes bytes-keep m b r b₁ in-bytes n e;
+      shortest = length-told m t b (lentRows asBytes b) r t₁ b₁ u′ h (fill.TooFew n) e;
+    }
 
-    module _ (n k w : ℕ) (e : r ≡ Accepted n k w) where
+    module _ (n k : ℕ) (e : r ≡ fill.Accepted n k) where
       pub bytes-room : n * 40 ≤ length b₁
-      bytes-room =
-          accepted-room asBytes bytes-keep m b r b₁ (bytes-call m bytes t b r t₁ b₁ 2 h)
-          (h .measures) n k w e
+      bytes-room = accepted-room asBytes bytes-keep m b r b₁ in-bytes n k e
 
       pub bytes-told : (b₂ : List ℕ) → Retold asBytes m b₁ n b₂
-          → MeasuredCall Thousandths base asBytes m b (report (Accepted n k w)) w b₂
-      bytes-told =
-          accepted-told asBytes bytes-keep m b r b₁ (bytes-call m bytes t b r t₁ b₁ 2 h)
-          (h .measures) n k w e
+          → MeasuredCall Thousandths base asBytes m b (report (Accepted n k (getD u′ 0 0))) (getD u′ 0 0) b₂
+      bytes-told b₂ x = record {
+        call = accepted-told asBytes bytes-keep m b r b₁ in-bytes n k e b₂ x;
+        shortest = length-told m t b (lentRows asBytes b) r t₁ b₁ u′ h (fill.Accepted n k) e;
+      }
+
+-- ---- and of a table of bytes, not measured
+module _ (m b : List ℕ) (r : FillAnswer) (b₁ : List ℕ) (g : ReadCall Floats base asBytes m b (fillReport r) b₁) where
+  pub fill-refused : (x o : ℕ) → r ≡ fill.Refused x o
+      → ReadCall Thousandths base asBytes m b (fillReport (fill.Refused x o)) b₁
+  fill-refused = refused-told asBytes bytes-keep m b r b₁ g
+
+  pub fill-few : (n : ℕ) → r ≡ fill.TooFew n → ReadCall Thousandths base asBytes m b (fillReport (fill.TooFew n)) b₁
+  fill-few = few-told asBytes bytes-keep m b r b₁ g
+
+  module _ (n k : ℕ) (e : r ≡ fill.Accepted n k) where
+    pub fill-room : n * 40 ≤ length b₁
+    fill-room = accepted-room asBytes bytes-keep m b r b₁ g n k e
+
+    pub fill-told : (b₂ : List ℕ) → Retold asBytes m b₁ n b₂
+        → ReadCall Thousandths base asBytes m b (fillReport (fill.Accepted n k)) b₂
+    fill-told = accepted-told asBytes bytes-keep m b r b₁ g n k e

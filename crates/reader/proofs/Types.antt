@@ -7,20 +7,20 @@ use native.Mathlib.Omega.{arith}
 use lib.ListN.{length, getD}
 use borrow.Author.Tests.{ne-eqb}
 use Rattle.scalar.specs.declared.Sort.the-variants.{Int}
-use Rattle.numbers.specs.declared.NumberRead.{NumberRead}
-use Rattle.numbers.specs.declared.NumberRead.the-variants as number
+use Rattle.numbers.specs.declared.NumberPassed.{NumberPassed}
+use Rattle.numbers.specs.declared.NumberPassed.the-variants as number
 use Rattle.scalar.specs.declared.Encoding.the-variants.{Utf8}
-use Rattle.texts.specs.declared.StringRead.{StringRead}
-use Rattle.texts.specs.declared.StringRead.the-variants as string
+use Rattle.texts.specs.declared.StringPassed.{StringPassed}
+use Rattle.texts.specs.declared.StringPassed.the-variants as string
 use Rattle.scalar.specs.declared.Lead.the-variants as lead
 use Rattle.scalar.specs.Scalars.{isText}
 use Rattle.scalar.specs.Chart.{leadOf, kindOf}
+use Rattle.scalar.specs.Answers.{numberAt}
 use Rattle.scalar.specs.Chart.{entry}
-use Rattle.numbers.specs.Answers.{NumberMet}
+use Rattle.numbers.specs.Answers.{passed}
 use Rattle.scalar.specs.ChartLaws.{kind-is, kind-of-text, entry-parts}
 use Rattle.scalar.specs.ByChart.{text-told, text-there}
-use Rattle.scalar.specs.Answers.{measuredAt}
-use Rattle.texts.specs.Answers.{toldString}
+use Rattle.texts.specs.Answers.{PassedMet}
 use Rattle.record.specs.Model.Items.{typed}
 use Rattle.record.specs.Model.Rows.{row}
 use Rattle.record.specs.Model.Answers.{base}
@@ -30,9 +30,9 @@ use Rattle.record.specs.ForReader.ReadParts.{type-number-lost}
 use Rattle.reader.specs.declared.heads.TypeItem.the-variants.{Named, Numbered}
 use Rattle.reader.specs.declared.heads.TypeRead.the-variants as type-read
 use Rattle.reader.specs.Contracts.{PlaceIn, LeadAt, NoName, TypeReadMet}
-use Rattle.record.specs.Laws.RowLengths.{type-name-row-length, type-number-row-length}
-use Rattle.reader.proofs.Leaves.{byte-small, number-bad, number-is, number-room, number-length, string-bad}
-use Rattle.reader.proofs.Leaves.{string-is, string-room, string-length}
+use Rattle.reader.proofs.Leaves.{byte-small, number-bad, number-is, number-room, string-bad, string-is}
+use Rattle.reader.proofs.Leaves.{string-room}
+use Rattle.reader.proofs.Sizes.{string-has}
 
 -- ---- a name, where so many types are given
 module _ (m : List ℕ) (given p : ℕ) (h : LeadAt m p lead.Text) where
@@ -42,58 +42,56 @@ module _ (m : List ℕ) (given p : ℕ) (h : LeadAt m p lead.Text) where
   pub named-full : base .types ≤ given → TypeReadMet m given p (type-read.Refused 7 p)
   named-full l = record { says = λ c e. type-full base c m p (h .inside) is-text (omega arith) }
 
-  module _ (l : given < base .types) (r : StringRead) (t : toldString r ≡ measuredAt Utf8 m p) where
+  module _ (l : given < base .types) (r : StringPassed) (t : PassedMet Utf8 m p r) where
     pub named-bad : (x o : ℕ) → r ≡ string.Refused x o → TypeReadMet m given p (type-read.Refused x o)
     named-bad x o q = record {
       says = λ c e. type-name-lost base c m p (h .inside) is-text (omega arith) x o
           (string-bad Utf8 m p r t x o q);
     }
 
-    pub named-is : (u b n k : ℕ) → r ≡ string.Content u b n k
-        → TypeReadMet m given p (type-read.Is (Named u b) (p + n) k)
-    named-is u b n k q =
-        let w = string-room Utf8 m p r t u b n k q (h .bytes) in
+    pub named-is : (u b n : ℕ) → r ≡ string.Content u b n → TypeReadMet m given p (type-read.Is (Named u b) (p + n))
+    named-is u b n q =
+        let w = string-room Utf8 m p r t u b n q (h .bytes) in
         record {
           says = record {
             number = given;
             numbered = refl;
             says = λ c e.
-                type-name base c m p (h .inside) is-text (omega arith) n u b k (string-is Utf8 m p r t u b n k q)
+                type-name base c m p (h .inside) is-text (omega arith) n u b _ (string-is Utf8 m p r t u b n q)
                 ∙ ap (λ (k : ℕ). ReadTo (p + n) k (row 18 p u b 1 ∷ []) (typed c)) e;
             room = l;
             longer = omega (arith, w .0);
             within = w .1;
-            measures = omega (arith, string-length Utf8 m p r t u b n k q, type-name-row-length m p u b 1);
+            named = string-has Utf8 m p t u b n q;
           };
         }
 
 -- ---- a number
-module _ (m : List ℕ) (given p : ℕ) (h : NoName m p) (r : NumberRead) (t : NumberMet Int m p r) where
+module _ (m : List ℕ) (given p : ℕ) (h : NoName m p) (r : NumberPassed) (t : passed r ≡ numberAt Int m p) where
   pub numbered-bad : (x o : ℕ) → r ≡ number.Refused x o → TypeReadMet m given p (type-read.Refused x o)
   numbered-bad x o q =
       record { says = λ c e. type-number-lost base c m p (h .inside) (h .lead) x o (number-bad Int m p r t x o q) }
 
-  module _ (v n k : ℕ) (q : r ≡ number.Value v n k) where
-    pub numbered-is : v < given → TypeReadMet m given p (type-read.Is (Numbered v) (p + n) k)
+  module _ (v n : ℕ) (q : r ≡ number.Value v n) where
+    pub numbered-is : v < given → TypeReadMet m given p (type-read.Is (Numbered v) (p + n))
     numbered-is l =
-        let w = number-room Int m p r t v n k q (h .bytes) in
+        let w = number-room Int m p r t v n q (h .bytes) in
         record {
           says = record {
             number = v;
             numbered = refl;
-            says = λ c e. type-number base c m p (h .inside) (h .lead) n v (number-is Int m p r t v n k q)
-                (omega arith);
+            says = λ c e. type-number base c m p (h .inside) (h .lead) n v (number-is Int m p r t v n q) (omega arith);
             room = tt;
             longer = omega (arith, w .0);
             within = w .1;
-            measures = omega (arith, number-length Int m p r t v n k q, type-number-row-length m p v 0 1);
+            named = tt;
           };
         }
 
     pub numbered-none : given ≤ v → TypeReadMet m given p (type-read.Refused 6 p)
     numbered-none l = record {
       says = λ c e. type-ungiven base c m p (h .inside) (h .lead) n v
-          (number-is Int m p r t v n k q) (omega arith);
+          (number-is Int m p r t v n q) (omega arith);
     }
 
 -- ---- which of them

@@ -34,7 +34,7 @@ use Rattle.reader.specs.Contracts.{HeadAtMet, LeafHeadMet, PlainHeadMet,
 use Rattle.reader.proofs.Leaves.{byte-small, lead-at-form, lead-at-lost}
 use Rattle.reader.proofs.Holders.{map-is}
 
--- ---- by the variant that a `match` told
+-- ---- by the variant that a `match` passed
 pub lead-at-as : (m : List ℕ) (p : ℕ) (l : Lead) → LeadAt m p l → (x : Lead) → l ≡ x → LeadAt m p x
 lead-at-as m p l h x e = subst (LeadAt m p) e h
 
@@ -155,21 +155,21 @@ module _ (d : ℕ) (m : List ℕ) (c : Known) (p : ℕ) where
   opens-one r h z = h .heads d (omega arith)
 
   pub opens-map : (l : Lead) → LeadAt m p l → l ≡ lead.Map → (d ≡ 0 → ⊥)
-      → HeadIs m c p d (head.Holder (groupNumbers 3 0 0) (p + 1) Untyped 0)
+      → HeadIs m c p d (head.Holder (groupNumbers 3 0 0) (p + 1) Untyped)
   opens-map l h e z =
-      opens-one (head.Holder (groupNumbers 3 0 0) (p + 1) Untyped 0) (map-is m c p (lead-at-as m p l h lead.Map e)) z
+      opens-one (head.Holder (groupNumbers 3 0 0) (p + 1) Untyped) (map-is m c p (lead-at-as m p l h lead.Map e)) z
 
   -- ---- whatever stands at p
   value : (r : Head) → HeadIs m c p d r → NoDefinition m p → HeadAtMet m c p d r
-  value (head.Leaf k x y q n) h u = record { says = (h, u) }
-  value (head.Holder g q of n) h u = record { says = (h, u) }
+  value (head.Leaf k x y q) h u = record { says = (h, u) }
+  value (head.Holder g q of) h u = record { says = (h, u) }
   value head.Definition h u = absurd (h .goes)
   value (head.Refused x o) h u = record { says = (h, u) }
 
   pub head-off : (r : Head) → r ≡ head.Refused 2 p → length m ≤ p → HeadAtMet m c p d r
   head-off r e l =
       rw e (record {
-        says = (record { says = run-end (plain base d) c m p l; goes = tt; measures = tt }, λ i. absurd (omega arith));
+        says = (record { says = run-end (plain base d) c m p l; goes = tt; named = tt }, λ i. absurd (omega arith));
       })
 
   pub head-high : (b : ℕ) → PlaceIn m p → p < length m → b ≡ getD m p 0 → 0x80 ≤ b → (r : Head) → LeafHeadMet m p r

@@ -11,7 +11,7 @@ use record::limits::CLASSES;
 use record::limits::FIELDS;
 use scalar::Encoding;
 use scalar::refusals::CEILING;
-use texts::StringRead;
+use texts::StringPassed;
 ghost use mathlib.Core.Path.{_≡_};
 ghost use Prim.Native.Nat.{_+_, _^_, _≤_, _<_};
 ghost use lib.ListN.{getD};
@@ -22,16 +22,14 @@ ghost use Rattle.reader.specs.Contracts.{PlaceIn, ReadyAt, LeadAt};
 ghost use Rattle.reader.specs.Contracts.{FieldCountMet, ClassReadMet, NamesReadMet};
 ghost use Rattle.reader.specs.Contracts.{DefinesClass, DefinitionReadMet};
 
-// A class's name, by its units and bytes, its number of fields, and where their names begin; the bytes of the shortest
-// message that are the definition's own, and its name's; or a refusal's number and place.
+// A class's name, by its units and bytes, its number of fields, and where their names begin; or a refusal's number and
+// place.
 pub(crate) enum ClassRead {
     Is {
         units: u64,
         bytes: u64,
         fields: usize,
         next: usize,
-        own: usize,
-        name: usize,
     },
     Refused {
         number: u8,
@@ -51,18 +49,14 @@ pub(crate) enum DefinitionRead {
     Refused { number: u8, place: usize },
 }
 
-// The field count at `at`, after a class name of so many units and bytes, which takes `name` bytes in its shortest form.
-fn field_count(message: &[u8], at: usize, units: u64, bytes: u64, name: usize) -> ClassRead
+// The field count at `at`, after a class name of so many units and bytes.
+fn field_count(message: &[u8], at: usize, units: u64, bytes: u64) -> ClassRead
     requires { ⌜ PlaceIn (now message) at ⌝ }
-    ensures { λ r. ⌜ FieldCountMet (now (message .entry)) at units bytes name r ⌝ }
+    ensures { λ r. ⌜ FieldCountMet (now (message .entry)) at units bytes r ⌝ }
 {
     match crate::heads::count_at(message, at) {
         Count::Refused { number, place } => ClassRead::Refused { number, place },
-        Count::Is {
-            value,
-            size,
-            shortest,
-        } => {
+        Count::Is { value, size } => {
             if FIELDS < value {
                 return ClassRead::Refused {
                     number: CEILING,
@@ -74,8 +68,6 @@ fn field_count(message: &[u8], at: usize, units: u64, bytes: u64, name: usize) -
                 bytes,
                 fields: value as usize,
                 next: at + size,
-                own: shortest + 1,
-                name,
             }
         }
     }
@@ -92,14 +84,14 @@ fn class_head(message: &[u8], known: &[u64; KNOWN], at: usize) -> ClassRead
             place: at,
         };
     }
-    match texts::read_string(Encoding::Utf8, message, at + 1) {
-        StringRead::Refused { number, place } => ClassRead::Refused { number, place },
-        StringRead::Content {
-            units,
-            bytes,
-            size,
-            shortest,
-        } => field_count(message, at + 1 + size, units as u64, bytes as u64, shortest),
+    match texts::pass_string(Encoding::Utf8, message, at + 1) {
+        StringPassed::Refused { number, place } => ClassRead::Refused { number, place },
+        StringPassed::Content { units, bytes, size } => field_count(
+            message,
+            at + 1 + size,
+            units as u64,
+            bytes as u64,
+        ),
     }
 }
 
@@ -110,29 +102,26 @@ fn field_names(
     bytes: &mut [u8],
     from: Spot,
     count: usize,
-    measuring: u64,
 ) -> NamesRead
     requires { ⌜ PlaceIn (now message) (from .at) × (from .row + count < 2 ^ 64) ⌝ }
     ensures { λ r. ⌜
         NamesReadMet
         (now (message .entry)) (now (numbers .entry)) (now (bytes .entry))
-        from count measuring
+        from count
         r (now (numbers .exit)) (now (bytes .exit))
         ⌝ }
 {
     let mut here = from.at;
-    let mut sum = from.shortest;
     let mut i: usize = 0;
     while i < count {
-        match texts::read_string(Encoding::Utf8, message, here) {
-            StringRead::Refused { number, place } => {
+        match texts::pass_string(Encoding::Utf8, message, here) {
+            StringPassed::Refused { number, place } => {
                 return NamesRead::Refused { number, place };
             }
-            StringRead::Content {
+            StringPassed::Content {
                 units,
                 bytes: held,
                 size,
-                shortest,
             } => {
                 let index = from.row + i;
                 let name = Row {
@@ -142,8 +131,7 @@ fn field_names(
                     second: held as u64,
                     after: (index + 1) as u64,
                 };
-                crate::rows::store_row(numbers, bytes, index, name);
-                sum = crate::lengths::add(measuring, sum, shortest);
+                crate::rows::store_row(message, numbers, bytes, index, name);
                 here += size;
                 i += 1;
             }
@@ -153,7 +141,6 @@ fn field_names(
         next: Spot {
             at: here,
             row: from.row + count,
-            shortest: sum,
         },
     }
 }
@@ -173,13 +160,12 @@ pub(crate) fn definition(
     bytes: &mut [u8],
     known: &mut [u64; KNOWN],
     here: Spot,
-    measuring: u64,
 ) -> DefinitionRead
     requires { ⌜ LeadAt (now message) (here .at) lead.Definition × ReadyAt (now message) (now known) here ⌝ }
     ensures { λ r. ⌜
         DefinitionReadMet
         (now (message .entry)) (now (numbers .entry)) (now (bytes .entry)) (now (known .entry))
-        here measuring
+        here
         r (now (numbers .exit)) (now (bytes .exit)) (now (known .exit))
         ⌝ }
 {
@@ -190,16 +176,12 @@ pub(crate) fn definition(
             bytes: held,
             fields,
             next,
-            own,
-            name: named,
         } => {
-            let sum = crate::lengths::add(measuring, here.shortest, own);
             let names = Spot {
                 at: next,
                 row: here.row + 2,
-                shortest: crate::lengths::add(measuring, sum, named),
             };
-            match field_names(message, numbers, bytes, names, fields, measuring) {
+            match field_names(message, numbers, bytes, names, fields) {
                 NamesRead::Refused { number, place } => DefinitionRead::Refused { number, place },
                 NamesRead::Done { next: end } => {
                     let name = Row {
@@ -216,8 +198,8 @@ pub(crate) fn definition(
                         second: 0,
                         after: end.row as u64,
                     };
-                    crate::rows::store_row(numbers, bytes, here.row + 1, name);
-                    crate::rows::store_row(numbers, bytes, here.row, class);
+                    crate::rows::store_row(message, numbers, bytes, here.row + 1, name);
+                    crate::rows::store_row(message, numbers, bytes, here.row, class);
                     define(known, fields);
                     DefinitionRead::Done { next: end }
                 }

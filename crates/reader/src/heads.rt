@@ -1,6 +1,6 @@
 // What a value begins with, when no class definition stands before it. The laws of its meaning are in record's
 // specs/ForReader/ReadValues.antt.
-use numbers::NumberRead;
+use numbers::NumberPassed;
 use record::kinds::BYTES;
 use record::kinds::DATE;
 use record::kinds::DOUBLE;
@@ -24,13 +24,14 @@ use scalar::refusals::CEILING;
 use scalar::refusals::CUT;
 use scalar::refusals::NEGATIVE;
 use scalar::refusals::UNGIVEN;
-use texts::StringRead;
+use texts::StringPassed;
 ghost use mathlib.Core.Path.{_≡_};
 ghost use lib.ListN.{length, getD};
 ghost use Rattle.scalar.specs.declared.Lead.the-variants as lead;
 ghost use Rattle.scalar.specs.Scalars.{sortKind};
 ghost use Rattle.scalar.specs.Chart.{leadOf};
-ghost use Rattle.numbers.specs.Answers.{NumberMet};
+ghost use Rattle.scalar.specs.Answers.{numberAt};
+ghost use Rattle.numbers.specs.Answers.{passed};
 ghost use Rattle.reader.specs.declared.heads.Head.the-variants as head;
 ghost use Rattle.record.specs.Laws.KnownArray.{Kept, knownIn, typesSlot};
 ghost use Rattle.reader.specs.Contracts.{PlaceIn, LeadAt, High, NoName, IsListOrMap};
@@ -63,21 +64,18 @@ pub(crate) enum TypeItem {
 
 // A value's head.
 pub(crate) enum Head {
-    // A value with no values inside: its row, the place past it, and the bytes of its shortest form.
+    // A value with no values inside: its row, and the place past it.
     Leaf {
         kind: u64,
         first: u64,
         second: u64,
         next: usize,
-        shortest: usize,
     },
-    // A list, map or object: how its values are counted, where they begin, its type, and the bytes of the type's
-    // shortest form.
+    // A list, map or object: how its values are counted, where they begin, and its type.
     Holder {
         group: GroupNumbers,
         next: usize,
         of: TypeItem,
-        shortest: usize,
     },
     // A class definition stands before the value.
     Definition,
@@ -87,30 +85,16 @@ pub(crate) enum Head {
     },
 }
 
-// A count, the bytes that it takes, and those of its shortest form; or a refusal's number and place.
+// A count, and the bytes that it takes; or a refusal's number and place.
 pub(crate) enum Count {
-    Is {
-        value: u64,
-        size: usize,
-        shortest: usize,
-    },
-    Refused {
-        number: u8,
-        place: usize,
-    },
+    Is { value: u64, size: usize },
+    Refused { number: u8, place: usize },
 }
 
-// A type, the place past it, and the bytes of its shortest form; or a refusal's number and place.
+// A type, and the place past it; or a refusal's number and place.
 pub(crate) enum TypeRead {
-    Is {
-        of: TypeItem,
-        next: usize,
-        shortest: usize,
-    },
-    Refused {
-        number: u8,
-        place: usize,
-    },
+    Is { of: TypeItem, next: usize },
+    Refused { number: u8, place: usize },
 }
 
 // The count at `at`. A negative one is refused.
@@ -118,19 +102,11 @@ pub(crate) fn count_at(message: &[u8], at: usize) -> Count
     requires { ⌜ PlaceIn (now message) at ⌝ }
     ensures { λ r. ⌜ CountMet (now (message .entry)) at r ⌝ }
 {
-    match numbers::read_number(Sort::Int, message, at) {
-        NumberRead::Refused { number, place } => Count::Refused { number, place },
-        NumberRead::Value {
-            value,
-            size,
-            shortest,
-        } => {
+    match numbers::pass_number(Sort::Int, message, at) {
+        NumberPassed::Refused { number, place } => Count::Refused { number, place },
+        NumberPassed::Value { value, size } => {
             if value < 0x8000_0000_0000_0000 {
-                Count::Is {
-                    value,
-                    size,
-                    shortest,
-                }
+                Count::Is { value, size }
             } else {
                 Count::Refused {
                     number: NEGATIVE,
@@ -152,20 +128,14 @@ fn named_type(message: &[u8], known: &[u64; KNOWN], at: usize) -> TypeRead
             place: at,
         };
     }
-    match texts::read_string(Encoding::Utf8, message, at) {
-        StringRead::Refused { number, place } => TypeRead::Refused { number, place },
-        StringRead::Content {
-            units,
-            bytes,
-            size,
-            shortest,
-        } => TypeRead::Is {
+    match texts::pass_string(Encoding::Utf8, message, at) {
+        StringPassed::Refused { number, place } => TypeRead::Refused { number, place },
+        StringPassed::Content { units, bytes, size } => TypeRead::Is {
             of: TypeItem::Named {
                 units: units as u64,
                 bytes: bytes as u64,
             },
             next: at + size,
-            shortest,
         },
     }
 }
@@ -175,18 +145,13 @@ fn numbered_type(message: &[u8], known: &[u64; KNOWN], at: usize) -> TypeRead
     requires { ⌜ NoName (now message) at ⌝ }
     ensures { λ r. ⌜ TypeReadMet (now (message .entry)) (getD (now (known .entry)) typesSlot 0) at r ⌝ }
 {
-    match numbers::read_number(Sort::Int, message, at) {
-        NumberRead::Refused { number, place } => TypeRead::Refused { number, place },
-        NumberRead::Value {
-            value,
-            size,
-            shortest,
-        } => {
+    match numbers::pass_number(Sort::Int, message, at) {
+        NumberPassed::Refused { number, place } => TypeRead::Refused { number, place },
+        NumberPassed::Value { value, size } => {
             if value < known[TYPES_GIVEN] {
                 return TypeRead::Is {
                     of: TypeItem::Numbered { number: value },
                     next: at + size,
-                    shortest,
                 };
             }
             TypeRead::Refused {
@@ -230,22 +195,17 @@ fn kind_of(sort: Sort) -> u64
 }
 
 // The head of a number of this kind, as it was read.
-fn number_leaf(message: &[u8], at: usize, sort: Sort, n: NumberRead) -> Head
-    requires { ⌜ LeadAt (now message) at (lead.Number sort) × NumberMet sort (now message) at n ⌝ }
+fn number_leaf(message: &[u8], at: usize, sort: Sort, n: NumberPassed) -> Head
+    requires { ⌜ LeadAt (now message) at (lead.Number sort) × (passed n ≡ numberAt sort (now message) at) ⌝ }
     ensures { λ r. ⌜ LeafHeadMet (now (message .entry)) at r ⌝ }
 {
     match n {
-        NumberRead::Refused { number, place } => Head::Refused { number, place },
-        NumberRead::Value {
-            value,
-            size,
-            shortest,
-        } => Head::Leaf {
+        NumberPassed::Refused { number, place } => Head::Refused { number, place },
+        NumberPassed::Value { value, size } => Head::Leaf {
             kind: kind_of(sort),
             first: value,
             second: 0,
             next: at + size,
-            shortest,
         },
     }
 }
@@ -257,31 +217,31 @@ fn number_head(message: &[u8], at: usize, sort: Sort) -> Head
 {
     match sort {
         Sort::Null => {
-            let n = numbers::direct::read_single(Sort::Null, message, at);
+            let n = numbers::direct::pass_single(Sort::Null, message, at);
             number_leaf(message, at, Sort::Null, n)
         }
         Sort::False => {
-            let n = numbers::direct::read_single(Sort::False, message, at);
+            let n = numbers::direct::pass_single(Sort::False, message, at);
             number_leaf(message, at, Sort::False, n)
         }
         Sort::True => {
-            let n = numbers::direct::read_single(Sort::True, message, at);
+            let n = numbers::direct::pass_single(Sort::True, message, at);
             number_leaf(message, at, Sort::True, n)
         }
         Sort::Int => {
-            let n = numbers::direct::read_wide_int(message, at);
+            let n = numbers::direct::pass_wide_int(message, at);
             number_leaf(message, at, Sort::Int, n)
         }
         Sort::Long => {
-            let n = numbers::direct::read_wide_long(message, at);
+            let n = numbers::direct::pass_wide_long(message, at);
             number_leaf(message, at, Sort::Long, n)
         }
         Sort::Double => {
-            let n = numbers::direct::read_double(message, at);
+            let n = numbers::direct::pass_double(message, at);
             number_leaf(message, at, Sort::Double, n)
         }
         Sort::Date => {
-            let n = numbers::direct::read_date(message, at);
+            let n = numbers::direct::pass_date(message, at);
             number_leaf(message, at, Sort::Date, n)
         }
     }
@@ -293,10 +253,10 @@ fn high_head(message: &[u8], at: usize, b: u8) -> Head
     ensures { λ r. ⌜ LeafHeadMet (now (message .entry)) at r ⌝ }
 {
     if b < 0xd8 {
-        let n = numbers::direct::read_int(message, at);
+        let n = numbers::direct::pass_int(message, at);
         return number_leaf(message, at, Sort::Int, n);
     }
-    let n = numbers::direct::read_long(message, at);
+    let n = numbers::direct::pass_long(message, at);
     number_leaf(message, at, Sort::Long, n)
 }
 
@@ -305,19 +265,13 @@ fn text_head(message: &[u8], at: usize) -> Head
     requires { ⌜ LeadAt (now message) at lead.Text ⌝ }
     ensures { λ r. ⌜ LeafHeadMet (now (message .entry)) at r ⌝ }
 {
-    match texts::read_text(message, at) {
-        StringRead::Refused { number, place } => Head::Refused { number, place },
-        StringRead::Content {
-            units,
-            bytes,
-            size,
-            shortest,
-        } => Head::Leaf {
+    match texts::pass_text(message, at) {
+        StringPassed::Refused { number, place } => Head::Refused { number, place },
+        StringPassed::Content { units, bytes, size } => Head::Leaf {
             kind: TEXT,
             first: units as u64,
             second: bytes as u64,
             next: at + size,
-            shortest,
         },
     }
 }
@@ -327,19 +281,17 @@ fn bytes_head(message: &[u8], at: usize) -> Head
     requires { ⌜ LeadAt (now message) at lead.Bytes ⌝ }
     ensures { λ r. ⌜ LeafHeadMet (now (message .entry)) at r ⌝ }
 {
-    match texts::read_string(Encoding::Binary, message, at) {
-        StringRead::Refused { number, place } => Head::Refused { number, place },
-        StringRead::Content {
+    match texts::pass_string(Encoding::Binary, message, at) {
+        StringPassed::Refused { number, place } => Head::Refused { number, place },
+        StringPassed::Content {
             units: _,
             bytes,
             size,
-            shortest,
         } => Head::Leaf {
             kind: BYTES,
             first: bytes as u64,
             second: 0,
             next: at + size,
-            shortest,
         },
     }
 }
@@ -349,20 +301,15 @@ fn reference_head(message: &[u8], known: &[u64; KNOWN], at: usize) -> Head
     requires { ⌜ LeadAt (now message) at lead.Reference ⌝ }
     ensures { λ r. ⌜ PlainHeadMet (now (message .entry)) (knownIn (now (known .entry))) at r ⌝ }
 {
-    match numbers::read_number(Sort::Int, message, at + 1) {
-        NumberRead::Refused { number, place } => Head::Refused { number, place },
-        NumberRead::Value {
-            value,
-            size,
-            shortest,
-        } => {
+    match numbers::pass_number(Sort::Int, message, at + 1) {
+        NumberPassed::Refused { number, place } => Head::Refused { number, place },
+        NumberPassed::Value { value, size } => {
             if value < known[REFERENCES_GIVEN] {
                 return Head::Leaf {
                     kind: REFERENCE,
                     first: value,
                     second: 0,
                     next: at + 1 + size,
-                    shortest: shortest + 1,
                 };
             }
             Head::Refused {
@@ -373,18 +320,14 @@ fn reference_head(message: &[u8], known: &[u64; KNOWN], at: usize) -> Head
     }
 }
 
-// A list of this type, which takes `shortest` bytes, whose count was read at `at`, and its values after that.
-fn counted(at: usize, of: TypeItem, shortest: usize, n: Count) -> Head
+// A list of this type whose count was read at `at`, and its values after that.
+fn counted(at: usize, of: TypeItem, n: Count) -> Head
     requires { ⌜ CountFits at n ⌝ }
-    ensures { λ r. ⌜ r ≡ holderOf of shortest at n ⌝ }
+    ensures { λ r. ⌜ r ≡ holderOf of at n ⌝ }
 {
     match n {
         Count::Refused { number, place } => Head::Refused { number, place },
-        Count::Is {
-            value,
-            size,
-            shortest: _,
-        } => Head::Holder {
+        Count::Is { value, size } => Head::Holder {
             group: GroupNumbers {
                 shape: COUNTED,
                 count: value,
@@ -392,25 +335,15 @@ fn counted(at: usize, of: TypeItem, shortest: usize, n: Count) -> Head
             },
             next: at + size,
             of,
-            shortest,
         },
     }
 }
 
-// A list of this type, which takes `shortest` bytes, by its first byte b: `open_code` is the code of the open form, the
-// next one that of the counted form, and those from `few` on are the one-byte forms. Its count or its values are at
-// `at`.
-fn list_of(
-    message: &[u8],
-    at: usize,
-    of: TypeItem,
-    shortest: usize,
-    b: u8,
-    open_code: u8,
-    few: u8,
-) -> Head
+// A list of this type, by its first byte b: `open_code` is the code of the open form, the next one that of the counted
+// form, and those from `few` on are the one-byte forms. Its count or its values are at `at`.
+fn list_of(message: &[u8], at: usize, of: TypeItem, b: u8, open_code: u8, few: u8) -> Head
     requires { ⌜ ListAt (now message) at b open_code few ⌝ }
-    ensures { λ r. ⌜ ListMet (now (message .entry)) at of shortest b open_code few r ⌝ }
+    ensures { λ r. ⌜ ListMet (now (message .entry)) at of b open_code few r ⌝ }
 {
     if b == open_code {
         return Head::Holder {
@@ -421,12 +354,11 @@ fn list_of(
             },
             next: at,
             of,
-            shortest,
         };
     }
     if b == open_code + 1 {
         let n = count_at(message, at);
-        return counted(at, of, shortest, n);
+        return counted(at, of, n);
     }
     Head::Holder {
         group: GroupNumbers {
@@ -436,7 +368,6 @@ fn list_of(
         },
         next: at,
         of,
-        shortest,
     }
 }
 
@@ -445,15 +376,7 @@ fn list_head(message: &[u8], known: &[u64; KNOWN], at: usize) -> Head
     requires { ⌜ LeadAt (now message) at lead.List ⌝ }
     ensures { λ r. ⌜ HolderHeadMet (now (message .entry)) (knownIn (now (known .entry))) at r ⌝ }
 {
-    list_of(
-        message,
-        at + 1,
-        TypeItem::Untyped,
-        0,
-        message[at],
-        0x57,
-        0x78,
-    )
+    list_of(message, at + 1, TypeItem::Untyped, message[at], 0x57, 0x78)
 }
 
 // The head of a typed list.
@@ -463,9 +386,7 @@ fn typed_list_head(message: &[u8], known: &[u64; KNOWN], at: usize) -> Head
 {
     match type_at(message, known, at + 1) {
         TypeRead::Refused { number, place } => Head::Refused { number, place },
-        TypeRead::Is { of, next, shortest } => {
-            list_of(message, next, of, shortest, message[at], 0x55, 0x70)
-        }
+        TypeRead::Is { of, next } => list_of(message, next, of, message[at], 0x55, 0x70),
     }
 }
 
@@ -476,7 +397,7 @@ fn typed_map_head(message: &[u8], known: &[u64; KNOWN], at: usize) -> Head
 {
     match type_at(message, known, at + 1) {
         TypeRead::Refused { number, place } => Head::Refused { number, place },
-        TypeRead::Is { of, next, shortest } => Head::Holder {
+        TypeRead::Is { of, next } => Head::Holder {
             group: GroupNumbers {
                 shape: PAIRS,
                 count: 0,
@@ -484,7 +405,6 @@ fn typed_map_head(message: &[u8], known: &[u64; KNOWN], at: usize) -> Head
             },
             next,
             of,
-            shortest,
         },
     }
 }
@@ -504,7 +424,6 @@ fn instance(known: &[u64; KNOWN], at: usize, class: u64, next: usize) -> Head
             },
             next,
             of: TypeItem::Untyped,
-            shortest: 0,
         };
     }
     Head::Refused {
@@ -520,13 +439,9 @@ fn object_head(message: &[u8], known: &[u64; KNOWN], at: usize) -> Head
 {
     let b = message[at];
     if b == 0x4f {
-        return match numbers::read_number(Sort::Int, message, at + 1) {
-            NumberRead::Refused { number, place } => Head::Refused { number, place },
-            NumberRead::Value {
-                value,
-                size,
-                shortest: _,
-            } => instance(known, at, value, at + 1 + size),
+        return match numbers::pass_number(Sort::Int, message, at + 1) {
+            NumberPassed::Refused { number, place } => Head::Refused { number, place },
+            NumberPassed::Value { value, size } => instance(known, at, value, at + 1 + size),
         };
     }
     instance(known, at, wire::wide(b - 0x60), at + 1)
@@ -554,7 +469,6 @@ fn opening(message: &[u8], known: &[u64; KNOWN], at: usize, allowed: usize, l: L
             },
             next: at + 1,
             of: TypeItem::Untyped,
-            shortest: 0,
         },
         _ => typed_map_head(message, known, at),
     }

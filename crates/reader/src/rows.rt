@@ -5,11 +5,12 @@ use record::ROW_NUMBERS;
 use record::Row;
 ghost use mathlib.Core.Path.{_≡_};
 ghost use Prim.Native.Nat.{_+_, _^_, _<_};
+ghost use lib.ListN.{length};
 ghost use Rattle.flow.specs.Flow.{put, stored};
 ghost use Rattle.wire.specs.BigEndian.{be};
 ghost use Rattle.record.specs.Model.Answers.{asNumbers, asBytes};
 ghost use Rattle.record.specs.Laws.RowLaws.{rowOf};
-ghost use Rattle.reader.specs.Contracts.{StoresRow};
+ghost use Rattle.reader.specs.Contracts.{StoresRow, RowRead};
 
 // The row `index` of a table of numbers, where it fits.
 pub(crate) fn store_numbers(table: &mut [u64], index: usize, row: Row)
@@ -69,29 +70,58 @@ pub(crate) fn store_bytes(table: &mut [u8], index: usize, row: Row)
     }
 }
 
-// The row `index` of both tables, where it fits.
-pub(crate) fn store_row(numbers: &mut [u64], bytes: &mut [u8], index: usize, row: Row)
-    ensures { λ _. ⌜
-        StoresRow
-        (now (numbers .entry)) (now (bytes .entry)) index (rowOf row)
-        (now (numbers .exit)) (now (bytes .exit))
+// The row `index` of both tables, where it fits. Where it does not, its length is added to numbers that are a sum.
+pub(crate) fn store_row(
+    message: &[u8],
+    numbers: &mut [u64],
+    bytes: &mut [u8],
+    index: usize,
+    row: Row,
+)
+    requires { ⌜
+        (0 < length (now numbers) → RowRead (now message) (row .kind) (row .place) (row .first) (row .second))
         ⌝ }
-{
-    store_numbers(numbers, index, row);
-    store_bytes(bytes, index, row);
-}
-
-// The same, with a test before it, so that it costs little where no row is lent.
-pub(crate) fn store_lent(numbers: &mut [u64], bytes: &mut [u8], index: usize, row: Row)
     ensures { λ _. ⌜
         StoresRow
-        (now (numbers .entry)) (now (bytes .entry)) index (rowOf row)
+        (now (message .entry)) (now (numbers .entry)) (now (bytes .entry))
+        index (rowOf row)
         (now (numbers .exit)) (now (bytes .exit))
         ⌝ }
 {
     if index < numbers.len() / ROW_NUMBERS + bytes.len() / ROW_BYTES {
-        store_row(numbers, bytes, index, row);
+        store_numbers(numbers, index, row);
+        store_bytes(bytes, index, row);
+    } else {
+        if 0 < numbers.len() {
+            crate::lengths::add_row(message, numbers, row);
+        }
     }
+}
+
+// The same, with tests before it, so that it costs little where nothing is lent.
+pub(crate) fn store_lent(
+    message: &[u8],
+    numbers: &mut [u64],
+    bytes: &mut [u8],
+    index: usize,
+    row: Row,
+)
+    requires { ⌜
+        (0 < length (now numbers) → RowRead (now message) (row .kind) (row .place) (row .first) (row .second))
+        ⌝ }
+    ensures { λ _. ⌜
+        StoresRow
+        (now (message .entry)) (now (numbers .entry)) (now (bytes .entry))
+        index (rowOf row)
+        (now (numbers .exit)) (now (bytes .exit))
+        ⌝ }
+{
+    if numbers.len() == 0 {
+        if bytes.len() / ROW_BYTES <= index {
+            return;
+        }
+    }
+    store_row(message, numbers, bytes, index, row);
 }
 
 // As store_bytes, for the one place where most rows are stored: called from there alone, this and put_row become a part
@@ -112,16 +142,24 @@ fn put_bytes(table: &mut [u8], index: usize, row: Row)
     }
 }
 
-// As store_lent, for the one place where most rows are stored.
-pub(crate) fn put_row(numbers: &mut [u64], bytes: &mut [u8], index: usize, row: Row)
+// As store_row, for the one place where most rows are stored.
+pub(crate) fn put_row(message: &[u8], numbers: &mut [u64], bytes: &mut [u8], index: usize, row: Row)
+    requires { ⌜
+        (0 < length (now numbers) → RowRead (now message) (row .kind) (row .place) (row .first) (row .second))
+        ⌝ }
     ensures { λ _. ⌜
         StoresRow
-        (now (numbers .entry)) (now (bytes .entry)) index (rowOf row)
+        (now (message .entry)) (now (numbers .entry)) (now (bytes .entry))
+        index (rowOf row)
         (now (numbers .exit)) (now (bytes .exit))
         ⌝ }
 {
     if index < numbers.len() / ROW_NUMBERS + bytes.len() / ROW_BYTES {
         store_numbers(numbers, index, row);
         put_bytes(bytes, index, row);
+    } else {
+        if 0 < numbers.len() {
+            crate::lengths::add_leaf(message, numbers, row.kind, row.place, row.first, row.second);
+        }
     }
 }

@@ -1,24 +1,21 @@
 // 2026-11: a message read in thousandths has the rows of the main rule, but for the bits of its doubles at 5f. So a
 // table that was filled by the main rule is gone through row by row.
-use crate::rows::store_bytes;
 use crate::rows::store_numbers;
+use crate::rows::store_row;
 use record::ROW_BYTES;
 use record::ROW_NUMBERS;
 use record::Row;
 use record::kinds::DOUBLE;
-use scalar::Sort;
 ghost use mathlib.Core.Path.{_≡_};
 ghost use Prim.Native.Nat.{_+_, _*_, _≤_, _<_};
 ghost use lib.ListN.{length, take, drop};
 ghost use Rattle.record.specs.Model.Answers.{asNumbers, asBytes};
 ghost use Rattle.record.specs.Model.Terms.{firstInThousandths, rowInThousandths};
-ghost use Rattle.scalar.specs.Scalars.{Thousandths};
 ghost use Rattle.record.specs.Laws.RowLaws.{rowOf};
-ghost use Rattle.record.specs.Laws.RowLengths.{rowLength, lengthUnder};
 ghost use Rattle.reader.specs.Contracts.{Retold};
 
 // The first number of a row: of a double at 5f, the bits of the thousandths that its four bytes hold.
-fn first_of(message: &[u8], row: Row) -> u64
+pub(crate) fn first_of(message: &[u8], row: Row) -> u64
     ensures { λ r. ⌜ r ≡ firstInThousandths (now (message .entry)) (rowOf row) ⌝ }
 {
     let first = row.first;
@@ -38,17 +35,6 @@ fn first_of(message: &[u8], row: Row) -> u64
         return first;
     }
     numbers::doubles::thousandths(wire::four_at(message, at + 1) as u32)
-}
-
-// The bytes that are a row's own in thousandths, where they are `own` by the main rule.
-pub(crate) fn length(message: &[u8], row: Row, own: usize) -> usize
-    requires { ⌜ own ≡ rowLength (now message) (rowOf row) ⌝ }
-    ensures { λ r. ⌜ r ≡ lengthUnder Thousandths (now (message .entry)) (rowOf row) ⌝ }
-{
-    if row.kind != DOUBLE {
-        return own;
-    }
-    numbers::number_length(Sort::Double, first_of(message, row))
 }
 
 // The row in thousandths.
@@ -119,11 +105,12 @@ pub(crate) fn retell_bytes(message: &[u8], table: &mut [u8], rows: usize)
     requires { ⌜ rows * 40 ≤ length (now table) ⌝ }
     ensures { λ _. ⌜ Retold asBytes (now (message .entry)) (now (table .entry)) rows (now (table .exit)) ⌝ }
 {
+    let mut numbers = [0u64; 1];
     let mut i: usize = 0;
     while i < rows {
         let row = bytes_row(table, i);
         let next = in_thousandths(message, row);
-        store_bytes(table, i, next);
+        store_row(message, &mut numbers[..0], table, i, next);
         i += 1;
     }
 }

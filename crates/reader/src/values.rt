@@ -17,7 +17,6 @@ use record::kinds::TYPE_NUMBER;
 use record::known::KNOWN;
 use record::known::REFERENCES_GIVEN;
 use record::known::TYPES_GIVEN;
-use scalar::Sort;
 use scalar::refusals::BYTE;
 ghost use mathlib.Core.Path.{_≡_};
 ghost use Prim.Native.Nat.{_+_, _^_, _<_};
@@ -28,15 +27,10 @@ ghost use Rattle.record.specs.Laws.RowLaws.{rowOf};
 ghost use Rattle.record.specs.ForReader.ReadValues.{heading};
 ghost use Rattle.record.specs.Laws.KnownArray.{Kept, typesSlot, referencesSlot};
 ghost use Rattle.reader.specs.Contracts.{groupOf, ReadyAt, StoresRows};
-ghost use Rattle.reader.specs.Contracts.{typeOf, typeRows, typeTag, typeSecond, TypeRoom, EntersHolder};
+ghost use Rattle.reader.specs.Contracts.{typeOf, typeRows, typeTag, typeSecond, TypeRoom, TypeNamed};
+ghost use Rattle.reader.specs.Contracts.{EntersHolder};
 ghost use Rattle.reader.specs.Contracts.{HolderFits, OpensHolder, HeadFits, ByHeadMet};
-ghost use Rattle.reader.specs.Contracts.{HolderLength, BeginningMet, ValuesReadMet};
-
-// What reading keeps to: how many more lists, maps and objects may open, and what rows are measured by.
-pub(crate) struct Scope {
-    pub allowed: usize,
-    pub measuring: u64,
-}
+ghost use Rattle.reader.specs.Contracts.{BeginningMet, ValuesReadMet};
 
 // How a value begins: it holds no others, and is read; it is the list, map or object at `holder`, where so many types
 // were given, and its values begin at `next`; or a refusal.
@@ -100,13 +94,13 @@ fn passed(at: usize, group: GroupNumbers) -> usize
     at + 1
 }
 
-// The row `index` of the type at `at`, if there is one.
-fn store_type(numbers: &mut [u64], bytes: &mut [u8], at: usize, index: usize, of: TypeItem)
-    requires { ⌜ index + length (typeRows at of) < 2 ^ 64 ⌝ }
+// The row of the type at `here`, if there is one.
+fn store_type(message: &[u8], numbers: &mut [u64], bytes: &mut [u8], here: Spot, of: TypeItem)
+    requires { ⌜ (here .row + length (typeRows (here .at) of) < 2 ^ 64) × TypeNamed (now message) (here .at) of ⌝ }
     ensures { λ _. ⌜
         StoresRows
-        (now (numbers .entry)) (now (bytes .entry))
-        index (typeRows at of)
+        (now (message .entry)) (now (numbers .entry)) (now (bytes .entry))
+        (here .row) (typeRows (here .at) of)
         (now (numbers .exit)) (now (bytes .exit))
         ⌝ }
 {
@@ -118,22 +112,22 @@ fn store_type(numbers: &mut [u64], bytes: &mut [u8], at: usize, index: usize, of
         } => {
             let name = Row {
                 kind: TYPE_NAME,
-                place: at as u64,
+                place: here.at as u64,
                 first: units,
                 second: size_of,
-                after: (index + 1) as u64,
+                after: (here.row + 1) as u64,
             };
-            crate::rows::store_row(numbers, bytes, index, name);
+            crate::rows::store_row(message, numbers, bytes, here.row, name);
         }
         TypeItem::Numbered { number } => {
             let by_number = Row {
                 kind: TYPE_NUMBER,
-                place: at as u64,
+                place: here.at as u64,
                 first: number,
                 second: 0,
-                after: (index + 1) as u64,
+                after: (here.row + 1) as u64,
             };
-            crate::rows::store_row(numbers, bytes, index, by_number);
+            crate::rows::store_row(message, numbers, bytes, here.row, by_number);
         }
     }
 }
@@ -220,26 +214,17 @@ fn enter(known: &mut [u64; KNOWN], of: TypeItem) -> usize
     }
 }
 
-// The list, map or object at `holder` opens: the row of its type comes at `inner`, after its own, and its values begin
-// in the message there.
+// The list, map or object at `holder` opens, after the row of its type is stored, and its values begin at `next`.
 fn open_holder(
-    numbers: &mut [u64],
-    bytes: &mut [u8],
     known: &mut [u64; KNOWN],
     holder: Spot,
     group: GroupNumbers,
-    inner: Spot,
+    next: usize,
     of: TypeItem,
 ) -> Beginning
-    requires { ⌜ HolderFits (now known) holder (inner .at) of × (inner .row ≡ holder .row + 1) ⌝ }
-    ensures { λ r. ⌜
-        OpensHolder
-        (now (numbers .entry)) (now (bytes .entry)) (now (known .entry))
-        holder group inner of
-        r (now (numbers .exit)) (now (bytes .exit)) (now (known .exit))
-        ⌝ }
+    requires { ⌜ HolderFits (now known) holder next of ⌝ }
+    ensures { λ r. ⌜ OpensHolder (now (known .entry)) holder group next of r (now (known .exit)) ⌝ }
 {
-    store_type(numbers, bytes, holder.at + 1, inner.row, of);
     let given = known[TYPES_GIVEN];
     let more = enter(known, of);
     Beginning::Holder {
@@ -248,9 +233,8 @@ fn open_holder(
         of,
         given,
         next: Spot {
-            at: inner.at,
-            row: inner.row + more,
-            shortest: inner.shortest,
+            at: next,
+            row: holder.row + 1 + more,
         },
     }
 }
@@ -263,13 +247,12 @@ fn by_head(
     known: &mut [u64; KNOWN],
     here: Spot,
     head: Head,
-    measuring: u64,
 ) -> Beginning
     requires { ⌜ HeadFits (now message) (now known) here head ⌝ }
     ensures { λ r. ⌜
         ByHeadMet
         (now (message .entry)) (now (numbers .entry)) (now (bytes .entry)) (now (known .entry))
-        here head measuring
+        here head
         r (now (numbers .exit)) (now (bytes .exit)) (now (known .exit))
         ⌝ }
 {
@@ -280,7 +263,6 @@ fn by_head(
             first,
             second,
             next,
-            shortest,
         } => {
             let after = here.row + 1;
             let leaf = Row {
@@ -290,33 +272,21 @@ fn by_head(
                 second,
                 after: after as u64,
             };
-            crate::rows::put_row(numbers, bytes, here.row, leaf);
+            crate::rows::put_row(message, numbers, bytes, here.row, leaf);
             Beginning::Leaf {
                 next: Spot {
                     at: next,
                     row: after,
-                    shortest: crate::lengths::add_leaf(
-                        message,
-                        measuring,
-                        here.shortest,
-                        leaf,
-                        shortest,
-                    ),
                 },
             }
         }
-        Head::Holder {
-            group,
-            next,
-            of,
-            shortest,
-        } => {
+        Head::Holder { group, next, of } => {
             let inner = Spot {
-                at: next,
+                at: here.at + 1,
                 row: here.row + 1,
-                shortest: crate::lengths::add(measuring, here.shortest, shortest),
             };
-            open_holder(numbers, bytes, known, here, group, inner, of)
+            store_type(message, numbers, bytes, inner, of);
+            open_holder(known, here, group, next, of)
         }
         Head::Definition => Beginning::Refused {
             number: BYTE,
@@ -332,28 +302,21 @@ fn begin(
     bytes: &mut [u8],
     known: &mut [u64; KNOWN],
     from: Spot,
-    scope: Scope,
+    allowed: usize,
 ) -> Beginning
     requires { ⌜ ReadyAt (now message) (now known) from ⌝ }
     ensures { λ r. ⌜
         BeginningMet
         (now (message .entry)) (now (numbers .entry)) (now (bytes .entry)) (now (known .entry))
-        from scope
+        from allowed
         r (now (numbers .exit)) (now (bytes .exit)) (now (known .exit))
         ⌝ }
 {
     let mut here = from;
     loop {
-        let head = crate::heads::head_at(message, known, here.at, scope.allowed);
+        let head = crate::heads::head_at(message, known, here.at, allowed);
         if let Head::Definition = head {
-            match crate::definitions::definition(
-                message,
-                numbers,
-                bytes,
-                known,
-                here,
-                scope.measuring,
-            ) {
+            match crate::definitions::definition(message, numbers, bytes, known, here) {
                 DefinitionRead::Refused { number, place } => {
                     return Beginning::Refused { number, place };
                 }
@@ -362,30 +325,13 @@ fn begin(
                 }
             }
         } else {
-            return by_head(message, numbers, bytes, known, here, head, scope.measuring);
+            return by_head(message, numbers, bytes, known, here, head);
         }
     }
 }
 
-// The bytes that are a list's, map's or object's own in the shortest message, after i values of its group.
-fn holder_length(group: GroupNumbers, i: u64) -> usize
-    ensures { λ r. ⌜ HolderLength group i r ⌝ }
-{
-    if group.shape == FIELD_VALUES {
-        if group.class < 16 {
-            return 1;
-        }
-        return 1 + numbers::number_length(Sort::Int, group.class);
-    }
-    if group.shape < PAIRS {
-        if i < 8 {
-            return 1;
-        }
-    }
-    2
-}
-
-// Reads the values of a group, the first of them at `from`, within the scope.
+// Reads the values of a group, the first of them at `from`, with as many more lists, maps and objects as allowed open
+// within them.
 pub(crate) fn read_values(
     message: &[u8],
     numbers: &mut [u64],
@@ -393,13 +339,13 @@ pub(crate) fn read_values(
     known: &mut [u64; KNOWN],
     from: Spot,
     group: GroupNumbers,
-    scope: Scope,
+    allowed: usize,
 ) -> ValuesRead
     requires { ⌜ ReadyAt (now message) (now known) from ⌝ }
     ensures { λ r. ⌜
         ValuesReadMet
         (now (message .entry)) (now (numbers .entry)) (now (bytes .entry)) (now (known .entry))
-        from (groupOf group) scope
+        from (groupOf group) allowed
         r (now (numbers .exit)) (now (bytes .exit)) (now (known .exit))
         ⌝ }
 {
@@ -411,12 +357,11 @@ pub(crate) fn read_values(
                 next: Spot {
                     at: passed(here.at, group),
                     row: here.row,
-                    shortest: here.shortest,
                 },
                 count: i,
             };
         }
-        match begin(message, numbers, bytes, known, here, scope) {
+        match begin(message, numbers, bytes, known, here, allowed) {
             Beginning::Refused { number, place } => {
                 return ValuesRead::Refused { number, place };
             }
@@ -431,23 +376,14 @@ pub(crate) fn read_values(
                 given,
                 next,
             } => {
-                let within = Scope {
-                    allowed: scope.allowed - 1,
-                    measuring: scope.measuring,
-                };
-                match read_values(message, numbers, bytes, known, next, inner, within) {
+                match read_values(message, numbers, bytes, known, next, inner, allowed - 1) {
                     ValuesRead::Refused { number, place } => {
                         return ValuesRead::Refused { number, place };
                     }
                     ValuesRead::Done { next: end, count } => {
                         let row = holder_row(holder.at, inner, of, given, count, end.row);
-                        crate::rows::store_lent(numbers, bytes, holder.row, row);
-                        let own = holder_length(inner, count);
-                        here = Spot {
-                            at: end.at,
-                            row: end.row,
-                            shortest: crate::lengths::add(scope.measuring, end.shortest, own),
-                        };
+                        crate::rows::store_lent(message, numbers, bytes, holder.row, row);
+                        here = end;
                         i += 1;
                     }
                 }

@@ -14,15 +14,15 @@ use Rattle.scalar.specs.declared.Encoding.{Encoding}
 use Rattle.scalar.specs.declared.Encoding.the-variants.{Utf8}
 use Rattle.texts.specs.declared.HeadForm.the-variants.{Starts}
 use Rattle.texts.specs.declared.ChunkRead.the-variants.{Chunk}
+use Rattle.texts.specs.declared.StringPassed.the-variants.{Content}
 use Rattle.scalar.specs.Scalars.{characters}
-use Rattle.scalar.specs.Answers.{sized, measuredAt}
-use Rattle.scalar.specs.TextShort.{last-length}
 use Rattle.texts.specs.Answers.{extentAt, Passing, headForm, chunked, withContent, chunkBy, chunkAt, ChunkMet}
+use Rattle.texts.specs.Answers.{PassedMet}
 use Rattle.texts.specs.Ascii.{Ascii, ShortText, asciiAt, run-few, run-inside, run-ascii, few-are}
 use Rattle.texts.specs.Ascii.{inside-are, ascii-are}
 use Rattle.texts.specs.At.{basic, continued-none, characters-next, body-there, string-there}
 use Rattle.texts.proofs.Strings.{passing-start, passing-more, passing-end, leads-at, head-at, starts}
-use Rattle.texts.proofs.Strings.{head-there, one-chunk}
+use Rattle.texts.proofs.Strings.{head-there, joining-start, pass-last}
 
 -- ---- a loop over characters: they are passed
 pub passing-ascii : {n : ℕ} {m : List ℕ} {at p b : ℕ} (left r : ℕ) → Passing n m at p left b → r ≤ left
@@ -118,11 +118,9 @@ module _ (m : List ℕ) (p s : ℕ) (bytes : (i : ℕ) → Fits w8 (getD m i 0))
   chunk-short k e = rw e short-chunk
 
   -- s: its bytes in all
-  pub text-short : Done s (sized (s - 1) (s - 1) s) [] tt ≡ measuredAt Utf8 m p
-  text-short =
-      let h = f z in
-      let e : 1 + (s - 1) ≡ s = omega arith in
-      let d : s - 1 + 1 ≡ s = omega arith in
-      let l = last-length Utf8 (s - 1) (omega (arith, h .short)) in
-      rw (e, d) at
-      (one-chunk Utf8 m p _ short-chunk 1 (s - 1) (s - 1) (s - 1) refl bytes 1 (omega (arith, h .short)))
+  pub pass-short : PassedMet Utf8 m p (Content (s - 1) (s - 1) s)
+  pass-short =
+      let start = joining-start Utf8 m p (omega (arith, f z .inside)) in
+      let e : p + (1 + (s - 1)) - p ≡ s = omega arith in
+      let d : 0 + (s - 1) ≡ s - 1 = omega arith in
+      rw (e, d) at (pass-last start _ short-chunk 1 (s - 1) (s - 1) (s - 1) true refl refl)

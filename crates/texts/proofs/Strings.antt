@@ -2,7 +2,7 @@
 use mathlib.Core.Path.{_≡_, refl, sym, _∙_, ap, subst}
 use mathlib.Core.Bool.{Bool, true, false}
 use mathlib.Core.List.{List, [], _∷_, _++_, map, append-assoc}
-use Prim.Native.Nat.{ℕ, suc, _+_, _-_, _*_, _≤_, _<_}
+use Prim.Native.Nat.{ℕ, suc, _+_, _-_, _*_, _%_, _^_, _≤_, _<_}
 use native.Mathlib.Omega.{arith}
 use lib.Dec.{T}
 use lib.ListN.{length, take, drop, getD, length-append, length-drop, take-append-drop, List·getD-eq-default}
@@ -28,6 +28,8 @@ use Rattle.texts.specs.declared.HeadForm.{HeadForm}
 use Rattle.texts.specs.declared.HeadForm.the-variants.{Starts, NoHead}
 use Rattle.texts.specs.declared.HeadRead.{HeadRead}
 use Rattle.texts.specs.declared.HeadRead.the-variants as head
+use Rattle.texts.specs.declared.StringPassed.{StringPassed}
+use Rattle.texts.specs.declared.StringPassed.the-variants as string-passed
 use Rattle.texts.specs.declared.ChunkRead.{ChunkRead}
 use Rattle.texts.specs.declared.ChunkRead.the-variants as chunk
 use Rattle.scalar.specs.Scalars.{Form, formAt, inside, lastHeads, charLead, units, continued, characters}
@@ -36,17 +38,18 @@ use Rattle.scalar.specs.Rows.{Row, row, chosen, nth, apart, Outside, chosen-at,
 use Rattle.scalar.specs.CharLeads.{leadRows, lead-rows}
 use Rattle.scalar.specs.FormLaws.{partForm, lastForms, part-head, last-heads, form-none, form-either}
 use Rattle.scalar.specs.TextAt.{string-ends}
-use Rattle.scalar.specs.AnswerLaws.{length-some, measured-as}
+use Rattle.scalar.specs.AnswerLaws.{length-some, measured-as, measured-done, measured-fault}
 use Rattle.scalar.specs.TextUnits.{weights, weights-chars, weights-append, units-append, content-units, singles}
 use Rattle.scalar.specs.Decoded.{decoded}
 use Rattle.scalar.specs.StringLengths.{Parts, parts, partsAfter, parts-within, parts-few, cuts-few, parts-on}
 use Rattle.scalar.specs.StringLengths.{parts-split, content-first, formLength, shortest-length}
-use Rattle.scalar.specs.TextTheorems.{text-no-shorter}
-use Rattle.scalar.specs.Answers.{sized, measuredAt, lengthOf}
+use Rattle.scalar.specs.TextTheorems.{text-no-shorter, text-within}
+use Rattle.scalar.specs.Answers.{Sizes, sized, sizes, measuredAt, lengthOf}
 use Rattle.texts.specs.Answers.{extentAt, toldExtent, shifted, textAt, Passes, CharSays, CharMet, Passing}
 use Rattle.texts.specs.Answers.{Over, WithinSays, WithinMet, CutMet, lastForm}
 use Rattle.texts.specs.Answers.{headForm, prefixed, chunked, headBy, headAt, HeadSays, HeadMet, withContent}
-use Rattle.texts.specs.Answers.{chunkBy, chunkAt, ChunkSays, ChunkMet, Joining, Parting}
+use Rattle.texts.specs.Answers.{chunkBy, chunkAt, ChunkSays, ChunkMet, Joining, Parting, Cutting, HeadsMet}
+use Rattle.texts.specs.Answers.{StringIs, PassedSays, PassedMet, StringHas, shortestOf, PassedLength}
 use Rattle.texts.specs.At.{Opens, basic, below-half, supplementary, opens-units, Halves, HighHalf}
 use Rattle.texts.specs.At.{continued-size, characters-none, characters-ends, characters-other, characters-half}
 use Rattle.texts.specs.At.{characters-low, characters-alone, characters-fault, characters-next}
@@ -633,6 +636,134 @@ module _ {k : Encoding} {m : List ℕ} {at here total bytes : ℕ} (R : Joining 
           inside = s .2;
         }
 
+-- ---- passing the chunks one by one
+pub pass-none : (k : Encoding) (m : List ℕ) (at : ℕ) → length m ≤ at
+    → PassedMet k m at (string-passed.Refused 2 (length m))
+pass-none k m at l = record { says = measured-as k m at (string-ends k m at l) }
+
+module _ {k : Encoding} {m : List ℕ} {at here total bytes : ℕ} (R : Joining k m at here total bytes) (g : ChunkRead)
+    (t : ChunkMet k m here g) where
+  pub pass-fault : (y o : ℕ) → g ≡ chunk.Refused y o → PassedMet k m at (string-passed.Refused y o)
+  pass-fault y o e = record { says = sym (joining-fault R t y o e) }
+
+  module _ (h n b u : ℕ) (a : Bool) (e : g ≡ chunk.Chunk h n b u a) where
+    passed-chunk : ChunkSays k m here (chunk.Chunk h n b u a)
+    passed-chunk = chunk-says t e
+
+    pub pass-size : Fits w64 (length m) → Fits w64 (h + n)
+    pass-size f = record { fits = omega (arith, f .fits, passed-chunk .2) }
+
+    pub pass-end : Fits w64 (length m) → Fits w64 (here + (h + n))
+    pass-end f = record { fits = omega (arith, f .fits, passed-chunk .2) }
+
+    pub pass-bytes : Fits w64 (length m) → Fits w64 (bytes + b)
+    pass-bytes f = record { fits = omega (arith, f .fits, passed-chunk .2, passed-chunk .6, R .onward) }
+
+    pub pass-units : Fits w64 (length m) → Fits w64 (total + u)
+    pass-units f = record { fits = omega (arith, pass-bytes f .fits, passed-chunk .3, R .few) }
+
+    pub pass-behind : at ≤ here + (h + n)
+    pass-behind = omega (arith, R .onward)
+
+    pub pass-shrinks : length m - (here + (h + n)) < length m - here
+    pass-shrinks = omega (arith, passed-chunk .1, passed-chunk .2)
+
+    pub pass-last : a ≡ true → PassedMet k m at (string-passed.Content (total + u) (bytes + b) (here + (h + n) - at))
+    pass-last d = record { says = record { shortest = _; says = sym (joining-last R t h n b u a e d) } }
+
+    pub pass-more : a ≡ false → Joining k m at (here + (h + n)) (total + u) (bytes + b)
+    pass-more d = joining-more R t h n b u a e d
+
+-- what is passed, with its length: w is that of the shortest form
+module _ {k : Encoding} {m : List ℕ} {p : ℕ} (x : StringPassed) (t : PassedMet k m p x) where
+  passed-says : {y : StringPassed} → x ≡ y → PassedSays k m p y
+  passed-says e = subst (PassedSays k m p) e (t .says)
+
+  pub told-refused : (y o : ℕ) → x ≡ string-passed.Refused y o → Fault y o ≡ measuredAt k m p
+  told-refused y o e = sym (passed-says e)
+
+  module _ (u b n : ℕ) (e : x ≡ string-passed.Content u b n) where
+    told-has : StringHas k m p u b
+    told-has = record { size = n; is = passed-says e }
+
+    pub told-content : (w : ℕ) → PassedLength k m p u b w → Done n (sized u b w) [] tt ≡ measuredAt k m p
+    told-content w h =
+        let i = h .is told-has in
+        let s = passed-says e in
+        let j : w ≡ s .shortest = i ∙ ap shortestOf (s .says) in
+        rw j (sym (s .says))
+
+-- ---- the length, of a content that fits a chunk, whose head has i bytes; and of others, whose heads have i
+module _ {k : Encoding} {m : List ℕ} {p u b : ℕ} (s : StringHas k m p u b) (fit : (i : ℕ) → Fits w8 (getD m i 0)) where
+  record Holds : Type 0 where
+    content : List ℕ
+    read : stringAt k m p ≡ Done (s .size) content [] tt
+    same : sizes k content ≡ sized u b (s .is .shortest)
+
+  holds : Holds
+  holds = go (stringAt k m p) refl
+    where
+      go : (o : Answer (List ℕ)) → stringAt k m p ≡ o → Holds
+      go (Done n cs es c) q =
+          let d = sym (measured-done k m p n cs es c q) ∙ s .is .says in
+          let i : n ≡ s .size = cc in
+          let j : es ≡ [] = cc in
+          record { content = cs; read = q ∙ rw (i, j) refl; same = cc }
+      go (Fault x o) q =
+          let d = sym (measured-fault k m p x o q) ∙ s .is .says in
+          let z : _≡_ {A = ℕ} 0 1 = cc in
+          absurd (omega arith)
+
+  -- the shortest form is no longer than what is read
+  is-short : (s .is .shortest ≤ s .size) × (p + s .size ≤ length m)
+  is-short =
+      let x = holds in
+      let bytes = bytes-all m (λ i. fit i .fits) in
+      let z = text-no-shorter k m bytes p (s .size) (x .content) [] (x .read) in
+      let y = text-within k m bytes p (s .size) (x .content) [] (x .read) in
+      let w = ap lengthOf (z .1) ∙ length-some (z .0) in
+      let v : lengthOf (shortestString k (x .content)) ≡ s .is .shortest = ap (λ (c : Sizes). c .shortest) (x .same) in
+      (omega (arith, z .2), y .1)
+
+  abbrev said : ℕ
+  said = shortestOf (measuredAt k m p)
+
+  said-is : said ≡ s .is .shortest
+  said-is = ap shortestOf (s .is .says)
+
+  module _ (i : ℕ) where
+    module _ (l : u ≤ 65535) (h : i ≡ length (shortestHead (lastHeads k) u)) where
+      one-part : b + i ≡ said
+      one-part =
+          let x = holds in
+          let cs = x .content in
+          let z = text-no-shorter k m (bytes-all m (λ i. fit i .fits)) p (s .size) cs [] (x .read) in
+          let v : units k cs ≡ u = ap (λ (c : Sizes). c .units) (x .same) in
+          let d : length cs ≡ b = ap (λ (c : Sizes). c .bytes) (x .same) in
+          let w : lengthOf (shortestString k cs) ≡ s .is .shortest = ap (λ (c : Sizes). c .shortest) (x .same) in
+          let q = parts-within 0 0 (weights k cs) (omega arith) in
+          let n : 0 + units k cs ≡ u = omega arith in
+          let f : formLength k (length cs) (parts 0 (0 + units k cs)) ≡ b + i = rw (n, d, ← h) (omega arith) in
+          omega (arith, said-is, shortest-length k cs (z .0) (z .1) ∙ ap (formLength k (length cs)) q ∙ f, w)
+
+      one-part-wraps : Fits w64 (length m) → (b + i) % 2 ^ 64 ≡ said
+      one-part-wraps f = omega (arith, f .fits, one-part, said-is, is-short .0, is-short .1)
+
+    module _ (h : HeadsMet k m p i) where
+      more-parts : b + i ≡ said
+      more-parts = h .heads u b (s .size) (s .is) ∙ sym said-is
+
+      more-parts-wrap : Fits w64 (length m) → (b + i) % 2 ^ 64 ≡ said
+      more-parts-wrap f = omega (arith, f .fits, more-parts, said-is, is-short .0, is-short .1)
+
+module _ (k : Encoding) (m : List ℕ) (p u b : ℕ) (fit : (i : ℕ) → Fits w8 (getD m i 0)) (f : Fits w64 (length m))
+    (i n : ℕ) (e : n ≡ (b + i) % 2 ^ 64) where
+  pub length-in-one : u ≤ 65535 → i ≡ length (shortestHead (lastHeads k) u) → PassedLength k m p u b n
+  length-in-one l h = record { is = λ s. e ∙ one-part-wraps s fit i l h f }
+
+  pub length-in-more : HeadsMet k m p i → PassedLength k m p u b n
+  length-in-more h = record { is = λ s. e ∙ more-parts-wrap s fit i h f }
+
 -- ---- a content that does not fit the open part
 -- each byte of a byte string is one unit
 byte-units : (cs : List ℕ) → units Binary cs ≡ length cs
@@ -727,12 +858,26 @@ module _ (k : Encoding) (n room : ℕ) (m : List ℕ) (p : ℕ) (fit : (i : ℕ)
       }
 
 -- ---- the loop over the chunks, with the parts of the shortest form
-pub on-none : (k : Encoding) (m : List ℕ) (at : ℕ) → length m ≤ at → Fault 2 (length m) ≡ measuredAt k m at
-on-none k m at l = sym (measured-as k m at (string-ends k m at l))
+no-heads : {k : Encoding} {m : List ℕ} {at x o : ℕ} → Fault x o ≡ measuredAt k m at → HeadsMet k m at 0
+no-heads {x = x} {o = o} e = record {
+  heads = λ u b n r.
+      let y : Fault x o ≡ Done n (sized u b (r .shortest)) [] tt = e ∙ r .says in
+      let z : _≡_ {A = ℕ} 0 1 = cc in
+      absurd (omega arith);
+}
+
+passed-none : (k : Encoding) (m : List ℕ) (at : ℕ) → length m ≤ at → Fault 2 (length m) ≡ measuredAt k m at
+passed-none k m at l = sym (measured-as k m at (string-ends k m at l))
+
+pub on-none : (k : Encoding) (m : List ℕ) (at : ℕ) → length m ≤ at → HeadsMet k m at 0
+on-none k m at l = no-heads (passed-none k m at l)
 
 pub parting-start : (k : Encoding) (m : List ℕ) (at : ℕ) → at < length m → Parting k m at at 0 0 (parts 0 0)
 unfolding joining-start
 parting-start k m at l = record { joining = joining-start k m at l; parts-are = refl }
+
+pub cutting-start : (k : Encoding) (m : List ℕ) (at : ℕ) → at < length m → Cutting k m at at (parts 0 0)
+cutting-start k m at l = record { total = 0; bytes = 0; parting = parting-start k m at l }
 
 module _ {k : Encoding} {m : List ℕ} {at here total bytes : ℕ} {x : Parts} (R : Parting k m at here total bytes x) where
   pub parting-filled : x .filled ≤ 65535
@@ -783,8 +928,8 @@ module _ {k : Encoding} {m : List ℕ} {at here total bytes : ℕ} {x : Parts} (
 module _ {k : Encoding} {m : List ℕ} {at here total bytes cuts filled : ℕ}
     (R : Parting k m at here total bytes (parts cuts filled)) (fit : (i : ℕ) → Fits w8 (getD m i 0)) (g : ChunkRead)
     (t : ChunkMet k m here g) where
-  pub on-fault : (w o : ℕ) → g ≡ chunk.Refused w o → Fault w o ≡ measuredAt k m at
-  on-fault w o e = joining-fault (R .joining) t w o e
+  pub on-fault : (w o : ℕ) → g ≡ chunk.Refused w o → HeadsMet k m at 0
+  on-fault w o e = no-heads (joining-fault (R .joining) t w o e)
 
   module _ (h n b u : ℕ) (a : Bool) (e : g ≡ chunk.Chunk h n b u a) where
     says : ChunkSays k m here (chunk.Chunk h n b u a)
@@ -829,27 +974,16 @@ module _ {k : Encoding} {m : List ℕ} {at here total bytes cuts filled : ℕ}
     pub on-end : Fits w64 (length m) → Fits w64 (here + (h + n))
     on-end f = record { fits = omega (arith, f .fits, says .2) }
 
-    pub on-bytes : Fits w64 (length m) → Fits w64 (bytes + b)
-    on-bytes f = record { fits = omega (arith, f .fits, says .2, says .6, R .joining .onward) }
-
-    pub on-units : Fits w64 (length m) → Fits w64 (total + u)
-    on-units f = record { fits = omega (arith, on-bytes f .fits, says .3, R .joining .few) }
-
-    pub on-behind : at ≤ here + (h + n)
-    on-behind = omega (arith, R .joining .onward)
-
     pub on-shrinks : length m - (here + (h + n)) < length m - here
     on-shrinks = omega (arith, says .1, says .2)
 
     module _ (c j : ℕ) (q : Leads c j) where
-      pub on-more : a ≡ false → Parting k m at (here + (h + n)) (total + u) (bytes + b) (parts c j)
-      on-more f = parting-more R fit t h n b u a e (parts c j) q f
-
-      pub on-filled : j ≤ 65535
-      on-filled =
-          let cs = decoded k (take n (drop (here + h) m)) in
-          let l = parts-few cuts filled (weights k cs) (weights-chars k cs) (parting-filled R) in
-          rw q at l
+      pub on-more : a ≡ false → Cutting k m at (here + (h + n)) (parts c j)
+      on-more f = record {
+        total = total + u;
+        bytes = bytes + b;
+        parting = parting-more R fit t h n b u a e (parts c j) q f;
+      }
 
       -- the last. i: the bytes of its head
       module _ (f : a ≡ true) (i : ℕ) (l : i ≡ length (shortestHead (lastHeads k) (j))) where
@@ -857,28 +991,19 @@ module _ {k : Encoding} {m : List ℕ} {at here total bytes cuts filled : ℕ}
             ≡ measuredAt k m at
         on-last = parting-last R fit t h n b u a e (parts c j) q f i l
 
-        pub on-shortest : Fits w64 (length m) → Fits w64 (bytes + b + 3 * c + i)
-        on-shortest v = record { fits = omega (arith, v .fits, parting-short R fit t h n b u a e (parts c j) q f i l) }
+        pub on-heads-met : HeadsMet k m at (3 * c + i)
+        on-heads-met = record {
+          heads = λ v d z r.
+              let x : Done (here + (h + n) - at) (sized (total + u) (bytes + b) (bytes + b + 3 * c + i)) [] tt
+              ≡ Done z (sized v d (r .shortest)) [] tt = on-last ∙ r .says in
+              let s : sized (total + u) (bytes + b) (bytes + b + 3 * c + i) ≡ sized v d (r .shortest) = cc in
+              let y : bytes + b ≡ d = ap (λ (s : Sizes). s .bytes) s in
+              let w : bytes + b + 3 * c + i ≡ r .shortest = ap (λ (s : Sizes). s .shortest) s in
+              omega arith;
+        }
 
-      module _ (f : a ≡ true) (v : Fits w64 (length m)) where
-        pub on-heads : Fits w64 (3 * c)
-        on-heads = record { fits = omega (arith, on-shortest f _ refl v .fits) }
+        pub on-both : Fits w64 (length m) → Fits w64 (3 * c + i)
+        on-both v = record { fits = omega (arith, v .fits, parting-short R fit t h n b u a e (parts c j) q f i l) }
 
-        pub on-parts : Fits w64 (bytes + b + 3 * c)
-        on-parts = record { fits = omega (arith, on-shortest f _ refl v .fits) }
-
--- ---- a string of one chunk. i: the bytes of the shortest head
-module _ (k : Encoding) (m : List ℕ) (p : ℕ) (c : ChunkRead) (t : ChunkMet k m p c) (h n b u : ℕ)
-    (e : c ≡ chunk.Chunk h n b u true) (fit : (i : ℕ) → Fits w8 (getD m i 0)) (i : ℕ)
-    (l : i ≡ length (shortestHead (lastHeads k) u)) where
-  none-before : (j : ℕ) → 0 + j ≡ j
-  none-before j = omega arith
-
-  pub one-chunk : Done (h + n) (sized u b (b + i)) [] tt ≡ measuredAt k m p
-  one-chunk =
-      let s = chunk-says t e in
-      let R = parting-start k m p (omega (arith, s .1, s .2)) in
-      let q = on-within R fit c t h n b u true e (omega (arith, s .7)) 0 u refl (omega arith) in
-      let w : p + (h + n) - p ≡ h + n = omega arith in
-      let v : b + 3 * 0 + i ≡ b + i = omega arith in
-      rw (w, none-before u, none-before b, v) at (on-last R fit c t h n b u true e 0 u q refl i l)
+      pub on-heads : a ≡ true → Fits w64 (length m) → Fits w64 (3 * c)
+      on-heads f v = record { fits = omega (arith, on-both f _ refl v .fits) }

@@ -23,10 +23,12 @@ use Rattle.texts.specs.declared.HeadRead.{HeadRead}
 use Rattle.texts.specs.declared.HeadRead.the-variants as head
 use Rattle.texts.specs.declared.ChunkRead.{ChunkRead}
 use Rattle.texts.specs.declared.ChunkRead.the-variants as chunk
+use Rattle.texts.specs.declared.StringPassed.{StringPassed}
+use Rattle.texts.specs.declared.StringPassed.the-variants as string-passed
 use Rattle.texts.specs.declared.StringRead.{StringRead}
 use Rattle.texts.specs.declared.StringRead.the-variants.{Content, Refused}
 use Rattle.scalar.specs.Scalars.{formAt, inside, partHead, lastHeads, units, characters, body, stringAt}
-use Rattle.scalar.specs.Answers.{Sizes, sized}
+use Rattle.scalar.specs.Answers.{Sizes, sized, measuredAt}
 use Rattle.scalar.specs.Decoded.{decoded}
 use Rattle.scalar.specs.TextUnits.{weights}
 use Rattle.scalar.specs.StringLengths.{Parts, parts, partsAfter}
@@ -36,6 +38,33 @@ use Rattle.scalar.specs.StringLengths.{Parts, parts, partsAfter}
 abbrev pub toldString : StringRead → Answer Sizes
 toldString (Content u b n w) = Done n (sized u b w) [] tt
 toldString (Refused x o) = Fault x o
+
+-- the text or byte string at the place p of the message m has u units and b bytes of content, and takes n bytes there
+pub record StringIs (k : Encoding) (m : List ℕ) (p u b n : ℕ) : Type 0 where
+  pub shortest : ℕ
+  pub says : measuredAt k m p ≡ Done n (sized u b shortest) [] tt
+
+-- one that is passed: the same, but for the length of its shortest form
+abbrev pub PassedSays : Encoding → List ℕ → ℕ → StringPassed → Type 0
+PassedSays k m p (string-passed.Content u b n) = StringIs k m p u b n
+PassedSays k m p (string-passed.Refused x o) = measuredAt k m p ≡ Fault x o
+
+pub record PassedMet (k : Encoding) (m : List ℕ) (p : ℕ) (r : StringPassed) : Type 0 where
+  pub says : PassedSays k m p r
+
+-- so many units and bytes, whatever it takes
+pub record StringHas (k : Encoding) (m : List ℕ) (p u b : ℕ) : Type 0 where
+  pub size : ℕ
+  pub is : StringIs k m p u b size
+
+-- the bytes of the shortest form; 0 where none is read
+abbrev pub shortestOf : Answer Sizes → ℕ
+shortestOf (Done n s es c) = s .shortest
+shortestOf (Fault x o) = 0
+
+-- n bytes, where it has so many units and bytes
+pub record PassedLength (k : Encoding) (m : List ℕ) (p u b n : ℕ) : Type 0 where
+  pub is : StringHas k m p u b → n ≡ shortestOf (measuredAt k m p)
 
 -- ---- inside the code
 -- how many bytes f reads at the place p of the message m, and how many its content has
@@ -181,3 +210,13 @@ pub record Joining (k : Encoding) (m : List ℕ) (at here total bytes : ℕ) : T
 pub record Parting (k : Encoding) (m : List ℕ) (at here total bytes : ℕ) (x : Parts) : Type 0 where
   pub joining : Joining k m at here total bytes
   pub parts-are : partsAfter 0 0 (weights k (joining .front)) ≡ x
+
+-- the same, whatever units and bytes they are
+pub record Cutting (k : Encoding) (m : List ℕ) (at here : ℕ) (x : Parts) : Type 0 where
+  pub total : ℕ
+  pub bytes : ℕ
+  pub parting : Parting k m at here total bytes x
+
+-- the heads of the shortest form, if a text or byte string stands at p, have r bytes
+pub record HeadsMet (k : Encoding) (m : List ℕ) (p r : ℕ) : Type 0 where
+  pub heads : (u b n : ℕ) (s : StringIs k m p u b n) → b + r ≡ s .shortest

@@ -15,7 +15,7 @@ ghost use Rattle.scalar.specs.Scalars.{charLead, continued as continuedBy, char
 ghost use Rattle.scalar.specs.Scalars.{lastHeads, shortestHead};
 ghost use Rattle.scalar.specs.TextShort.{shortTo};
 ghost use Rattle.texts.specs.Answers.{toldString, extentAt, toldExtent, CharMet, headForm, HeadMet, ChunkMet};
-ghost use Rattle.texts.specs.Answers.{WithinMet, CutMet};
+ghost use Rattle.texts.specs.Answers.{WithinMet, CutMet, HeadsMet, PassedMet, PassedLength};
 ghost use Rattle.scalar.specs.Answers.{measuredAt};
 ghost use Rattle.texts.specs.Ascii.{Ascii, asciiAt, ShortText};
 ghost use Rattle.texts.specs.At.{Opens, Halves, HighHalf};
@@ -74,6 +74,20 @@ pub enum ChunkRead {
         bytes: usize,
         units: usize,
         last: bool,
+    },
+    Refused {
+        number: u8,
+        place: usize,
+    },
+}
+
+// What passing a text or byte string finds: its units, its content's bytes, and the bytes that it takes in all; or a
+// refusal.
+pub enum StringPassed {
+    Content {
+        units: usize,
+        bytes: usize,
+        size: usize,
     },
     Refused {
         number: u8,
@@ -896,31 +910,29 @@ pub fn last_head_size(kind: Encoding, units: usize) -> usize
     0
 }
 
-// The text or byte string at the place `at` of the message.
-pub fn read_string(kind: Encoding, message: &[u8], at: usize) -> StringRead
-    ensures { λ r. ⌜ toldString r ≡ measuredAt kind (now (message .entry)) at ⌝ }
+// The bytes of the heads in the shortest form of the text or byte string at `at`: three for each part that is cut off,
+// and the head of the last one. 0 where none is read.
+fn heads_length(kind: Encoding, message: &[u8], at: usize) -> usize
+    ensures { λ r. ⌜ HeadsMet kind (now (message .entry)) at r ⌝ }
 {
-    let len = message.len();
-    if len <= at {
-        return StringRead::Refused {
-            number: CUT,
-            place: len,
-        };
+    if message.len() <= at {
+        return 0;
     }
     let mut here = at;
-    let mut total: usize = 0;
-    let mut bytes: usize = 0;
     let mut cuts: usize = 0;
     let mut filled: usize = 0;
     loop {
         match chunk(kind, message, here) {
-            ChunkRead::Refused { number, place } => {
-                return StringRead::Refused { number, place };
+            ChunkRead::Refused {
+                number: _,
+                place: _,
+            } => {
+                return 0;
             }
             ChunkRead::Chunk {
                 head: h,
                 size,
-                bytes: n,
+                bytes: _,
                 units,
                 last,
             } => {
@@ -931,14 +943,61 @@ pub fn read_string(kind: Encoding, message: &[u8], at: usize) -> StringRead
                     filled += units;
                 }
                 here += h + size;
+                if last {
+                    return 3 * cuts + last_head_size(kind, filled);
+                }
+            }
+        }
+    }
+}
+
+// The bytes of the shortest form of the text or byte string at `at`, where it has so many units and content's bytes. Only
+// one that is too long for a chunk is gone through once more.
+pub fn passed_length(kind: Encoding, message: &[u8], at: usize, units: usize, bytes: usize) -> usize
+    ensures { λ r. ⌜ PassedLength kind (now (message .entry)) at units bytes r ⌝ }
+{
+    if units <= LONGEST_CHUNK {
+        return std::num::wrapping_add_usize(bytes, last_head_size(kind, units));
+    }
+    std::num::wrapping_add_usize(bytes, heads_length(kind, message, at))
+}
+
+// ---- texts and byte strings
+
+// The text or byte string at the place `at` of the message, which is not measured.
+pub fn pass_string(kind: Encoding, message: &[u8], at: usize) -> StringPassed
+    ensures { λ r. ⌜ PassedMet kind (now (message .entry)) at r ⌝ }
+{
+    let len = message.len();
+    if len <= at {
+        return StringPassed::Refused {
+            number: CUT,
+            place: len,
+        };
+    }
+    let mut here = at;
+    let mut total: usize = 0;
+    let mut bytes: usize = 0;
+    loop {
+        match chunk(kind, message, here) {
+            ChunkRead::Refused { number, place } => {
+                return StringPassed::Refused { number, place };
+            }
+            ChunkRead::Chunk {
+                head: h,
+                size,
+                bytes: n,
+                units,
+                last,
+            } => {
+                here += h + size;
                 total += units;
                 bytes += n;
                 if last {
-                    return StringRead::Content {
+                    return StringPassed::Content {
                         units: total,
                         bytes,
                         size: here - at,
-                        shortest: bytes + 3 * cuts + last_head_size(kind, filled),
                     };
                 }
             }
@@ -946,18 +1005,49 @@ pub fn read_string(kind: Encoding, message: &[u8], at: usize) -> StringRead
     }
 }
 
+// The text at the place `at` of the message, which is not measured. A short one of ASCII is tried first.
+pub fn pass_text(message: &[u8], at: usize) -> StringPassed
+    ensures { λ r. ⌜ PassedMet Encoding.Utf8 (now (message .entry)) at r ⌝ }
+{
+    let s = short_text(message, at);
+    if 0 < s {
+        return StringPassed::Content {
+            units: s - 1,
+            bytes: s - 1,
+            size: s,
+        };
+    }
+    pass_string(Encoding::Utf8, message, at)
+}
+
+// The text or byte string at `at` as it was passed, with its length.
+fn measured(kind: Encoding, message: &[u8], at: usize, passed: StringPassed) -> StringRead
+    requires { ⌜ PassedMet kind (now message) at passed ⌝ }
+    ensures { λ r. ⌜ toldString r ≡ measuredAt kind (now (message .entry)) at ⌝ }
+{
+    match passed {
+        StringPassed::Refused { number, place } => StringRead::Refused { number, place },
+        StringPassed::Content { units, bytes, size } => StringRead::Content {
+            units,
+            bytes,
+            size,
+            shortest: passed_length(kind, message, at, units, bytes),
+        },
+    }
+}
+
+// The text or byte string at the place `at` of the message.
+pub fn read_string(kind: Encoding, message: &[u8], at: usize) -> StringRead
+    ensures { λ r. ⌜ toldString r ≡ measuredAt kind (now (message .entry)) at ⌝ }
+{
+    let passed = pass_string(kind, message, at);
+    measured(kind, message, at, passed)
+}
+
 // The text at the place `at` of the message. A short one of ASCII is tried first.
 pub fn read_text(message: &[u8], at: usize) -> StringRead
     ensures { λ r. ⌜ toldString r ≡ measuredAt Encoding.Utf8 (now (message .entry)) at ⌝ }
 {
-    let s = short_text(message, at);
-    if 0 < s {
-        return StringRead::Content {
-            units: s - 1,
-            bytes: s - 1,
-            size: s,
-            shortest: s,
-        };
-    }
-    read_string(Encoding::Utf8, message, at)
+    let passed = pass_text(message, at);
+    measured(Encoding::Utf8, message, at, passed)
 }

@@ -21,7 +21,7 @@ returns-5 : tie.Need-returns-5
 returns-5 c = length-kind _ (c .before .enum-told5 .given .1) (c .long-length .ensures)
 
 returns-6 : tie.Need-returns-6
-returns-6 c = length-kind _ (c .before .enum-told6 .given .1) (c .double-by-forms .ensures)
+returns-6 c = length-kind _ (c .before .enum-told6 .given .1) (c .double-length .ensures)
 
 returns-7 : tie.Need-returns-7
 returns-7 c = length-kind _ (c .before .enum-told7 .given .1) (c .date-length .ensures)

@@ -29,13 +29,14 @@ judge-spec =
     returns-2
     (λ c. search needs)
     (λ c. search needs)
-    (λ c. search needs)
-    (λ c. search needs)
     (λ c κs. search needs)
     (λ c. search needs)
     (λ c κs. search needs)
     (λ c. search needs)
     (λ c κs. search needs)
+    (λ c. search needs)
     returns-3
+    (λ c. search needs)
     returns-4
+    (λ c. search needs)
     returns-5)

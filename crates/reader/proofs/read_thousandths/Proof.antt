@@ -22,11 +22,13 @@ read-thousandths-spec =
     (tie.spec
     (λ c. search needs)
     (λ c. search needs)
+    (λ c. search needs)
     (λ c κs. search needs)
     (λ c. search needs)
     (λ c. search needs)
     (λ c. search needs)
     retell-numbers-requires
+    (λ c. search needs)
     (λ c. search needs)
     returns
     (λ c. search needs)

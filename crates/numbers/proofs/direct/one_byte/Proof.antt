@@ -8,4 +8,7 @@ returns : tie.Need-returns
 returns c = search (one-is, needs)
 
 pub one-byte-spec : {M : Type 1} → statement M
-one-byte-spec = tie.close (tie.spec (λ c κs. search needs) returns)
+one-byte-spec = tie.close
+    (tie.spec
+    (λ c κs. search needs)
+    returns)

@@ -1,32 +1,11 @@
--- The only form of each kind.
-use mathlib.Core.Path.{ap, _∙_}
+-- As it was passed, with the length of the shortest form.
 use borrow.Author.Needs.{needs}
-use Rattle.scalar.specs.FormLaws.{forms-null, forms-false, forms-true}
-use Rattle.scalar.specs.Scalars.{formsOf}
+use Rattle.numbers.proofs.Reading.{met-measured}
 use Rattle.numbers.proofs.direct.read_single.Statement.{statement}
 use Rattle.numbers.proofs.direct.read_single.Tie as tie
 
-single-requires : tie.Need-single-requires
-single-requires c κs = ap formsOf (c .enum-told .given .1) ∙ forms-null
-
-single-requires-2 : tie.Need-single-requires-2
-single-requires-2 c κs = ap formsOf (c .enum-told2 .given .1) ∙ forms-false
-
-single-requires-3 : tie.Need-single-requires-3
-single-requires-3 c κs = ap formsOf (c .enum-told3 .given .1) ∙ forms-true
+returns : tie.Need-returns
+returns c = search (met-measured, needs)
 
 pub read-single-spec : {M : Type 1} → statement M
-read-single-spec =
-    tie.close
-    (tie.spec
-    (λ c. search needs)
-    single-requires
-    (λ c. search needs)
-    single-requires-2
-    (λ c. search needs)
-    single-requires-3
-    (λ c κs. search needs)
-    (λ c. search needs)
-    (λ c. search needs)
-    (λ c. search needs)
-    (λ c. search needs))
+read-single-spec = tie.close (tie.spec (λ c κs. search needs) (λ c κs. search needs) returns)

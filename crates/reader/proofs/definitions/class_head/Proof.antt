@@ -13,8 +13,8 @@ add-field-count-2 : tie.Need-add-field-count-2
 add-field-count-2 c =
     omega (
       arith,
-      string-within _ _ (c .before .before .before .before .before .before .before .pre .0 .bytes) _
-          (c .before .before .before .read-string .ensures) _ _ _ _ (c .before .units .given .1),
+      string-within _ _ _ (c .before .before .before .pass-string .ensures)
+          (c .before .before .before .before .before .before .before .pre .0 .bytes) _ _ _ (c .before .units .given .1),
     )
 
 field-count-requires : tie.Need-field-count-requires

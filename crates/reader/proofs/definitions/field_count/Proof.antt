@@ -1,23 +1,20 @@
 -- Each way out has its law in proofs/ClassDefinitions.antt.
-use borrow.Author.Needs.{needs}
 use native.Mathlib.Omega.{arith}
-use Rattle.reader.proofs.ClassDefinitions.{count-says, count-fits, fields-lost, fields-wide, fields-few}
+use borrow.Author.Needs.{needs}
+use Rattle.reader.proofs.ClassDefinitions.{count-says, fields-lost, fields-wide, fields-few}
 use Rattle.reader.proofs.definitions.field_count.Statement.{statement}
 use Rattle.reader.proofs.definitions.field_count.Tie as tie
 
 returns : tie.Need-returns
 returns c = search (fields-wide, needs)
 
-add-t15 : tie.Need-add-t15
-add-t15 c =
+add-t13 : tie.Need-add-t13
+add-t13 c =
     omega (
       arith,
       count-says (c .before .before .before .before .count-at .ensures)
           (c .before .before .value .given .1) .3,
     )
-
-add-t16 : tie.Need-add-t16
-add-t16 c = search (count-fits, needs)
 
 returns-2 : tie.Need-returns-2
 returns-2 c = search (fields-lost, needs)
@@ -33,7 +30,6 @@ field-count-spec =
     (λ c. search needs)
     (λ c. search needs)
     returns
-    add-t15
-    add-t16
+    add-t13
     returns-2
     returns-3)

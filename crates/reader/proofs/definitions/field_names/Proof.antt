@@ -2,23 +2,26 @@
 -- names are left.
 use borrow.Author.Needs.{needs}
 use Prim.Native.Nat.{_-_}
-use Rattle.reader.proofs.ClassDefinitions.{ReadingNames, names-start, names-more, name-fits, names-done}
-use Rattle.reader.proofs.ClassDefinitions.{names-refused}
+use Rattle.reader.proofs.ClassDefinitions.{ReadingNames, names-start, names-refused, name-fits, name-row}
+use Rattle.reader.proofs.ClassDefinitions.{names-more, names-done}
 use Rattle.reader.proofs.definitions.field_names.Statement.{statement}
 use Rattle.reader.proofs.definitions.field_names.Tie as tie
 
 abbrev Inv-loop : tie.InvT-loop
-Inv-loop message numbers₀ bytes₀ from count measuring here₀ sum₀ i₀ numbers bytes here sum i =
-    ReadingNames measuring message numbers₀ bytes₀ from count numbers bytes here sum i
+Inv-loop message numbers₀ bytes₀ from count here₀ i₀ numbers bytes here i =
+    ReadingNames message numbers₀ bytes₀ from count numbers bytes here i
 
 abbrev μ-loop : tie.MeasureT-loop
-μ-loop message numbers₀ bytes₀ from count measuring here₀ sum₀ i₀ numbers bytes here sum i = count - i
+μ-loop message numbers₀ bytes₀ from count here₀ i₀ numbers bytes here i = count - i
 
 loop-holds : tie.Need-loop-holds Inv-loop μ-loop
 loop-holds c = search (names-start, needs)
 
 returns : tie.Need-returns Inv-loop μ-loop
 returns c = search (names-refused, needs)
+
+store-row-requires : tie.Need-store-row-requires Inv-loop μ-loop
+store-row-requires c κs = search (name-row, needs)
 
 add-here : tie.Need-add-here Inv-loop μ-loop
 add-here c = search (name-fits, needs)
@@ -44,8 +47,7 @@ field-names-spec =
     (λ c. search needs)
     (λ c. search needs)
     (λ c. search needs)
-    (λ c κs. search needs)
-    (λ c κs. search needs)
+    store-row-requires
     add-here
     (λ c. search needs)
     (λ c. search needs)

@@ -4,8 +4,8 @@ use Rattle.reader.proofs.Leaves.{string-fits, bytes-head-bad, bytes-hea
 use Rattle.reader.proofs.heads.bytes_head.Statement.{statement}
 use Rattle.reader.proofs.heads.bytes_head.Tie as tie
 
-add-t12 : tie.Need-add-t12
-add-t12 c = search (string-fits, needs)
+add-t11 : tie.Need-add-t11
+add-t11 c = search (string-fits, needs)
 
 returns : tie.Need-returns
 returns c = search (bytes-head-bad, needs)
@@ -16,10 +16,4 @@ returns-2 c = search (bytes-head-is, needs)
 pub bytes-head-spec : {M : Type 1} → statement M
 bytes-head-spec =
     tie.close
-    (tie.spec
-    (λ c κs. search needs)
-    (λ c. search needs)
-    (λ c. search needs)
-    add-t12
-    returns
-    returns-2)
+    (tie.spec (λ c κs. search needs) (λ c. search needs) (λ c. search needs) add-t11 returns returns-2)

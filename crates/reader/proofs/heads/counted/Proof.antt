@@ -4,8 +4,8 @@ use Rattle.reader.proofs.Holders.{counted-fits, counted-bad, counted-is
 use Rattle.reader.proofs.heads.counted.Statement.{statement}
 use Rattle.reader.proofs.heads.counted.Tie as tie
 
-add-t11 : tie.Need-add-t11
-add-t11 c = search (counted-fits, needs)
+add-t10 : tie.Need-add-t10
+add-t10 c = search (counted-fits, needs)
 
 returns : tie.Need-returns
 returns c = search (counted-bad, needs)
@@ -14,11 +14,4 @@ returns-2 : tie.Need-returns-2
 returns-2 c = search (counted-is, needs)
 
 pub counted-spec : {M : Type 1} → statement M
-counted-spec =
-    tie.close
-    (tie.spec
-    (λ c. search needs)
-    (λ c. search needs)
-    add-t11
-    returns
-    returns-2)
+counted-spec = tie.close (tie.spec (λ c. search needs) (λ c. search needs) add-t10 returns returns-2)

@@ -8,8 +8,8 @@ use Rattle.reader.proofs.heads.named_type.Tie as tie
 returns : tie.Need-returns
 returns c = search (named-full, needs)
 
-add-t20 : tie.Need-add-t20
-add-t20 c = search (string-fits, needs)
+add-t19 : tie.Need-add-t19
+add-t19 c = search (string-fits, needs)
 
 returns-2 : tie.Need-returns-2
 returns-2 c = search (named-bad, needs)
@@ -26,6 +26,6 @@ named-type-spec =
     (λ c κs. search needs)
     (λ c. search needs)
     (λ c. search needs)
-    add-t20
+    add-t19
     returns-2
     returns-3)

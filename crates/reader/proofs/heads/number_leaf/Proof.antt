@@ -4,8 +4,8 @@ use Rattle.reader.proofs.Leaves.{number-fits, number-head-bad, number-h
 use Rattle.reader.proofs.heads.number_leaf.Statement.{statement}
 use Rattle.reader.proofs.heads.number_leaf.Tie as tie
 
-add-t12 : tie.Need-add-t12
-add-t12 c = search (number-fits, needs)
+add-t11 : tie.Need-add-t11
+add-t11 c = search (number-fits, needs)
 
 returns : tie.Need-returns
 returns c = search (number-head-bad, needs)
@@ -20,6 +20,6 @@ number-leaf-spec =
     (λ c. search needs)
     (λ c. search needs)
     (λ c κs. search needs)
-    add-t12
+    add-t11
     returns
     returns-2)

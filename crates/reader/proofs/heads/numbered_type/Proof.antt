@@ -5,8 +5,8 @@ use Rattle.reader.proofs.Types.{numbered-bad, numbered-is, numbered-non
 use Rattle.reader.proofs.heads.numbered_type.Statement.{statement}
 use Rattle.reader.proofs.heads.numbered_type.Tie as tie
 
-add-t17 : tie.Need-add-t17
-add-t17 c = search (number-fits, needs)
+add-t16 : tie.Need-add-t16
+add-t16 c = search (number-fits, needs)
 
 returns : tie.Need-returns
 returns c = search (numbered-is, needs)
@@ -25,7 +25,7 @@ numbered-type-spec =
     (λ c. search needs)
     (λ c. search needs)
     (λ c. search needs)
-    add-t17
+    add-t16
     returns
     returns-2
     returns-3)

@@ -1,14 +1,11 @@
 -- Each way out has its law in proofs/Leaves.antt.
 use borrow.Author.Needs.{needs}
-use Rattle.reader.proofs.Leaves.{number-fits, reference-fits, reference-bad, reference-is, reference-none}
+use Rattle.reader.proofs.Leaves.{number-fits, reference-bad, reference-is, reference-none}
 use Rattle.reader.proofs.heads.reference_head.Statement.{statement}
 use Rattle.reader.proofs.heads.reference_head.Tie as tie
 
-add-t18 : tie.Need-add-t18
-add-t18 c = search (number-fits, needs)
-
-add-t19 : tie.Need-add-t19
-add-t19 c = search (reference-fits, needs)
+add-t17 : tie.Need-add-t17
+add-t17 c = search (number-fits, needs)
 
 returns : tie.Need-returns
 returns c = search (reference-is, needs)
@@ -29,8 +26,7 @@ reference-head-spec =
     (λ c. search needs)
     (λ c. search needs)
     (λ c. search needs)
-    add-t18
-    add-t19
+    add-t17
     returns
     returns-2
     returns-3)

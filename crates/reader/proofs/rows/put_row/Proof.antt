@@ -1,15 +1,22 @@
--- One row is stored in both tables; one that fits neither changes none.
+-- By whether there is room, and whether numbers are lent.
+use native.Mathlib.Omega.{arith}
 use borrow.Author.Needs.{needs}
-use Rattle.reader.proofs.Tables.{stores-row}
-use Rattle.reader.proofs.StoredRows.{stores-row-none}
+use Rattle.reader.proofs.StoredRows.{stores-room, stores-added, stores-over}
+use Rattle.reader.proofs.LengthLaws.{adding-moved}
 use Rattle.reader.proofs.rows.put_row.Statement.{statement}
 use Rattle.reader.proofs.rows.put_row.Tie as tie
 
+add-leaf-requires : tie.Need-add-leaf-requires
+add-leaf-requires c κs = c .before .before .before .before .before .before .pre (omega arith)
+
 returns : tie.Need-returns
-returns c = search (stores-row, needs)
+returns c = search (stores-room, needs)
 
 returns-2 : tie.Need-returns-2
-returns-2 c = search (stores-row-none, needs)
+returns-2 c = search (stores-added, adding-moved, needs)
+
+returns-3 : tie.Need-returns-3
+returns-3 c = search (stores-over, needs)
 
 pub put-row-spec : {M : Type 1} → statement M
 put-row-spec =
@@ -18,7 +25,10 @@ put-row-spec =
     (λ c. search needs)
     (λ c κs. search needs)
     (λ c κs. search needs)
+    add-leaf-requires
     (λ c. search needs)
     (λ c. search needs)
     returns
-    returns-2)
+    (λ c. search needs)
+    returns-2
+    returns-3)

@@ -1,7 +1,7 @@
 -- Each way out has its law in proofs/ThousandthLaws.antt. The rows before i are told.
-use borrow.Author.Needs.{needs}
-use native.Mathlib.Omega.{arith}
 use Prim.Native.Nat.{_-_}
+use native.Mathlib.Omega.{arith}
+use borrow.Author.Needs.{needs}
 use Rattle.record.specs.Model.Answers.{asBytes}
 use Rattle.record.specs.Laws.TableLaws.{bytes-keep}
 use Rattle.reader.proofs.ThousandthLaws.{Retelling, retelling-start, retelling-next, retelling-end}
@@ -9,10 +9,10 @@ use Rattle.reader.proofs.thousandths.retell_bytes.Statement.{statement}
 use Rattle.reader.proofs.thousandths.retell_bytes.Tie as tie
 
 abbrev Inv-loop : tie.InvT-loop
-Inv-loop message table₀ rows i₀ table i = Retelling asBytes bytes-keep message table₀ rows table i
+Inv-loop message table₀ rows numbers₀ i₀ table numbers i = Retelling asBytes bytes-keep message table₀ rows table i
 
 abbrev μ-loop : tie.MeasureT-loop
-μ-loop message table₀ rows i₀ table i = rows - i
+μ-loop message table₀ rows numbers₀ i₀ table numbers i = rows - i
 
 loop-holds : tie.Need-loop-holds Inv-loop μ-loop
 loop-holds c = retelling-start _ _ _ _ _
@@ -20,22 +20,16 @@ loop-holds c = retelling-start _ _ _ _ _
 bytes-row-requires : tie.Need-bytes-row-requires Inv-loop μ-loop
 bytes-row-requires c κs = omega (arith, c .before .before .loop .inv .same)
 
-in-thousandths-requires : tie.Need-in-thousandths-requires Inv-loop μ-loop
-in-thousandths-requires c κs = tt
-
-store-bytes-requires : tie.Need-store-bytes-requires Inv-loop μ-loop
-store-bytes-requires c κs = tt
-
-add-i : tie.Need-add-i Inv-loop μ-loop
-add-i c = search needs
-
-loop-less : tie.Need-loop-less Inv-loop μ-loop
-loop-less c = omega arith
+store-row-requires : tie.Need-store-row-requires Inv-loop μ-loop
+store-row-requires c κs = λ z. absurd (omega arith)
 
 loop-again : tie.Need-loop-again Inv-loop μ-loop
 loop-again c =
-    retelling-next _ _ _ _ _ (c .before .before .before .before .before .before .before .before .loop .inv) (omega arith) _ _ (c .before .before .before .before .before .bytes-row .ensures) (c .before .before .before .before .in-thousandths .ensures) _
-    (c .before .before .store-bytes .ensures)
+    let stored = c .before .before .before in
+    let told = stored .before .before .before in
+    let loop = told .before .before .before .before in
+    retelling-next _ _ _ _ _ (loop .loop .inv) (omega arith) _ _ (told .before .bytes-row .ensures)
+    (told .in-thousandths .ensures) _ (stored .store-row .ensures .bytes)
 
 same-length : tie.Need-same-length Inv-loop μ-loop
 same-length c = c .before .loop .inv .same
@@ -51,10 +45,12 @@ retell-bytes-spec =
     μ-loop
     loop-holds
     bytes-row-requires
-    in-thousandths-requires
-    store-bytes-requires
-    add-i
-    loop-less
+    (λ c κs. search needs)
+    (λ c. search needs)
+    (λ c. search needs)
+    store-row-requires
+    (λ c. search needs)
+    (λ c. omega arith)
     loop-again
     same-length
     returns)

@@ -5,7 +5,7 @@ use native.Mathlib.Omega.{arith}
 use borrow.Author.Needs.{needs}
 use lib.ListN.{length}
 use Rattle.reader.specs.Contracts.{groupOf}
-use Rattle.reader.proofs.Containers.{stores-row-same}
+use Rattle.reader.proofs.Containers.{stores-row-same, holder-row-read}
 use Rattle.reader.proofs.ReadValues.{ReadingValues, values-start, values-stop, values-refused}
 use Rattle.reader.proofs.ReadValues.{leaf-forward, values-leaf}
 use Rattle.reader.proofs.ReadValues.{inner-open, inner-ready, inner-forward, values-inner, values-inner-refused}
@@ -15,10 +15,8 @@ use borrow.Fn.PlainCycle.{Measures, is, falls, and}
 use Rattle.reader.proofs.values.read_values.Reads as read-values
 use Rattle.reader.proofs.values.read_values.Kinds as read-values-kinds
 use Rattle.reader.proofs.values.+read_values.Lts-read_values as lts
-use Rattle.reader.proofs.lengths.add.Reads as add-reads
 use Rattle.reader.proofs.rows.store_lent.Reads as store-lent-reads
 use Rattle.reader.proofs.values.begin.Reads as begin-reads
-use Rattle.reader.proofs.values.holder_length.Reads as holder-length-reads
 use Rattle.reader.proofs.values.holder_row.Reads as holder-row-reads
 use Rattle.reader.proofs.values.passed.Reads as passed-reads
 use Rattle.reader.proofs.values.stop.Reads as stop-reads
@@ -26,7 +24,7 @@ use Rattle.reader.proofs.values.+read_values.{statement}
 use Rattle.reader.proofs.values.+read_values.Tie.{close}
 
 abbrev μ-read-values : Measures 4 read-values-kinds.ps ℕ
-μ-read-values κs a = a .1 .1 .1 .1 .1 .1 .0 .allowed
+μ-read-values κs a = a .1 .1 .1 .1 .1 .1 .0
 
 abbrev read-values-at : ℕ → In 4 read-values-kinds.ps
 read-values-at t =
@@ -51,19 +49,14 @@ calls t = (
   holder-row-reads.Learnt,
   store-lent-reads.Asked,
   store-lent-reads.Learnt,
-  holder-length-reads.Asked,
-  holder-length-reads.Learnt,
-  add-reads.Asked,
-  add-reads.Learnt,
 )
 
 abbrev read-values-Inv-loop : lts.InvT-loop
-read-values-Inv-loop message numbers₀ bytes₀ known₀ group scope here₀ i₀ numbers bytes known here i =
-    ReadingValues (scope .measuring) message numbers₀ bytes₀ known₀ here₀ (groupOf group) (scope .allowed)
-    numbers bytes known here i
+read-values-Inv-loop message numbers₀ bytes₀ known₀ group allowed here₀ i₀ numbers bytes known here i =
+    ReadingValues message numbers₀ bytes₀ known₀ here₀ (groupOf group) allowed numbers bytes known here i
 
 abbrev read-values-μ-loop : lts.MeasureT-loop
-read-values-μ-loop message numbers₀ bytes₀ known₀ group scope here₀ i₀ numbers bytes known here i =
+read-values-μ-loop message numbers₀ bytes₀ known₀ group allowed here₀ i₀ numbers bytes known here i =
     length message - here .at
 
 read-values-loop-holds : (t : ℕ)
@@ -91,9 +84,7 @@ read-values-same-length-2 t c = search (_∙_, needs)
 
 read-values-returns : (t : ℕ)
     → lts.Need-returns (calls t) (read-values-at t) read-values.Post read-values-Inv-loop read-values-μ-loop
-read-values-returns t c =
-    values-stop (c .before .before .before .loop .inv) (c .before .before .stop .ensures) (search needs) _
-    (c .passed .ensures)
+read-values-returns t c = search (values-stop, needs)
 
 read-values-begin-requires : (t : ℕ)
     → lts.Need-begin-requires (calls t) (read-values-at t) read-values.Post read-values-Inv-loop read-values-μ-loop
@@ -113,11 +104,7 @@ read-values-same-length-4 t c = search (_∙_, needs)
 
 read-values-returns-2 : (t : ℕ)
     → lts.Need-returns-2 (calls t) (read-values-at t) read-values.Post read-values-Inv-loop read-values-μ-loop
-read-values-returns-2 t c =
-    let begun = c .before .before .before .before .before .before .before in
-    let going = begun .before .before .before .before in
-    values-refused (going .before .before .loop .inv) (going .before .stop .ensures) (going .if1 .left)
-    (begun .begin .ensures) _ _ (c .before .number .given .1)
+read-values-returns-2 t c = search (values-refused, needs)
 
 read-values-enum-known-next : (t : ℕ)
     → lts.Need-enum-known-next (calls t) (read-values-at t) read-values.Post read-values-Inv-loop read-values-μ-loop
@@ -156,10 +143,10 @@ read-values-enum-known-holder : (t : ℕ)
     → lts.Need-enum-known-holder (calls t) (read-values-at t) read-values.Post read-values-Inv-loop read-values-μ-loop
 read-values-enum-known-holder t c = search needs
 
-read-values-sub-t34 : (t : ℕ)
-    → lts.Need-sub-t34 (calls t) (read-values-at t) read-values.Post read-values-Inv-loop read-values-μ-loop
-read-values-sub-t34 t c =
-    let opened = c .before .before in
+read-values-sub-read-values : (t : ℕ)
+    → lts.Need-sub-read-values (calls t) (read-values-at t) read-values.Post read-values-Inv-loop read-values-μ-loop
+read-values-sub-read-values t c =
+    let opened = c .before .before .before .before in
     let begun = opened .before .before .before .before .before .before in
     let going = begun .before .before .before .before in
     let loop = going .before .before in
@@ -172,7 +159,7 @@ read-values-read-values-requires : (t : ℕ)
     → lts.Need-read-values-requires
     (calls t) (read-values-at t) read-values.Post read-values-Inv-loop read-values-μ-loop
 read-values-read-values-requires t c κs =
-    let opened = c .before .before .before .before .before in
+    let opened = c .before .before .before .before in
     let begun = opened .before .before .before .before .before .before in
     let going = begun .before .before .before .before in
     let loop = going .before .before in
@@ -191,27 +178,27 @@ read-values-same-length-5 : (t : ℕ)
     → lts.Need-same-length-5 (calls t) (read-values-at t) read-values.Post read-values-Inv-loop read-values-μ-loop
 read-values-same-length-5 t c =
     let inner = c .before .before .before .before .before .before .before in
-    let begun = inner .before .before .before .before .before .before .before .before .before .before .before .before in
+    let begun = inner .before .before .before .before .before .before .before .before .before .before .before in
     let loop = begun .before .before .before .before .before .before in
     c .before .before .before .before .before .before .numbers2 .given
-    ∙ inner .before .before .before .before .before .before .before .before .before .before .before .numbers .given
+    ∙ inner .before .before .before .before .before .before .before .before .before .before .numbers .given
     ∙ loop .loop .inv .same-numbers
 
 read-values-same-length-6 : (t : ℕ)
     → lts.Need-same-length-6 (calls t) (read-values-at t) read-values.Post read-values-Inv-loop read-values-μ-loop
 read-values-same-length-6 t c =
     let inner = c .before .before .before .before .before .before .before in
-    let begun = inner .before .before .before .before .before .before .before .before .before .before .before .before in
+    let begun = inner .before .before .before .before .before .before .before .before .before .before .before in
     let loop = begun .before .before .before .before .before .before in
     c .before .before .before .before .bytes2 .given
-    ∙ inner .before .before .before .before .before .before .before .before .before .bytes .given
+    ∙ inner .before .before .before .before .before .before .before .before .bytes .given
     ∙ loop .loop .inv .same-bytes
 
 read-values-returns-3 : (t : ℕ)
     → lts.Need-returns-3 (calls t) (read-values-at t) read-values.Post read-values-Inv-loop read-values-μ-loop
 read-values-returns-3 t c =
     let inner = c .before .before .before .before .before .before .before in
-    let opened = inner .before .before .before .before .before .before in
+    let opened = inner .before .before .before .before .before in
     let begun = opened .before .before .before .before .before .before in
     let going = begun .before .before .before .before in
     let loop = going .before .before in
@@ -230,23 +217,18 @@ read-values-holder-row-requires t c κs = search needs
 
 read-values-store-lent-requires : (t : ℕ)
     → lts.Need-store-lent-requires (calls t) (read-values-at t) read-values.Post read-values-Inv-loop read-values-μ-loop
-read-values-store-lent-requires t c κs = search needs
-
-read-values-holder-length-requires : (t : ℕ)
-    → lts.Need-holder-length-requires
-    (calls t) (read-values-at t) read-values.Post read-values-Inv-loop read-values-μ-loop
-read-values-holder-length-requires t c κs = search needs
-
-read-values-add-requires : (t : ℕ)
-    → lts.Need-add-requires (calls t) (read-values-at t) read-values.Post read-values-Inv-loop read-values-μ-loop
-read-values-add-requires t c κs = search needs
+read-values-store-lent-requires t c κs =
+    let done = c .before .before .before .before in
+    let inner = done .before .before .before .before .before .before in
+    let opened = inner .before .before .before .before .before in
+    λ z. holder-row-read (opened .holder .given .1) (done .end .given .1) _ (c .before .before .holder-row .ensures)
 
 read-values-add-i-2 : (t : ℕ)
     → lts.Need-add-i-2 (calls t) (read-values-at t) read-values.Post read-values-Inv-loop read-values-μ-loop
 read-values-add-i-2 t c =
-    let done = c .before .before .before .before .before .before .before .before .before .before .before in
+    let done = c .before .before .before .before .before .before .before .before .before in
     let inner = done .before .before .before .before .before .before in
-    let opened = inner .before .before .before .before .before .before in
+    let opened = inner .before .before .before .before .before in
     let begun = opened .before .before .before .before .before .before in
     let loop = begun .before .before .before .before .before .before in
     let start = loop .before .before .before .before in
@@ -255,9 +237,9 @@ read-values-add-i-2 t c =
 read-values-loop-less-2 : (t : ℕ)
     → lts.Need-loop-less-2 (calls t) (read-values-at t) read-values.Post read-values-Inv-loop read-values-μ-loop
 read-values-loop-less-2 t c =
-    let done = c .before .before .before .before .before .before .before .before .before .before .before in
+    let done = c .before .before .before .before .before .before .before .before .before in
     let inner = done .before .before .before .before .before .before in
-    let opened = inner .before .before .before .before .before .before in
+    let opened = inner .before .before .before .before .before in
     let begun = opened .before .before .before .before .before .before in
     let going = begun .before .before .before .before in
     let loop = going .before .before in
@@ -271,17 +253,17 @@ read-values-loop-less-2 t c =
 read-values-loop-again-2 : (t : ℕ)
     → lts.Need-loop-again-2 (calls t) (read-values-at t) read-values.Post read-values-Inv-loop read-values-μ-loop
 read-values-loop-again-2 t c =
-    let done = c .before .before .before .before .before .before .before .before .before .before .before in
+    let done = c .before .before .before .before .before .before .before .before .before in
     let inner = done .before .before .before .before .before .before in
-    let opened = inner .before .before .before .before .before .before in
+    let opened = inner .before .before .before .before .before in
     let begun = opened .before .before .before .before .before .before in
     let going = begun .before .before .before .before in
     let loop = going .before .before in
     let value = begun .begin .ensures in
-    let row = c .before .before .before .before .before .before .before .before .before .holder-row .ensures in
-    let stored = stores-row-same row (c .before .before .before .before .before .before .store-lent .ensures) in
+    let row = c .before .before .before .before .before .before .before .holder-row .ensures in
+    let stored = stores-row-same row (c .before .before .before .before .store-lent .ensures) in
     values-inner (loop .loop .inv) (going .before .stop .ensures) (going .if1 .left) value (opened .holder .given .1)
-    (inner .read-values .ensures) (done .end .given .1) stored (c .before .holder-length .ensures) (c .add .ensures)
+    (inner .read-values .ensures) (done .end .given .1) stored
 
 pub +read-values-spec : {M : Type 1} → statement M
 +read-values-spec = close μ-read-values λ t. lts.spec (calls t)
@@ -305,7 +287,7 @@ pub +read-values-spec : {M : Type 1} → statement M
     (read-values-loop-less t)
     (read-values-loop-again t)
     (read-values-enum-known-holder t)
-    (read-values-sub-t34 t)
+    (read-values-sub-read-values t)
     (read-values-read-values-requires t)
     (read-values-enum-known-number-2 t)
     (read-values-same-length-5 t)
@@ -314,8 +296,6 @@ pub +read-values-spec : {M : Type 1} → statement M
     (read-values-enum-known-end t)
     (read-values-holder-row-requires t)
     (read-values-store-lent-requires t)
-    (read-values-holder-length-requires t)
-    (read-values-add-requires t)
     (read-values-add-i-2 t)
     (read-values-loop-less-2 t)
     (read-values-loop-again-2 t)

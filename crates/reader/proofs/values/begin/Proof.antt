@@ -1,9 +1,9 @@
 -- The loop's invariant: what is left is the whole, with the rows of the definitions so far in front. The measure is how
 -- many bytes are left.
-use borrow.Author.Needs.{needs}
 use Rattle.reader.proofs.ReadValues.{begin-defined, begin-undefined, begin-less, begin-more, begin-fits}
 use Rattle.reader.proofs.ReadValues.{begin-begun}
 use Rattle.reader.proofs.ClassDefinitions.{ReadingDefinitions, definitions-start}
+use borrow.Author.Needs.{needs}
 use lib.ListN.{length}
 use mathlib.Core.Path.{_∙_}
 use Prim.Native.Nat.{_-_}
@@ -11,11 +11,11 @@ use Rattle.reader.proofs.values.begin.Statement.{statement}
 use Rattle.reader.proofs.values.begin.Tie as tie
 
 abbrev Inv-loop : tie.InvT-loop
-Inv-loop message numbers₀ bytes₀ known₀ scope here₀ numbers bytes known here =
-    ReadingDefinitions (scope .measuring) message numbers₀ bytes₀ known₀ here₀ numbers bytes known here
+Inv-loop message numbers₀ bytes₀ known₀ allowed here₀ numbers bytes known here =
+    ReadingDefinitions message numbers₀ bytes₀ known₀ here₀ numbers bytes known here
 
 abbrev μ-loop : tie.MeasureT-loop
-μ-loop message numbers₀ bytes₀ known₀ scope here₀ numbers bytes known here = length message - here .at
+μ-loop message numbers₀ bytes₀ known₀ allowed here₀ numbers bytes known here = length message - here .at
 
 loop-holds : tie.Need-loop-holds Inv-loop μ-loop
 loop-holds c = search (definitions-start, needs)
@@ -33,11 +33,7 @@ same-length-2 : tie.Need-same-length-2 Inv-loop μ-loop
 same-length-2 c = search (_∙_, needs)
 
 returns : tie.Need-returns Inv-loop μ-loop
-returns c =
-    let told = c .before .before .before .before .before .before .before .before .before .before .before in
-    let head = told .before .before in
-    begin-undefined (head .before .before .loop .inv) (head .head-at .ensures) (told .enum-told .given .1)
-    (c .before .before .before .before .before .before .before .definition .ensures) _ _ (c .before .number .given .1)
+returns c = search (begin-undefined, needs)
 
 loop-less : tie.Need-loop-less Inv-loop μ-loop
 loop-less c = search (begin-less, needs)
@@ -55,10 +51,7 @@ same-length-4 : tie.Need-same-length-4 Inv-loop μ-loop
 same-length-4 c = search (_∙_, needs)
 
 returns-2 : tie.Need-returns-2 Inv-loop μ-loop
-returns-2 c =
-    let head = c .before .before .before .before .before .before .before .before .before in
-    begin-begun (head .before .before .loop .inv) (head .head-at .ensures) (search needs) _ _ _ _
-    (c .before .before .before .before .by-head .ensures)
+returns-2 c = search (begin-begun, needs)
 
 pub begin-spec : {M : Type 1} → statement M
 begin-spec =

@@ -1,22 +1,27 @@
 -- Each way out has its law in proofs/Containers.antt.
 use borrow.Author.Needs.{needs}
-use Rattle.reader.proofs.Containers.{head-refused, head-leaf, head-holder, head-defined, leaf-fits, leaf-length, inner-fits}
-use Rattle.reader.proofs.Containers.{holder-fits}
-use mathlib.Core.Path.{refl}
+use Rattle.reader.proofs.Containers.{leaf-fits, leaf-row, holder-fits, type-named, inner-place, inner-row}
+use Rattle.reader.proofs.Containers.{inner-rows, head-refused, head-leaf, head-holder, head-defined}
 use Rattle.reader.proofs.values.by_head.Statement.{statement}
 use Rattle.reader.proofs.values.by_head.Tie as tie
 
 add-after : tie.Need-add-after
 add-after c = search (leaf-fits, needs)
 
-add-leaf-requires : tie.Need-add-leaf-requires
-add-leaf-requires c κs = search (leaf-length, needs)
+put-row-requires : tie.Need-put-row-requires
+put-row-requires c κs = search (leaf-row, needs)
 
-add-t31 : tie.Need-add-t31
-add-t31 c = search (inner-fits, needs)
+add-t28 : tie.Need-add-t28
+add-t28 c = search (inner-place, needs)
+
+add-t29 : tie.Need-add-t29
+add-t29 c = search (inner-row, needs)
+
+store-type-requires : tie.Need-store-type-requires
+store-type-requires c κs = (search (inner-rows, needs), search (type-named, needs))
 
 open-holder-requires : tie.Need-open-holder-requires
-open-holder-requires c κs = (search (holder-fits, needs), refl)
+open-holder-requires c κs = search (holder-fits, needs)
 
 returns : tie.Need-returns
 returns c = search (head-refused, needs)
@@ -37,11 +42,11 @@ by-head-spec =
     (λ c. search needs)
     (λ c. search needs)
     add-after
-    (λ c κs. search needs)
-    add-leaf-requires
+    put-row-requires
     (λ c. search needs)
-    add-t31
-    (λ c κs. search needs)
+    add-t28
+    add-t29
+    store-type-requires
     open-holder-requires
     (λ c. search needs)
     returns

@@ -1,14 +1,21 @@
 -- Each way out has its law in proofs/Containers.antt.
 use borrow.Author.Needs.{needs}
-use Rattle.reader.proofs.Containers.{named-fits, numbered-fits, stores-untyped, stores-named, stores-numbered}
+use Rattle.reader.proofs.Containers.{named-fits, numbered-fits, named-row, numbered-row}
+use Rattle.reader.proofs.Containers.{stores-untyped, stores-named, stores-numbered}
 use Rattle.reader.proofs.values.store_type.Statement.{statement}
 use Rattle.reader.proofs.values.store_type.Tie as tie
 
 add-t12 : tie.Need-add-t12
 add-t12 c = search (named-fits, needs)
 
+store-row-requires : tie.Need-store-row-requires
+store-row-requires c κs = search (named-row, needs)
+
 add-t20 : tie.Need-add-t20
 add-t20 c = search (numbered-fits, needs)
+
+store-row-requires-2 : tie.Need-store-row-requires-2
+store-row-requires-2 c κs = search (numbered-row, needs)
 
 returns : tie.Need-returns
 returns c = search (stores-untyped, needs)
@@ -26,10 +33,10 @@ store-type-spec =
     (λ c. search needs)
     (λ c. search needs)
     add-t12
-    (λ c κs. search needs)
+    store-row-requires
     (λ c. search needs)
     add-t20
-    (λ c κs. search needs)
+    store-row-requires-2
     returns
     (λ c. search needs)
     (λ c. search needs)

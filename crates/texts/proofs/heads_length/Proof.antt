@@ -9,31 +9,29 @@ use lib.ListN.{length, take, drop}
 use Rattle.scalar.specs.TextUnits.{weights}
 use Rattle.scalar.specs.Decoded.{decoded}
 use Rattle.scalar.specs.StringLengths.{parts, partsAfter}
-use Rattle.texts.specs.Answers.{Parting}
-use Rattle.texts.proofs.Strings.{parting-start, parting-filled, on-none, on-fault, on-inside, on-place, on-few}
-use Rattle.texts.proofs.Strings.{on-cuts, on-room, on-cut, on-within, on-size, on-end, on-bytes, on-units, on-behind, on-shrinks}
-use Rattle.texts.proofs.Strings.{on-more, on-filled, on-last, on-shortest, on-heads, on-parts}
-use Rattle.texts.proofs.read_string.Statement.{statement}
-use Rattle.texts.proofs.read_string.Tie as tie
-use Rattle.texts.proofs.read_string.Reads as reads
-use Rattle.texts.proofs.read_string.Lts as lts
+use Rattle.texts.specs.Answers.{Cutting}
+use Rattle.texts.proofs.Strings.{cutting-start, parting-filled, on-none, on-fault, on-inside, on-place, on-few}
+use Rattle.texts.proofs.Strings.{on-cuts, on-room, on-cut, on-within, on-size, on-end, on-shrinks, on-more}
+use Rattle.texts.proofs.Strings.{on-heads, on-both, on-heads-met}
+use Rattle.texts.proofs.heads_length.Statement.{statement}
+use Rattle.texts.proofs.heads_length.Tie as tie
+use Rattle.texts.proofs.heads_length.Reads as reads
+use Rattle.texts.proofs.heads_length.Lts as lts
 use Rattle.texts.proofs.after_cut.Reads as after-cut-reads
 use Rattle.texts.proofs.chunk.Reads as chunk-reads
 use Rattle.texts.proofs.last_head_size.Reads as last-head-size-reads
 
 abbrev Inv-loop : tie.InvT-loop
-Inv-loop kind message at len here₀ total₀ bytes₀ cuts₀ filled₀ here total bytes cuts filled =
-    Parting kind message at here total bytes (parts cuts filled)
+Inv-loop kind message at here₀ cuts₀ filled₀ here cuts filled = Cutting kind message at here (parts cuts filled)
 
 abbrev μ-loop : tie.MeasureT-loop
-μ-loop kind message at len here₀ total₀ bytes₀ cuts₀ filled₀ here total bytes cuts filled =
-    length message - here
+μ-loop kind message at here₀ cuts₀ filled₀ here cuts filled = length message - here
 
 returns : tie.Need-returns Inv-loop μ-loop
 returns c = search (on-none, needs)
 
 loop-holds : tie.Need-loop-holds Inv-loop μ-loop
-loop-holds c = search (parting-start, needs)
+loop-holds c = search (cutting-start, needs)
 
 -- ---- a chunk
 returns-2 : tie.Need-returns-2 Inv-loop μ-loop
@@ -83,13 +81,10 @@ leads c =
     let read = head .before .before in
     let loop = read .before in
     let fit = loop .before .before .shared-slice-known .given in
+    let inv = loop .loop .inv .parting in
     ⊎-elim
-    (λ w.
-    on-cut (loop .loop .inv) fit _ (read .chunk .ensures) _ _ _ _ _ (head .h .given .1) _ (w .1 .ensures) _ _ (w .2)
-    (w .3))
-    (λ w.
-    on-within (loop .loop .inv) fit _ (read .chunk .ensures) _ _ _ _ _ (head .h .given .1) (omega arith) _ _ (w .1)
-    (w .2))
+    (λ w. on-cut inv fit _ (read .chunk .ensures) _ _ _ _ _ (head .h .given .1) _ (w .1 .ensures) _ _ (w .2) (w .3))
+    (λ w. on-within inv fit _ (read .chunk .ensures) _ _ _ _ _ (head .h .given .1) (omega arith) _ _ (w .1) (w .2))
     (c .if2 .came)
 
 add-here : tie.Need-add-here Inv-loop μ-loop
@@ -98,30 +93,15 @@ add-here c = search (on-size, needs)
 add-here-2 : tie.Need-add-here-2 Inv-loop μ-loop
 add-here-2 c = search (on-end, needs)
 
-add-total : tie.Need-add-total Inv-loop μ-loop
-add-total c = search (on-units, needs)
-
-add-bytes : tie.Need-add-bytes Inv-loop μ-loop
-add-bytes c = search (on-bytes, needs)
-
 -- ---- the last
-sub-t23 : tie.Need-sub-t23 Inv-loop μ-loop
-sub-t23 c = search (on-behind, needs)
+mul-result : tie.Need-mul-result Inv-loop μ-loop
+mul-result c = search (on-heads, leads (c .before .before), needs)
 
-mul-t24 : tie.Need-mul-t24 Inv-loop μ-loop
-mul-t24 c = search (on-heads, leads (c .before .before), needs)
-
-add-t25 : tie.Need-add-t25 Inv-loop μ-loop
-add-t25 c = search (on-parts, leads (c .before .before), needs)
-
-last-head-size-requires : tie.Need-last-head-size-requires Inv-loop μ-loop
-last-head-size-requires c κs = search (on-filled, leads (c .before .before), needs)
-
-add-t27 : tie.Need-add-t27 Inv-loop μ-loop
-add-t27 c = search (on-shortest, leads (c .before .before .before), needs)
+add-result : tie.Need-add-result Inv-loop μ-loop
+add-result c = search (on-both, leads (c .before .before .before), needs)
 
 returns-3 : tie.Need-returns-3 Inv-loop μ-loop
-returns-3 c = search (on-last, leads (c .before .before .before), needs)
+returns-3 c = search (on-heads-met, leads (c .before .before .before), needs)
 
 -- ---- another
 loop-less : tie.Need-loop-less Inv-loop μ-loop
@@ -130,8 +110,8 @@ loop-less c = search (on-shrinks, needs)
 loop-again : tie.Need-loop-again Inv-loop μ-loop
 loop-again c = search (on-more, leads (c .before), needs)
 
-pub read-string-spec : {M : Type 1} → statement M
-read-string-spec =
+pub heads-length-spec : {M : Type 1} → statement M
+heads-length-spec =
     tie.close
     (tie.spec
     Inv-loop
@@ -150,13 +130,9 @@ read-string-spec =
     add-filled
     add-here
     add-here-2
-    add-total
-    add-bytes
-    sub-t23
-    mul-t24
-    add-t25
-    last-head-size-requires
-    add-t27
+    mul-result
+    (λ c κs. search needs)
+    add-result
     returns-3
     loop-less
     loop-again)

@@ -1,0 +1,20 @@
+-- Each way out has its law in proofs/Loads.antt.
+use borrow.Author.Needs.{needs}
+use Rattle.numbers.proofs.Loads.{formed-cut, nine-is}
+use Rattle.numbers.proofs.direct.nine_bytes.Statement.{statement}
+use Rattle.numbers.proofs.direct.nine_bytes.Tie as tie
+
+returns : tie.Need-returns
+returns c = search (formed-cut, needs)
+
+returns-2 : tie.Need-returns-2
+returns-2 c = search (nine-is, needs)
+
+pub nine-bytes-spec : {M : Type 1} → statement M
+nine-bytes-spec = tie.close
+    (tie.spec
+    (λ c. search needs)
+    returns
+    (λ c. search needs)
+    (λ c κs. search needs)
+    returns-2)
