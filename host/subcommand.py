@@ -18,6 +18,7 @@ HOST = Path(__file__).resolve().parent
 ROOT = HOST.parent
 BUILD = Path(os.environ.get("BUILD") or HOST / "build").resolve()
 NOBODY = 65534
+MOST_SECONDS = 300  # that a program may take
 
 sys.dont_write_bytecode = True
 sys.path[:0] = [str(HOST), str(ROOT / "crates/vectors")]
@@ -38,12 +39,12 @@ class Check:
             print(f"check_{self.command}: {what}\n    expected {cut(expected)}\n    seen     {cut(seen)}")
 
     def arguments(self, *more):
-        return [self.program, self.command, *more]
+        return [self.program, *self.command.split(), *more]
 
     def run(self, *arguments, stdin=b"", cwd=ROOT, **others):
         """Status, standard output, standard error."""
         streams = {"stdout": subprocess.PIPE, "stderr": subprocess.PIPE, **others}
-        done = subprocess.run(self.arguments(*arguments), input=stdin, cwd=cwd, **streams)
+        done = subprocess.run(self.arguments(*arguments), input=stdin, cwd=cwd, timeout=MOST_SECONDS, **streams)
         return done.returncode, done.stdout, done.stderr
 
     def said(self, text):
@@ -62,6 +63,17 @@ class Check:
                     check(Path(folder))
         print(f"check_{self.command}: {self.cases} cases, {self.differences} differences")
         return 1 if self.differences else 0
+
+
+class Verb(Check):
+    """A word behind a subcommand; its cases are among those of the subcommand."""
+
+    def __init__(self, check, word):
+        self.check, self.command, self.expect = check, f"{check.command} {word}", check.expect
+
+    @property
+    def program(self):
+        return self.check.program
 
 
 def cut(value):
@@ -160,7 +172,12 @@ def open_to_all(check, folder):
     os.chmod(folder, 0o777)
     shutil.copy(check.program, folder / "program")
     os.chmod(folder / "program", 0o755)
-    return [folder / "program", check.command]
+    return [folder / "program", *check.command.split()]
+
+
+def contents(folder):
+    """All that is in a folder, so that nothing is left behind."""
+    return {name: (folder / name).read_bytes() for name in sorted(os.listdir(folder)) if (folder / name).is_file()}
 
 
 def heed_signals(*ignored):
@@ -180,8 +197,9 @@ def wait_until_asleep(process):
 
 # ---- what every subcommand does with what people get wrong
 
-def check_unread(check, folder):
-    """Files that cannot be read: nothing of them on standard output, and why on standard error."""
+def check_unread(check, folder, behind=(), standard=()):
+    """Files that cannot be read: nothing of them on standard output, and why on standard error. Words may be needed
+    behind a name, and to have standard input read."""
     os.mkfifo(folder / "pipe")
     os.mkdir(folder / "folder")
     (folder / "shut").write_bytes(b"\x4e")
@@ -192,36 +210,36 @@ def check_unread(check, folder):
                              ("pipe", "pipe", "it is not a regular file"), ("shut", "shut", "permission is denied"),
                              ("shut/x", "shut/x", "a part of its path is no folder"),
                              ("a\u200bb c", '"a\\u{200b}b c"', missing)]:
-        done = subprocess.run([*program, name], capture_output=True, cwd=folder, preexec_fn=as_nobody)
+        done = subprocess.run([*program, name, *behind], capture_output=True, cwd=folder, preexec_fn=as_nobody)
         check.expect(f"{name} cannot be read", (done.returncode, done.stdout, done.stderr),
                      (2, b"", check.said(f"cannot read {shown}: {why}")))
-    closed = subprocess.run(check.arguments(), preexec_fn=lambda: os.close(0), capture_output=True)
+    closed = subprocess.run(check.arguments(*standard), preexec_fn=lambda: os.close(0), capture_output=True)
     check.expect("no standard input", (closed.returncode, closed.stdout, closed.stderr),
                  (2, b"", check.said("cannot read standard input: Bad file descriptor")))
 
 
-def check_unwritten(check, folder):
-    """Standard output that is full, closed, or a pipe that no one reads."""
+def check_unwritten(check, folder, words=None):
+    """Standard output that is full, closed, or a pipe that no one reads: of records, or of what these words say."""
     (folder / "long").write_bytes(longest())
     failed = check.said("standard output cannot be written")
-    for record in (ROOT / "samples/car.rec", folder / "long"):
+    for record in words or ([ROOT / "samples/car.rec"], [folder / "long"]):
         with open("/dev/full", "wb") as full:
-            check.expect("no room for output", check.run(record, stdout=full), (2, None, failed))
-        check.expect("standard output is closed", check.run(record, preexec_fn=lambda: os.close(1)), (2, b"", failed))
+            check.expect("no room for output", check.run(*record, stdout=full), (2, None, failed))
+        check.expect("standard output is closed", check.run(*record, preexec_fn=lambda: os.close(1)), (2, b"", failed))
         unread, output = os.pipe()
         os.close(unread)
         with open(output, "wb") as pipe:
-            check.expect("a closed pipe", check.run(record, stdout=pipe), (-signal.SIGPIPE, None, b""))
+            check.expect("a closed pipe", check.run(*record, stdout=pipe), (-signal.SIGPIPE, None, b""))
             ignored = {"restore_signals": False, "preexec_fn": lambda: signal.signal(signal.SIGPIPE, signal.SIG_IGN)}
-            check.expect("a closed pipe, and no signal", check.run(record, stdout=pipe, **ignored), (2, None, failed))
+            check.expect("a closed pipe, and no signal", check.run(*record, stdout=pipe, **ignored), (2, None, failed))
 
 
-def check_interrupted(check, folder):
+def check_interrupted(check, folder, reads=(), prints=None):
     """A signal while the program waits for its input, and while its output waits for a reader."""
     (folder / "long").write_bytes(longest())
     pipes = {"stdin": subprocess.PIPE, "stdout": subprocess.PIPE, "stderr": subprocess.PIPE}
     for number in (signal.SIGINT, signal.SIGTERM):
-        for what, names in (("input", []), ("output", [folder / "long"])):
+        for what, names in (("input", reads), ("output", prints or [folder / "long"])):
             with subprocess.Popen(check.arguments(*names), preexec_fn=heed_signals, **pipes) as process:
                 wait_until_asleep(process)
                 process.send_signal(number)
@@ -230,9 +248,11 @@ def check_interrupted(check, folder):
                              (-number, b""))
 
 
-def check_options(check, folder):
+def check_options(check, folder, file=samples.RECORDS["car.rec"], behind=()):
+    """What is no option is the name of a file, which has these bytes, with words behind it."""
     status, page, errors = check.run("--help")
-    check.expect("help", (status, page.startswith(f"usage: hessian {check.command} ".encode()), errors), (0, True, b""))
+    usage = f"usage: hessian {check.command.split()[0]} ".encode()
+    check.expect("help", (status, page.startswith(usage), errors), (0, True, b""))
     check.expect("help is short for", check.run("-h"), (0, page, b""))
     check.expect("help behind a name", check.run("none", "--help"), (0, page, b""))
     check.expect("help by its beginning", check.run("--he"), (0, page, b""))
@@ -244,8 +264,8 @@ def check_options(check, folder):
     check.expect("no such letter", check.run("-x"), check.wrong("there is no option -x"))
     check.expect("no such letter behind another", check.run("none", "-xh"), check.wrong("there is no option -x"))
     check.expect("a value too many", check.run("--help=1"), check.wrong("option --help=1 takes no value"))
-    (folder / "-h").write_bytes(samples.RECORDS["car.rec"])
-    check.expect("a name like an option", check.run("--", "-h", cwd=folder)[::2], (0, b""))
+    (folder / "-h").write_bytes(file)
+    check.expect("a name like an option", check.run("--", "-h", *behind, cwd=folder)[::2], (0, b""))
 
 
 def check_thousandths_option(check, folder):

@@ -1,12 +1,13 @@
 /*
  * Hessian 2.0 records: read a message into a table of rows, write a table as its shortest message, say how long that
- * is, and copy out the texts and byte strings that rows name. docs/FORMAT.md has the format and every rule.
+ * is, copy out the texts and byte strings that rows name; and keep many records in one holdings file. docs/FORMAT.md
+ * has the formats and every rule.
  *
  * Every function may be handed any bytes. It ends, touches nothing beyond what it was lent, and answers a number, a
- * count and a place, or a length. A refusal changes nothing that was lent. The functions keep no state, use no heap,
- * and may be called from several threads at once. Pointers need no alignment; one may be null where its length is 0.
- * What is read and what is written may not overlap. A call takes less than 32 KiB of stack, as measured with 32 open
- * containers. The library is compiled for x86-64.
+ * count and a place, or a length. A refusal changes nothing that was lent, but for working memory, where that is lent
+ * too. The functions keep no state, use no heap, and may be called from several threads at once. Pointers to bytes need
+ * no alignment; any may be null where its length is 0. What is read and what is written may not overlap. A call takes
+ * less than 32 KiB of stack, as measured with 32 open containers. The library is compiled for x86-64.
  */
 #ifndef HESSIAN_H
 #define HESSIAN_H
@@ -18,7 +19,7 @@
 extern "C" {
 #endif
 
-#define HESSIAN_VERSION "1.3"
+#define HESSIAN_VERSION "1.4"
 
 /* The longest message, in bytes. A message has no more rows than bytes, so a table of so many rows is always enough. */
 #define HESSIAN_LONGEST 262144u
@@ -26,7 +27,10 @@ extern "C" {
 /* The bytes of a row in a table: kind, place, first, second and after, eight bytes each, the highest first. */
 #define HESSIAN_ROW_SIZE 40u
 
-/* The number of an answer: accepted, or why not. The place is where, as an index into the message. */
+/*
+ * The number of an answer: accepted, or why not. The place is where, as an index into the message; from 20 on, of a
+ * holdings file, it is that of the faulty entry's first byte in the file, and 0 where no entry is at fault.
+ */
 enum hessian_refusal {
     HESSIAN_ACCEPTED = 0,
     HESSIAN_LENGTH = 1,    /* the message is empty or too long; writer: the source or the shortest message is */
@@ -38,7 +42,13 @@ enum hessian_refusal {
     HESSIAN_CEILING = 7,   /* more than 32 containers open, or 256 classes, types, or fields of one class */
     HESSIAN_AFTER = 8,     /* bytes after the record */
     HESSIAN_ROOM = 9,      /* fewer rows (writer, content: bytes) are lent than needed; the count says how many */
-    HESSIAN_NO_RECORD = 10 /* writer: the rows are no record, or fifth numbers are wrong; content: a row names none */
+    HESSIAN_NO_RECORD = 10, /* writer: the rows are no record, or fifth numbers are wrong; content: a row names none */
+    HESSIAN_WRONG_MARK = 20,      /* the file does not begin with SWP */
+    HESSIAN_UNKNOWN_VERSION = 21, /* the file's version is cut off, or none that is known */
+    HESSIAN_CUT_ENTRY = 22,       /* the file ends inside an entry; or its used length is more than was lent */
+    HESSIAN_REFUSED_ENTRY = 23,   /* hessian_read refuses the entry's message */
+    HESSIAN_NOT_SHORTEST = 24,    /* the entry's message is not the one that hessian_write writes of it */
+    HESSIAN_REPEATED_ENTRY = 25   /* the entry's message is that of an earlier entry */
 };
 
 /*
@@ -137,7 +147,7 @@ uint64_t hessian_shortest_length_thousandths(const uint8_t *message, size_t mess
 #define HESSIAN_COUNT(answer) ((size_t)((uint64_t)(answer) >> 24 & 0xffffffu))
 #define HESSIAN_PLACE(answer) ((size_t)((uint64_t)(answer) & 0xffffffu))
 
-/* The answer of hessian_content. */
+/* The answer of hessian_content, and of all functions after it. */
 typedef struct {
     uint64_t number; /* enum hessian_refusal */
     uint64_t count;
@@ -156,7 +166,75 @@ typedef struct {
 hessian_answer hessian_content(const uint8_t *source, size_t source_len, uint64_t kind, uint64_t place, uint8_t *output,
                                size_t output_len);
 
-/* ---- rows, and refusals in words */
+/*
+ * ---- holdings files: many records in one file, each once
+ *
+ * A holdings file is the bytes SWP, a version in two bytes, 00 01, and the entries, each a length in four bytes, the
+ * highest first, and a message of so many bytes: the shortest of its record. No two entries are the same. Entries are
+ * numbered from 0, in their order.
+ *
+ * A file is lent as the first `used` bytes of a buffer of file_len. Every call checks it whole, in this order: `used`
+ * beyond file_len is HESSIAN_CUT_ENTRY at 0; then come mark, version, and entry by entry HESSIAN_CUT_ENTRY,
+ * HESSIAN_REFUSED_ENTRY, HESSIAN_NOT_SHORTEST and HESSIAN_REPEATED_ENTRY, with the count 0.
+ *
+ * Working memory is lent to each call: `rows`, of which rows_len counts the numbers, at least HESSIAN_WORKING_NUMBERS,
+ * and at least HESSIAN_WORKING_BYTES `bytes`, however small the file is. Less of either is HESSIAN_ROOM with the count
+ * 0 and the place 0, before all else. What it holds before a call does not matter, nor what it holds afterwards; it
+ * alone may change in a refusal.
+ *
+ * Numbers beyond HESSIAN_WORKING_NUMBERS serve as an index of the entries. Without them each entry is compared with all
+ * earlier ones of its length, so that a call takes time by the square of the entries; with HESSIAN_INDEX_NUMBERS for
+ * each entry of the file, and for each record that may be added, it takes time by the bytes alone. The answers are the
+ * same.
+ */
+#define HESSIAN_WORKING_NUMBERS (5u * HESSIAN_LONGEST)
+#define HESSIAN_WORKING_BYTES HESSIAN_LONGEST
+#define HESSIAN_INDEX_NUMBERS 4u
+
+/* The bytes of an entry in a list: the place of its message in the file, and its length, eight bytes each. */
+#define HESSIAN_LISTED_SIZE 16u
+
+/*
+ * Checks a holdings file, and lists its entries. Accepted: the count is the entries, the place is `used`; bytes of the
+ * list past the entries stay as they were. Last of all refusals comes HESSIAN_ROOM for a list that is too short: the
+ * count is the entries. Bytes of the list beyond a multiple of HESSIAN_LISTED_SIZE are no entry. A file of 0 bytes is
+ * HESSIAN_WRONG_MARK.
+ */
+hessian_answer hessian_holdings_list(const uint8_t *file, size_t file_len, uint64_t used, uint64_t *rows,
+                                     size_t rows_len, uint8_t *bytes, size_t bytes_len, uint8_t *list,
+                                     size_t list_len);
+
+/*
+ * Adds a record to a holdings file. The record is a message in any spelling; its shortest message is looked for in the
+ * file, and appended where it is not there. Accepted: the count is the number of the entry that has it, the place the
+ * used length afterwards, which is `used` where it was found. Where `used` is 0 a new file is begun.
+ *
+ * After the file the record is checked: HESSIAN_LENGTH to HESSIAN_AFTER are its refusals, with their places in the
+ * record, as of hessian_read. Last comes HESSIAN_ROOM, for a record that has to be appended: the count is the file_len
+ * needed. It is at most `used` and 4 and record_len, and 5 more for a new file. A refusal leaves the file as it was;
+ * bytes before `used`, and past the used length afterwards, always stay.
+ */
+hessian_answer hessian_holdings_add(uint8_t *file, size_t file_len, uint64_t used, const uint8_t *record,
+                                    size_t record_len, uint64_t *rows, size_t rows_len, uint8_t *bytes,
+                                    size_t bytes_len);
+
+/*
+ * Adds many records, and checks the file once. `records` has them laid out as entries: a length in four bytes, the
+ * highest first, and a message in any spelling. Each is added as by hessian_holdings_add, up to the first that is
+ * refused. The number is that of its refusal, or 0 where all were added. The count is how many were added, which is
+ * also which one was refused; the place is the used length afterwards, since those before it stay added. numbers[i] is
+ * the number of the entry of record i, of as many as were added and numbers_len counts; the others stay as they were.
+ *
+ * Where `records` ends inside of a record, that is HESSIAN_CUT_ENTRY. Where in a record the fault is, says hessian_read
+ * of it; what room it needs, hessian_holdings_add of it. Working memory that is too small, and a fault of the file, are
+ * answered as by hessian_holdings_add, and nothing is changed: HESSIAN_CUT_ENTRY is about the file where its place is
+ * below `used`, and else about a record.
+ */
+hessian_answer hessian_holdings_add_all(uint8_t *file, size_t file_len, uint64_t used, const uint8_t *records,
+                                        size_t records_len, uint64_t *rows, size_t rows_len, uint8_t *bytes,
+                                        size_t bytes_len, uint64_t *numbers, size_t numbers_len);
+
+/* ---- rows, lists, and refusals in words */
 
 typedef struct {
     uint64_t kind; /* enum hessian_kind */
@@ -187,6 +265,22 @@ static inline hessian_row hessian_row_at(const uint8_t *table, size_t index)
     return row;
 }
 
+typedef struct {
+    uint64_t place;
+    uint64_t length;
+} hessian_listed;
+
+/* Entry `index` of a list, which must have so many. */
+static inline hessian_listed hessian_listed_at(const uint8_t *list, size_t index)
+{
+    const uint8_t *p = list + index * HESSIAN_LISTED_SIZE;
+    hessian_listed listed;
+
+    listed.place = hessian_number_at(p);
+    listed.length = hessian_number_at(p + 8);
+    return listed;
+}
+
 /* Why an answer's number refuses. */
 static inline const char *hessian_refusal_text(uint64_t number)
 {
@@ -213,6 +307,18 @@ static inline const char *hessian_refusal_text(uint64_t number)
         return "too little room was lent";
     case HESSIAN_NO_RECORD:
         return "the rows are no record";
+    case HESSIAN_WRONG_MARK:
+        return "the file does not begin with SWP";
+    case HESSIAN_UNKNOWN_VERSION:
+        return "the file's version is not known";
+    case HESSIAN_CUT_ENTRY:
+        return "the entry is cut off";
+    case HESSIAN_REFUSED_ENTRY:
+        return "the entry is no record";
+    case HESSIAN_NOT_SHORTEST:
+        return "the entry is not in its shortest form";
+    case HESSIAN_REPEATED_ENTRY:
+        return "the entry is the same as an earlier one";
     default:
         return "no known refusal";
     }

@@ -1,6 +1,6 @@
 /*
- * A plain C reader and writer of Hessian 2.0 messages, the length of what is written, and a copier of their texts and
- * byte strings, independent of the library: to measure its speed and check its answers.
+ * A plain C reader and writer of Hessian 2.0 messages, the length of what is written, a copier of their texts and byte
+ * strings, and holdings files, independent of the library: to measure its speed and check its answers.
  */
 #ifndef BASELINE_H
 #define BASELINE_H
@@ -56,5 +56,31 @@ struct baseline_answer {
  */
 struct baseline_answer baseline_content(const uint8_t *source, size_t source_len, uint64_t kind, uint64_t place,
                                         uint8_t *output, size_t output_len);
+
+/*
+ * Holdings files: SWP, a version in two bytes, 1, and entries, each a length in four bytes and a shortest message. The
+ * first `used` bytes of a buffer are the file. Lent are at least five numbers and one byte for each byte that a message
+ * may have; numbers beyond serve as an index. The answers, the first that holds:
+ *   9, count 0, place 0     too little is lent
+ *   22 at 0                 `used` is more than the buffer has
+ *   20 at 0, 21 at 0        another mark; another version
+ *   22, 23, 24, 25          the first entry that is cut off, refused, not shortest or repeated; place its first byte
+ * Listing: 9 with the entries, where the list, of 16 bytes an entry, is too short; else 0, the entries, `used`.
+ * Adding, where a `used` of 0 is a new file: the record's refusal 1 to 8, with its place in the record; 9 with the
+ * bytes that the file needs; else 0, the entry's number, the used length afterwards. Adding many, which are laid out as
+ * entries: the number of the first refusal, or 22 for one that is cut off; how many were added; the used length.
+ * A refusal leaves the list, and the file but for records added before it, as they were.
+ */
+struct baseline_answer baseline_holdings_list(const uint8_t *file, size_t file_len, uint64_t used, uint64_t *rows,
+                                              size_t rows_len, uint8_t *bytes, size_t bytes_len, uint8_t *list,
+                                              size_t list_len);
+
+struct baseline_answer baseline_holdings_add(uint8_t *file, size_t file_len, uint64_t used, const uint8_t *record,
+                                             size_t record_len, uint64_t *rows, size_t rows_len, uint8_t *bytes,
+                                             size_t bytes_len);
+
+struct baseline_answer baseline_holdings_add_all(uint8_t *file, size_t file_len, uint64_t used, const uint8_t *records,
+                                                 size_t records_len, uint64_t *rows, size_t rows_len, uint8_t *bytes,
+                                                 size_t bytes_len, uint64_t *numbers, size_t numbers_len);
 
 #endif

@@ -1,4 +1,4 @@
-/* What the plain reader and the plain writer share: ceilings, kinds of rows, numbers in bytes, chunks, characters, doubles. */
+/* What the plain functions share: ceilings, kinds of rows, numbers in bytes, chunks, characters, doubles. */
 #ifndef FORMS_H
 #define FORMS_H
 
@@ -77,6 +77,12 @@ static inline uint64_t get_u64(const uint8_t *p)
     return be64toh(n);
 }
 
+static inline void put_u32(uint8_t *p, uint32_t n)
+{
+    n = htobe32(n);
+    memcpy(p, &n, sizeof n);
+}
+
 static inline void put_u64(uint8_t *p, uint64_t n)
 {
     n = htobe64(n);
@@ -85,7 +91,7 @@ static inline void put_u64(uint8_t *p, uint64_t n)
 
 /* ---- doubles */
 
-static uint64_t double_bits(double value)
+static inline uint64_t double_bits(double value)
 {
     uint64_t bits;
 
@@ -94,7 +100,7 @@ static uint64_t double_bits(double value)
 }
 
 /* The bits of the double equal to a float. A conversion would make a signalling NaN quiet, so NaNs go by their bits. */
-static uint64_t widen(uint32_t bits)
+static inline uint64_t widen(uint32_t bits)
 {
     float value;
 
@@ -156,7 +162,7 @@ static int pair(const uint8_t *p, size_t left, size_t units)
  * The length of the character at p, of two to four bytes or a pair of halves, where `left` bytes and `units` UTF-16
  * units are left: 0 if the message ends in it, -1 if it is ill-formed, a half alone, or does not fit the units.
  */
-static int character(const uint8_t *p, size_t left, size_t units)
+static inline int character(const uint8_t *p, size_t left, size_t units)
 {
     unsigned lead = p[0], low = 0x80, high = 0xbf;
     int length, i;

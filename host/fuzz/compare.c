@@ -10,6 +10,8 @@
 #include "baseline.h"
 #include "fence.h"
 #include "hessian.h"
+#include "holdings.h"
+#include "lending.h"
 #include "packed.h"
 
 enum {
@@ -20,49 +22,17 @@ enum {
     PACKED_NAMES = 64 /* rows of a packed input whose contents are copied */
 };
 
-/* What the library is lent. The plain functions have blocks of their own, which AddressSanitizer watches. */
+/* What the library is lent. */
 static struct fence message_fence, table_fence, output_fence;
-
-/* A number from the input, so that an input always does the same. */
-static uint64_t state;
-
-static uint64_t pick(uint64_t n)
-{
-    state = state * UINT64_C(6364136223846793005) + UINT64_C(1442695040888963407);
-    return (state >> 33) % n;
-}
 
 static void start(const uint8_t *data, size_t size)
 {
-    size_t i;
-
     if (message_fence.start == NULL) {
         message_fence = new_fence(MOST_MESSAGE);
         table_fence = new_fence((size_t)(LONGEST + 2) * ROW_SIZE);
         output_fence = new_fence(MOST_MESSAGE + 64);
     }
-    state = size;
-    for (i = 0; i < size; i++)
-        state = (state ^ data[i]) * UINT64_C(1099511628211);
-}
-
-static void *block(size_t size)
-{
-    void *p = malloc(size > 0 ? size : 1);
-
-    if (p == NULL) {
-        fputs("fuzz: no memory\n", stderr);
-        exit(2);
-    }
-    return p;
-}
-
-static uint8_t *copy_of(const uint8_t *bytes, size_t len)
-{
-    uint8_t *p = block(len);
-
-    memcpy(p, bytes, len);
-    return p;
+    start_picking(data, size);
 }
 
 static bool differ(const char *what, uint64_t library, uint64_t plain)
@@ -73,78 +43,16 @@ static bool differ(const char *what, uint64_t library, uint64_t plain)
     return false;
 }
 
-/* Lent bytes before a call: the same pattern for both. */
-static void fill(uint8_t *p, size_t len)
-{
-    size_t i;
-
-    for (i = 0; i < len; i++)
-        p[i] = (uint8_t)(i * 7 + 3);
-}
-
-/* Whether the bytes from `from` on are as `fill` left them. */
-static bool as_filled(const uint8_t *p, size_t from, size_t len)
-{
-    for (; from < len; from++)
-        if (p[from] != (uint8_t)(from * 7 + 3))
-            return false;
-    return true;
-}
-
-/* ---- what is lent to both */
-
-struct lent {
-    const struct fence *fence;
-    bool at_end;
-    size_t len;
-    uint8_t *library, *plain;
-};
-
-static struct lent lend(const struct fence *f, size_t len)
-{
-    struct lent l = {f, pick(4) != 0, len, NULL, block(len)};
-
-    l.library = fenced(f, len, l.at_end);
-    fill(l.library, len);
-    fill(l.plain, len);
-    return l;
-}
-
 /* Whether both answered the same and left the same, and nothing but the first `stored` bytes was changed. */
 static bool agree(const char *what, const struct lent *l, uint64_t library, uint64_t plain, size_t stored)
 {
     if (library != plain)
         return differ(what, library, plain);
-    if (memcmp(l->library, l->plain, l->len) != 0)
+    if (!lent_alike(l))
         return differ("different bytes are left", library, plain);
-    if (!guarded(l->fence, l->len, l->at_end) || !as_filled(l->library, stored, l->len))
+    if (!lent_kept(l, stored))
         return differ("bytes are changed that must stay", library, plain);
     return true;
-}
-
-/* What both are given to read: for the library at a fence, for the plain functions in a block. */
-struct given {
-    const struct fence *fence;
-    bool at_end;
-    const uint8_t *original;
-    size_t len;
-    uint8_t *library, *plain;
-};
-
-static struct given give(const struct fence *f, const uint8_t *original, size_t len)
-{
-    struct given g = {f, pick(4) != 0, original, len, NULL, copy_of(original, len)};
-
-    g.library = fenced(f, len, g.at_end);
-    memcpy(g.library, original, len);
-    return g;
-}
-
-/* Takes it back: whether the library left it as it was. */
-static bool take_back(struct given *g)
-{
-    free(g->plain);
-    return memcmp(g->library, g->original, g->len) == 0 && guarded(g->fence, g->len, g->at_end);
 }
 
 /* ---- the reader */
@@ -205,20 +113,6 @@ static size_t rows_needed(const uint8_t *data, size_t size)
 
     free(copy);
     return HESSIAN_NUMBER(answer) == HESSIAN_ROOM ? HESSIAN_COUNT(answer) : 0;
-}
-
-static size_t some_room(size_t needed)
-{
-    switch (pick(4)) {
-    case 0:
-        return needed > 0 ? needed - 1 : 0;
-    case 1:
-        return (size_t)pick(needed + 1);
-    case 2:
-        return needed + (size_t)pick(40);
-    default:
-        return 0;
-    }
 }
 
 /* ---- the writer */
@@ -546,10 +440,13 @@ static bool compare_packed(const struct packed *p)
 bool compare(const uint8_t *data, size_t size)
 {
     struct packed p;
+    struct held h;
 
     if (size > MOST_MESSAGE)
         return true;
     start(data, size);
+    if (unpack_held(data, size, &h))
+        return compare_held(&h);
     if (unpack(data, size, &p) && p.rows <= LONGEST)
         return compare_packed(&p);
     return compare_message(data, size);

@@ -10,7 +10,7 @@
  * An input is a message: both read it and say its length, by each rule of 5f, and what is accepted both rewrite, with
  * all its rows as they are, and by the main rule with a wrong fifth number in one of them, which is refused, and with
  * some altered. Or it begins with the byte 40, which begins no message, and is a source and rows for the writers
- * (packed.h). False at the first difference, which is then on standard error.
+ * (packed.h); or with 45, and is a holdings file and records for it (holdings.h). False at the first difference, which is then on standard error.
  */
 bool compare(const uint8_t *data, size_t size);
 

@@ -1,5 +1,5 @@
 /*
- * Random messages, valid and damaged, through compare.
+ * Random messages and holdings files, valid and damaged, through compare.
  *
  *     fuzz_random SECONDS [SEED]     runs so long; an input that differs goes to the file `difference`
  *     fuzz_random FILE               one input once more
@@ -13,6 +13,7 @@
 #include "../generate.h"
 #include "../support.h"
 #include "compare.h"
+#include "holdings.h"
 
 const char *const check_name = "fuzz_random";
 
@@ -37,6 +38,45 @@ static void make_message(struct maker *m)
             damage(m);
 }
 
+/* ---- holdings files */
+
+enum { MOST_ENTRIES = 12, MOST_PART = 60000 };
+
+/* Entries of messages, some of which come again; and now and then damage. */
+static size_t make_entries(struct maker *m, uint8_t *entries)
+{
+    unsigned count = chance(MOST_ENTRIES);
+    size_t len = 0;
+
+    for (; count > 0; count--) {
+        if (chance(4) != 0)
+            make_message(m);
+        len = put_entry(entries, len, MOST_PART, m->out, m->len);
+    }
+    if (len > 0 && chance(3) == 0)
+        entries[chance((unsigned)len)] = (uint8_t)random_bits();
+    if (chance(8) == 0)
+        len = chance((unsigned)len + 1);
+    return len;
+}
+
+/* A file and records, mostly with some that are in the file. */
+static void make_held(struct maker *m)
+{
+    static uint8_t entries[MOST_PART], records[MOST_PART];
+    struct held h = {chance(2) == 0 ? HELD_TIDY : chance(HELD_FLAGS), entries, 0, records, 0};
+
+    make_message(m);
+    h.entries_len = make_entries(m, entries);
+    if (chance(3) == 0) {
+        h.records_len = h.entries_len;
+        memcpy(records, entries, h.entries_len);
+    } else {
+        h.records_len = make_entries(m, records);
+    }
+    m->len = pack_held(&h, m->out, MOST_MESSAGE);
+}
+
 static int run(double seconds)
 {
     time_t end = time(NULL) + (time_t)seconds;
@@ -45,7 +85,7 @@ static int run(double seconds)
 
     m.out = allocate(MOST_MESSAGE);
     do {
-        make_message(&m);
+        (chance(4) == 0 ? make_held : make_message)(&m);
         if (!compare(m.out, m.len))
             return keep_difference(m.out, m.len);
         executions++;

@@ -1,5 +1,6 @@
 /*
- * Seeds for libFuzzer from records: each as it is, and as a source and rows for the writer.
+ * Seeds for libFuzzer from records: each as it is, as a source and rows for the writer, and as an entry of a holdings
+ * file to which it is added.
  *
  *     fuzz_seeds FOLDER RECORD...
  */
@@ -8,6 +9,7 @@
 #include <string.h>
 
 #include "../hessian/record.h"
+#include "holdings.h"
 #include "packed.h"
 
 enum { MOST = 60000 };
@@ -29,9 +31,20 @@ static bool write_seed(const char *folder, const char *name, const char *ending,
     return true;
 }
 
+/* What a record comes to beside itself. */
+static bool write_more(const char *folder, const char *name, const struct record *r)
+{
+    static uint8_t packed[MOST], entries[MOST], records[MOST];
+    struct held h = {HELD_TIDY, entries, put_entry(entries, 0, MOST, r->shortest, r->shortest_len), records, 0};
+
+    h.records_len = put_entry(records, 0, MOST, r->message, r->len);
+    h.records_len = put_entry(records, h.records_len, MOST, (const uint8_t *)"\x90", 1);
+    return write_seed(folder, name, ".rows", packed, pack(r->message, r->len, r->table, r->rows, packed, MOST)) &&
+           write_seed(folder, name, ".entries", packed, pack_held(&h, packed, MOST));
+}
+
 int main(int argc, char **argv)
 {
-    static uint8_t packed[MOST];
     struct record r;
     int i;
 
@@ -49,8 +62,7 @@ int main(int argc, char **argv)
         rewrite(&r);
         if (!write_seed(argv[1], argv[i], "", r.message, r.len))
             return 2;
-        if (r.number == 0 && !write_seed(argv[1], argv[i], ".rows", packed,
-                                         pack(r.message, r.len, r.table, r.rows, packed, sizeof packed)))
+        if (r.number == 0 && !write_more(argv[1], argv[i], &r))
             return 2;
     }
     free_record(&r);

@@ -40,18 +40,23 @@ int wrong_option(const struct command *self, int answer, char **argv)
     return wrong_usage(self, why);
 }
 
-bool parse_limit(const char *text, uint64_t *n)
+bool parse_number(const char *text, uint64_t *n)
 {
-    unsigned long long value;
     char *end;
 
     if (text[0] < '0' || text[0] > '9')
         return false;
     errno = 0;
-    value = strtoull(text, &end, 10);
-    if (*end != '\0' || errno != 0)
+    *n = strtoull(text, &end, 10);
+    return *end == '\0' && errno == 0;
+}
+
+bool parse_limit(const char *text, uint64_t *n)
+{
+    if (!parse_number(text, n))
         return false;
-    *n = value == 0 ? UINT64_MAX : value;
+    if (*n == 0)
+        *n = UINT64_MAX;
     return true;
 }
 

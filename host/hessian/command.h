@@ -18,7 +18,8 @@ struct command {
     int (*run)(const struct command *self, int argc, char **argv); /* argv[0] is the name; the status */
 };
 
-extern const struct command copies_command, ledger_command, show_command, shorten_command, rows_command;
+extern const struct command copies_command, ledger_command, show_command, shorten_command, rows_command,
+    holdings_command;
 
 /* ---- options */
 
@@ -35,7 +36,10 @@ int next_option(int argc, char **argv, const char *brief, const struct option *o
 /* Says on standard error what is wrong with the option for which next_option answered ? or :; the status. */
 int wrong_option(const struct command *self, int answer, char **argv);
 
-/* Whether `text` is a decimal number; 0 stands for no limit, which is UINT64_MAX. */
+/* Whether `text` is a decimal number. */
+bool parse_number(const char *text, uint64_t *n);
+
+/* The same where 0 stands for no limit, which is UINT64_MAX. */
 bool parse_limit(const char *text, uint64_t *n);
 
 /* ---- the end of a run */

@@ -21,14 +21,25 @@ _hessian_argument() { # COMMAND OPTION WORD
         _hessian_words "$3" "$before"{kept,copy,refused}
         ;;
     copies--include | copies--exclude | ledger--include | ledger--exclude | show--limit | show--elements) ;;
+    holdings--include | holdings--exclude) ;;
     show--color) _hessian_words "$3" auto always never ;;
-    shorten-o | shorten--output) _hessian_files "$3" ;;
+    shorten-o | shorten--output | holdings-o | holdings--output) _hessian_files "$3" ;;
     *) return 1 ;;
     esac
 }
 
+# The options of a verb of holdings, or of all where it is not there yet.
+_hessian_holdings_options() { # WORD VERB
+    case $2 in
+    list | check) _hessian_words "$1" --json -h --help ;;
+    extract) _hessian_words "$1" -o --output= -h --help ;;
+    add) _hessian_words "$1" -q --summary --json --include= --exclude= -0 -h --help ;;
+    *) _hessian_words "$1" -o --output= -q --summary --json --include= --exclude= -0 -h --help ;;
+    esac
+}
+
 _hessian() {
-    local commands='copies ledger show shorten rows'
+    local commands='copies ledger show shorten rows holdings'
     local command=${COMP_WORDS[1]} word=${COMP_WORDS[COMP_CWORD]} before=${COMP_WORDS[COMP_CWORD - 1]} i
     COMPREPLY=()
     if [ "$COMP_CWORD" -eq 1 ]; then
@@ -56,6 +67,14 @@ _hessian() {
     show-*) _hessian_words "$word" --limit= --elements= --no-places --color --json --thousandths -h --help ;;
     shorten-*) _hessian_words "$word" -o --output= --thousandths -h --help ;;
     rows-*) _hessian_words "$word" --thousandths -h --help ;;
+    holdings-*) _hessian_holdings_options "$word" "${COMP_WORDS[2]}" ;;
+    holdings*)
+        if [ "$COMP_CWORD" -eq 2 ]; then
+            _hessian_words "$word" list check extract add
+        else
+            _hessian_files "$word"
+        fi
+        ;;
     help*) [ "$COMP_CWORD" -gt 2 ] || _hessian_words "$word" "$commands" ;;
     *) _hessian_files "$word" ;;
     esac

@@ -8,8 +8,8 @@
 
 /* ---- records */
 
-/* Standard input in words, which are not quoted. */
-static void put_shown_name(FILE *out, const char *name)
+/* The words are not quoted. */
+void put_shown_name(FILE *out, const char *name)
 {
     if (strcmp(name, "-") == 0)
         fputs("standard input", out);

@@ -35,7 +35,8 @@ int each_record(const struct command *self, struct named named, use_record *use,
 /* Whether there was more on standard input than was read, since it is too long for a record. */
 bool has_more(const struct input *in);
 
-/* The name as a person knows it. */
+/* The name as a person knows it: standard input in words. */
+void put_shown_name(FILE *out, const char *name);
 void put_input_name(FILE *out, const struct input *in);
 
 /* "hessian COMMAND: cannot DO NAME: WHY" on standard error; the status. */

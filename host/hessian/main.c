@@ -6,7 +6,7 @@
 #include "hessian.h"
 
 static const struct command *const commands[] = {&copies_command, &ledger_command, &show_command, &shorten_command,
-                                                 &rows_command};
+                                                 &rows_command, &holdings_command};
 
 enum { COMMANDS = sizeof commands / sizeof commands[0] };
 
@@ -25,7 +25,8 @@ static void print_commands(FILE *out)
     unsigned i;
 
     fputs("usage: hessian COMMAND [OPTION]... [NAME]...\n\n"
-          "Reads Hessian 2.0 records and rewrites them in their shortest form.\n\n", out);
+          "Reads Hessian 2.0 records, rewrites them in their shortest form, and keeps them in holdings files.\n\n",
+          out);
     for (i = 0; i < COMMANDS; i++)
         fprintf(out, "    %-10s%s\n", commands[i]->name, commands[i]->summary);
     fputs("\nhessian COMMAND --help says more; hessian --version prints the version.\n"

@@ -9,7 +9,9 @@ static const char *const kinds[] = {
 
 static const char *const refusals[] = {
     "HESSIAN_ACCEPTED", "HESSIAN_LENGTH", "HESSIAN_CUT", "HESSIAN_BYTE", "HESSIAN_UTF8", "HESSIAN_NEGATIVE",
-    "HESSIAN_UNGIVEN", "HESSIAN_CEILING", "HESSIAN_AFTER", "HESSIAN_ROOM", "HESSIAN_NO_RECORD"
+    "HESSIAN_UNGIVEN", "HESSIAN_CEILING", "HESSIAN_AFTER", "HESSIAN_ROOM", "HESSIAN_NO_RECORD",
+    [HESSIAN_WRONG_MARK] = "HESSIAN_WRONG_MARK", "HESSIAN_UNKNOWN_VERSION", "HESSIAN_CUT_ENTRY",
+    "HESSIAN_REFUSED_ENTRY", "HESSIAN_NOT_SHORTEST", "HESSIAN_REPEATED_ENTRY"
 };
 
 const char *kind_name(uint64_t kind)
@@ -19,7 +21,7 @@ const char *kind_name(uint64_t kind)
 
 const char *refusal_name(unsigned number)
 {
-    return number < sizeof refusals / sizeof refusals[0] ? refusals[number] : "no refusal";
+    return number < sizeof refusals / sizeof refusals[0] && refusals[number] != NULL ? refusals[number] : "no refusal";
 }
 
 const char *reason(const struct record *r)

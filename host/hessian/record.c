@@ -106,15 +106,20 @@ bool stamp_now(const char *name, struct stamp *stamp)
     return true;
 }
 
+const char *look_at(int descriptor, struct stat *about)
+{
+    if (fstat(descriptor, about) != 0)
+        return why_not(errno);
+    return S_ISDIR(about->st_mode) ? why_not(EISDIR) : NULL;
+}
+
 const char *load_descriptor(struct record *r, int descriptor)
 {
     struct stat about;
-    const char *why;
+    const char *why = look_at(descriptor, &about);
 
-    if (fstat(descriptor, &about) != 0)
-        return why_not(errno);
-    if (S_ISDIR(about.st_mode))
-        return why_not(EISDIR);
+    if (why != NULL)
+        return why;
     why = read_bytes(r, descriptor, &about);
     r->size = r->len;
     r->stamp.inode = 0;
@@ -127,13 +132,28 @@ const char *load_descriptor(struct record *r, int descriptor)
 }
 
 /* A pipe or a device must not keep us waiting, and no program that is started has a use for the descriptor. */
-static const char *load_open(struct record *r, int folder, const char *name, int flags)
+static const char *open_at(int folder, const char *name, int flags, int *descriptor)
 {
-    int descriptor = openat(folder, name, O_RDONLY | O_NONBLOCK | O_NOCTTY | O_CLOEXEC | flags);
-    const char *why;
+    *descriptor = openat(folder, name, O_RDONLY | O_NONBLOCK | O_NOCTTY | O_CLOEXEC | flags);
+    return *descriptor < 0 ? why_not(errno) : NULL;
+}
 
-    if (descriptor < 0)
-        return why_not(errno);
+const char *open_regular(const char *name, int *descriptor)
+{
+    struct stat about;
+
+    *descriptor = -1;
+    /* to open a device may already do something */
+    if (stat(name, &about) == 0 && !S_ISREG(about.st_mode))
+        return S_ISDIR(about.st_mode) ? why_not(EISDIR) : not_regular;
+    return open_at(AT_FDCWD, name, 0, descriptor);
+}
+
+/* Reads an open file, if it could be opened, and closes it. */
+static const char *load_and_close(struct record *r, const char *why, int descriptor)
+{
+    if (why != NULL)
+        return why;
     why = load_descriptor(r, descriptor);
     close(descriptor);
     return why;
@@ -141,19 +161,19 @@ static const char *load_open(struct record *r, int folder, const char *name, int
 
 const char *load_at(struct record *r, int folder, const char *name)
 {
-    const char *why = load_open(r, folder, name, O_NOFOLLOW);
+    int descriptor;
+    const char *why = open_at(folder, name, O_NOFOLLOW, &descriptor);
 
+    why = load_and_close(r, why, descriptor);
     return why == NULL && r->stamp.inode == 0 ? not_regular : why;
 }
 
 const char *load_file(struct record *r, const char *name)
 {
-    struct stat about;
+    int descriptor;
+    const char *why = open_regular(name, &descriptor);
 
-    /* to open a device may already do something */
-    if (stat(name, &about) == 0 && !S_ISREG(about.st_mode))
-        return S_ISDIR(about.st_mode) ? why_not(EISDIR) : not_regular;
-    return load_open(r, AT_FDCWD, name, 0);
+    return load_and_close(r, why, descriptor);
 }
 
 /* ---- the library */
@@ -171,6 +191,15 @@ static bool accepted(struct record *r, uint64_t answer)
     r->number = HESSIAN_NUMBER(answer);
     r->place = HESSIAN_PLACE(answer);
     return r->number == HESSIAN_ACCEPTED;
+}
+
+void judge(struct record *r)
+{
+    uint64_t answer = hessian_read(r->message, r->len, NULL, 0);
+
+    /* a record has rows, and none are lent */
+    accepted(r, HESSIAN_NUMBER(answer) == HESSIAN_ROOM ? HESSIAN_ACCEPTED : answer);
+    r->by_writer = false;
 }
 
 void rewrite(struct record *r)

@@ -41,6 +41,13 @@ uint8_t *new_table(void);
 
 void free_record(struct record *r);
 
+/* Opens a regular file for reading, to which a link may lead. NULL, or why it cannot be read. */
+const char *open_regular(const char *name, int *descriptor);
+
+/* What an open file is. NULL, or why it cannot be read: it may be a folder. */
+struct stat;
+const char *look_at(int descriptor, struct stat *about);
+
 /* Reads a file. NULL, or why it cannot be read. */
 const char *load_file(struct record *r, const char *name);
 
@@ -49,6 +56,9 @@ const char *load_at(struct record *r, int folder, const char *name);
 
 /* The same from an open file; nothing is known of its device and inode where it is no regular file. */
 const char *load_descriptor(struct record *r, int descriptor);
+
+/* Reads the message without a table: number and place say whether it is accepted. */
+void judge(struct record *r);
 
 /*
  * Reads the message into rows and rewrites it; number, place, rows and the shortest form say what came of it. The

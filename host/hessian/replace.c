@@ -15,15 +15,6 @@
 
 #include "record.h"
 
-/* What is written, and where: `temporary` is a name in the same folder as `path`. */
-struct replacement {
-    const char *path;
-    char *temporary;
-    const struct stat *old; /* NULL: there is no file yet */
-    const uint8_t *bytes;
-    size_t len;
-};
-
 /* ---- signals that wait */
 
 static const int ends[] = {SIGHUP, SIGINT, SIGQUIT, SIGTERM};
@@ -106,17 +97,15 @@ static const char *fill(int descriptor, const struct replacement *new)
     return why;
 }
 
-/* Fills the temporary file and gives it the name, or removes it. */
-static const char *put_in_place(const struct replacement *new)
-{
-    int descriptor = mkstemp(new->temporary);
-    const char *why;
+const char told_to_end[] = "the program was told to end";
 
-    if (descriptor < 0)
-        return why_not(errno);
-    why = fill(descriptor, new);
+/* Fills the new file and gives it the name, or removes it. */
+static const char *put_in_place(const struct replacement *new, int descriptor)
+{
+    const char *why = fill(descriptor, new);
+
     if (why == NULL && interrupted())
-        why = "the program was told to end";
+        why = told_to_end;
     if (why == NULL && rename(new->temporary, new->path) != 0)
         why = why_not(errno);
     if (why != NULL)
@@ -141,8 +130,7 @@ static const char *sync_folder(const char *path)
 
 /* ---- names */
 
-/* A folder's name up to its last slash, and what follows in that folder. */
-static char *name_in_folder_of(const char *path, const char *what)
+char *name_beside(const char *path, const char *what)
 {
     const char *slash = strrchr(path, '/');
     size_t folder = slash == NULL ? 0 : (size_t)(slash - path) + 1;
@@ -155,22 +143,45 @@ static char *name_in_folder_of(const char *path, const char *what)
     return name;
 }
 
+/* The name is given, and on the disk. */
+static const char *put_on_disk(const struct replacement *new, int descriptor)
+{
+    char *folder = name_beside(new->path, ".");
+    const char *why = put_in_place(new, descriptor);
+
+    /* where there is no memory for its name, the folder is left to the system */
+    if (why == NULL && folder != NULL)
+        why = sync_folder(folder);
+    free(folder);
+    return why;
+}
+
+const char *replace_by(const struct replacement *new, int descriptor)
+{
+    sigset_t before;
+    const char *why;
+
+    hold_signals(&before);
+    why = put_on_disk(new, descriptor);
+    sigprocmask(SIG_SETMASK, &before, NULL);
+    return why;
+}
+
 static const char *replace_regular(const char *path, const struct stat *old, const uint8_t *bytes, size_t len)
 {
-    struct replacement new = {path, name_in_folder_of(path, ".hessian-XXXXXX"), old, bytes, len};
-    char *folder = name_in_folder_of(path, ".");
+    char *temporary = name_beside(path, ".hessian-XXXXXX");
+    struct replacement new = {path, temporary, old, bytes, len};
     const char *why = why_not(ENOMEM);
     sigset_t before;
+    int descriptor;
 
-    if (new.temporary != NULL && folder != NULL) {
+    if (temporary != NULL) {
         hold_signals(&before);
-        why = put_in_place(&new);
-        if (why == NULL)
-            why = sync_folder(folder);
+        descriptor = mkstemp(temporary);
+        why = descriptor < 0 ? why_not(errno) : put_on_disk(&new, descriptor);
         sigprocmask(SIG_SETMASK, &before, NULL);
     }
-    free(new.temporary);
-    free(folder);
+    free(temporary);
     return why;
 }
 

@@ -31,3 +31,25 @@ no-room = 9
 
 abbrev pub no-record : ℕ  -- for the writer: the rows are no record, or their fifth numbers are wrong
 no-record = 10
+
+-- of the holdings file (2026-01); but for the first two the place is the faulty entry's first byte
+abbrev pub wrong-mark : ℕ  -- the file does not begin with the mark
+wrong-mark = 20
+
+abbrev pub unknown-version : ℕ  -- its version is cut, or none that is known
+unknown-version = 21
+
+abbrev pub cut-entry : ℕ  -- an entry is cut; the used length is beyond the buffer, and then the place is 0
+cut-entry = 22
+
+abbrev pub refused-entry : ℕ  -- an entry's message is refused by the reader
+refused-entry = 23
+
+abbrev pub not-shortest : ℕ  -- an entry's message is not its record's shortest
+not-shortest = 24
+
+abbrev pub repeated-entry : ℕ  -- an entry's message is that of an earlier entry
+repeated-entry = 25
+
+abbrev pub beyond-version : ℕ  -- the record's shortest message passes the ceilings of the file's version
+beyond-version = 34

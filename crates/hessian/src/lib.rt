@@ -1,6 +1,8 @@
 // The C interface: include/hessian.h declares these functions. A table crosses as bytes, eight big-endian bytes a
 // number, and the answer of the reader and of the writer as one number, a length as it is, other answers as a struct.
 // What a call gives stands in specs/Packed.antt, what follows from it in specs/Demands.antt.
+pub(crate) mod files;
+
 use reader::FillAnswer;
 use record::kinds::BYTES;
 use record::kinds::CLASS_NAME;

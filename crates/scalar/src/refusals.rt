@@ -30,3 +30,21 @@ pub const ROOM: u8 = 9;
 
 // For the writer: the rows are no record, or their fifth numbers are wrong.
 pub const NO_RECORD: u8 = 10;
+
+// Of the holdings file (2026-01). The file does not begin with the mark.
+pub const MARK: u8 = 20;
+
+// Its version is cut, or none that is known.
+pub const VERSION: u8 = 21;
+
+// An entry is cut, or the used length is beyond the buffer.
+pub const CUT_ENTRY: u8 = 22;
+
+// An entry's message is refused by the reader.
+pub const REFUSED_ENTRY: u8 = 23;
+
+// An entry's message is not its record's shortest.
+pub const NOT_SHORTEST: u8 = 24;
+
+// An entry's message is that of an earlier entry.
+pub const REPEATED_ENTRY: u8 = 25;

@@ -951,8 +951,8 @@ fn heads_length(kind: Encoding, message: &[u8], at: usize) -> usize
     }
 }
 
-// The bytes of the shortest form of the text or byte string at `at`, where it has so many units and content's bytes. Only
-// one that is too long for a chunk is gone through once more.
+// The bytes of the shortest form of the text or byte string at `at`, where it has so many units and content's bytes.
+// Only one that is too long for a chunk is gone through once more.
 pub fn passed_length(kind: Encoding, message: &[u8], at: usize, units: usize, bytes: usize) -> usize
     ensures { λ r. ⌜ PassedLength kind (now (message .entry)) at units bytes r ⌝ }
 {

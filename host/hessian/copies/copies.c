@@ -9,6 +9,7 @@
 #include "list.h"
 #include "options.h"
 #include "passed_over.h"
+#include "progress.h"
 #include "sums.h"
 #include "verdicts.h"
 

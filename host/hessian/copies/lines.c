@@ -4,8 +4,8 @@
 #include <stdio.h>
 
 #include "names.h"
+#include "progress.h"
 #include "quote.h"
-#include "sums.h"
 #include "whole_lines.h"
 
 static struct layout layout;

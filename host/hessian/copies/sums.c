@@ -2,11 +2,9 @@
 
 #include <inttypes.h>
 #include <stdio.h>
-#include <unistd.h>
 
+#include "progress.h"
 #include "sizes.h"
-
-enum { QUIET = 1000, EVERY = 500 };
 
 /* ---- sums for a person */
 
@@ -52,21 +50,9 @@ void print_totals(const struct totals *t, bool json)
 
 /* ---- progress */
 
-static bool shown; /* a line of progress stands on the terminal */
-
 void show_progress(const struct totals *t)
 {
-    if (t->records <= QUIET || t->records % EVERY != 0 || !isatty(STDERR_FILENO))
-        return;
-    fflush(stdout);
-    fprintf(stderr, "\r%" PRIu64 " records, %" PRIu64 " copies, %" PRIu64 " refused", t->records, t->copies,
-            t->refused);
-    shown = true;
-}
-
-void end_progress(void)
-{
-    if (shown)
-        fputs("\r\033[K", stderr);
-    shown = false;
+    if (progress_due(t->records))
+        fprintf(stderr, "%" PRIu64 " records, %" PRIu64 " copies, %" PRIu64 " refused", t->records, t->copies,
+                t->refused);
 }

@@ -25,7 +25,4 @@ void print_totals(const struct totals *t, bool json);
 /* On standard error, where that is a terminal, from the thousandth file on. */
 void show_progress(const struct totals *t);
 
-/* Takes it off the terminal. */
-void end_progress(void);
-
 #endif

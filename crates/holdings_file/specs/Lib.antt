@@ -1,0 +1,4 @@
+pub mod Answers
+pub mod Contracts
+pub mod Index
+pub mod Extents
