@@ -151,6 +151,8 @@ def main():
     global OWN
     OWN = {p.split("/")[1] for p in glob.glob("crates/*/src")}
     new = table()
+    # a function of src/ may have the name of a lemma in snake case, and keeps it
+    in_source = {k: v for k, v in new.items() if not plain(k)}
     changed = 0
 
     def put(path, text, old):
@@ -169,11 +171,12 @@ def main():
             put(path, in_code(old, new), old)
     for path in glob.glob("crates/*/src/**/*.rt", recursive=True):
         old = read(path)
-        put(path, in_code(old, new, RUST_TOKEN), old)
+        put(path, in_code(old, in_source, RUST_TOKEN), old)
     for path in glob.glob("crates/*/must-fail/*.edit"):
         old = read(path)
+        of_source = ".rt" in old.split("file: ")[1].split("\n")[0]
         put(path, "".join(
-            in_code(l, new, RUST_TOKEN if ".rt" in old.split("file: ")[1].split("\n")[0] else TOKEN)
+            (in_code(l, in_source, RUST_TOKEN) if of_source else in_code(l, new))
             if l.startswith(("old:", "new:")) else in_prose(l, new)
             for l in old.splitlines(keepends=True)), old)
     for path in ["README.md", "CONTRIBUTING.md", *glob.glob("docs/*.md")]:

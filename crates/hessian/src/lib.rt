@@ -1,6 +1,8 @@
 // The C interface: include/hessian.h declares these functions. A table crosses as bytes, eight big-endian bytes a
 // number, and the answer of the reader and of the writer as one number, a length as it is, other answers as a struct.
 // What a call gives stands in specs/Packed.antt, what follows from it in specs/Demands.antt.
+#![tactic(auto)]
+
 pub(crate) mod files;
 
 ghost use Rattle.std.specs.Prelude.{◌≡◌, ◌≤◌, length};
@@ -19,7 +21,7 @@ use writer::WriteAnswer;
 
 // Number, count and place of an answer.
 #[repr(C)]
-#[derive(Drop)]
+#[derive(Clone, Copy)]
 pub struct HessianAnswer {
     pub number: u64,
     pub count: u64,

@@ -1,1 +1,2 @@
 // Theory only: what a holdings file is, what it lists as and what adding to it gives stand in specs/.
+#![tactic(auto)]

@@ -19,7 +19,7 @@ use Rattle.holdings_file.specs.declared.HoldingsAnswer.TheVariants.{Accepted, Re
 use Rattle.holdings_file.specs.declared.BatchAnswer.{BatchAnswer}
 use Rattle.holdings_file.specs.declared.BatchAnswer.TheVariants as batch
 use Rattle.holdings_file.specs.Answers.{report_of_batch}
-use Rattle.holdings_file.specs.Contracts.{end_of}
+use Rattle.holdings_file.specs.Promises.{end_of}
 use Rattle.holdings_file.specs.Extents.{IsExtent, one, count_after, AnswersAddition, AddMet, Extending, batch_of}
 use Rattle.holdings_file.specs.Extents.{AddAllMet}
 use Rattle.holdings_file.proofs.EntryWalks.{ends, cut_there, message_at, entries_next}

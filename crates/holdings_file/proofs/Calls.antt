@@ -28,7 +28,7 @@ use Rattle.holdings_file.specs.declared.additions.Extent.{Extent}
 use Rattle.holdings_file.specs.declared.BatchAnswer.{BatchAnswer}
 use Rattle.holdings_file.specs.declared.BatchAnswer.TheVariants as batch
 use Rattle.holdings_file.specs.Answers.{report, report_of_batch}
-use Rattle.holdings_file.specs.Contracts.{held_in, newest_rules, is_lent, Filled, check_of, listing_opened, BothListed}
+use Rattle.holdings_file.specs.Promises.{held_in, newest_rules, is_lent, Filled, check_of, listing_opened, BothListed}
 use Rattle.holdings_file.specs.Index.{CheckMet}
 use Rattle.holdings_file.specs.Extents.{AnswersAddition, AddMet, AddToMet, Extending, batch_of, AddAllMet}
 use Rattle.holdings_file.proofs.EntryWalks.{held_wholes}

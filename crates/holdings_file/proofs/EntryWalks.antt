@@ -20,7 +20,7 @@ use Rattle.holdings.specs.Files.{header_size, length_size, message_size, entry_s
 use Rattle.holdings.specs.Answers.{ListLayout, placement, placements, as_pairs, as_pair_bytes}
 use Rattle.holdings.specs.Terms.{Messages}
 use Rattle.holdings.specs.EntryLaws.{Entries, wholes, same_is, same_self, entries_whole, entries_short, entries_none}
-use Rattle.holdings_file.specs.Contracts.{AsFar, messages_of, held_from, held_in, end_of, filled_by, Filled}
+use Rattle.holdings_file.specs.Promises.{AsFar, messages_of, held_from, held_in, end_of, filled_by, Filled}
 
 -- ---- the same bytes
 module _ (a b : List ℕ) where

@@ -21,7 +21,7 @@ use Rattle.holdings.specs.Files.{entry_size, entries_in, Faulty, number_of, faul
 use Rattle.holdings.specs.Terms.{Messages}
 use Rattle.holdings.specs.EntryLaws.{Entries, wholes, wholes_append, entries_none, entries_whole, entries_short}
 use Rattle.holdings.specs.EntryLaws.{entries_append, faultless, lists_one, lists_fault}
-use Rattle.holdings_file.specs.Contracts.{held_in, end_of, newest_rules, version_of, check_of, listing_opened}
+use Rattle.holdings_file.specs.Promises.{held_in, end_of, newest_rules, version_of, check_of, listing_opened}
 use Rattle.holdings_file.specs.Index.{Indexing, index_in, WorkIndexed, WorkFresh, FaultAloneMet, Ready, Underway}
 use Rattle.holdings_file.specs.Index.{FaultMet, CheckMet}
 use Rattle.holdings_file.specs.declared.files.Checked.{Checked}

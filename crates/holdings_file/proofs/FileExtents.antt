@@ -27,7 +27,7 @@ use Rattle.holdings_file.specs.declared.messages.Short.TheVariants as short
 use Rattle.holdings_file.specs.declared.additions.Extent.{Extent}
 use Rattle.holdings_file.specs.declared.HoldingsAnswer.{HoldingsAnswer}
 use Rattle.holdings_file.specs.declared.HoldingsAnswer.TheVariants.{Accepted, Refused, TooFew}
-use Rattle.holdings_file.specs.Contracts.{held_in, newest_rules, ShortIn, EntryStored, Appended}
+use Rattle.holdings_file.specs.Promises.{held_in, newest_rules, ShortIn, EntryStored, Appended}
 use Rattle.holdings_file.specs.Index.{Indexing, Whole, index_in, WorkIndexed, WorkFresh, ShortenMet}
 use Rattle.holdings_file.specs.Extents.{held_used, IsExtent, ShortMessage, count_after, AddMet, placed, Extending}
 use Rattle.holdings_file.specs.Extents.{one}

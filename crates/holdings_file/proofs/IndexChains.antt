@@ -20,7 +20,7 @@ use Rattle.holdings.specs.Terms.{Messages, StandsAt}
 use Rattle.holdings.specs.EntryLaws.{wholes, same_is, same_self, number_within, number_found, number_first}
 use Rattle.holdings.specs.EntryLaws.{distinct_none, distinct_more, entries_first, entries_empty}
 use Rattle.holdings.specs.FileLaws.{stands, entries_next, placements_more}
-use Rattle.holdings_file.specs.Contracts.{held_in}
+use Rattle.holdings_file.specs.Promises.{held_in}
 use Rattle.holdings_file.specs.Index.{hashed, hash_block, hash_factor, hash_modulus, bucket_of, InBucket}
 use Rattle.holdings_file.specs.Index.{entry_numbers, latest, Indexed, Indexing, Cleared, Whole, WholeIndexed}
 use Rattle.holdings_file.specs.Index.{Fresh}

@@ -8,7 +8,7 @@ use borrow.Rule.Slice.PartMut.{put_mid, post_of}
 use lib.Seq.{length-take-le, take_all, take_at, drop_at}
 use Rattle.holdings.specs.Files.{versions}
 use Rattle.holdings.specs.Terms.{Messages, Enough}
-use Rattle.holdings_file.specs.Contracts.{work_numbers}
+use Rattle.holdings_file.specs.Promises.{work_numbers}
 use Rattle.holdings_file.specs.Index.{Indexing, WholeIndexed, Fresh, index_in, WorkIndexed, WorkFresh}
 
 -- working memory stays enough; it has the rows; they are enough

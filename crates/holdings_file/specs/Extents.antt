@@ -13,7 +13,7 @@ use Rattle.holdings_file.specs.declared.BatchAnswer.{BatchAnswer}
 use Rattle.holdings_file.specs.declared.HoldingsAnswer.{HoldingsAnswer}
 use Rattle.holdings_file.specs.declared.HoldingsAnswer.TheVariants.{Accepted, Refused, TooFew}
 use Rattle.holdings_file.specs.Answers.{report_of_batch}
-use Rattle.holdings_file.specs.Contracts.{held_in, newest_rules, work_numbers}
+use Rattle.holdings_file.specs.Promises.{held_in, newest_rules, work_numbers}
 use Rattle.holdings_file.specs.Index.{Indexing, index_in}
 
 -- the messages of the used bytes

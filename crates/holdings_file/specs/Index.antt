@@ -11,7 +11,7 @@ use Rattle.holdings.specs.EntryLaws.{wholes}
 use Rattle.holdings_file.specs.declared.messages.Short.{Short}
 use Rattle.holdings_file.specs.declared.files.Checked.{Checked}
 use Rattle.holdings_file.specs.declared.files.Checked.TheVariants as checked
-use Rattle.holdings_file.specs.Contracts.{held_in, newest_rules, work_numbers, Shortened, FaultAlone, check_of}
+use Rattle.holdings_file.specs.Promises.{held_in, newest_rules, work_numbers, Shortened, FaultAlone, check_of}
 
 -- ---- the bucket of a message
 -- so many bytes at once; a factor; a modulus

@@ -1,4 +1,4 @@
 pub mod Answers
-pub mod Contracts
+pub mod Promises
 pub mod Index
 pub mod Extents

@@ -1,7 +1,7 @@
 // Records added to a file that is checked: each is shortened, looked up, and appended where no entry has its message.
 ghost use Rattle.std.specs.Prelude.{◌≡◌, ◌+◌, ◌^◌, ◌≤◌, ◌<◌, length};
 ghost use Rattle.flow.specs.Flow.{stored, put};
-ghost use Rattle.holdings_file.specs.Contracts.{Placeable, EntryStored, Appended};
+ghost use Rattle.holdings_file.specs.Promises.{Placeable, EntryStored, Appended};
 ghost use Rattle.holdings.specs.Files.{versions};
 ghost use Rattle.holdings.specs.Answers.{addition};
 ghost use Rattle.holdings_file.specs.Extents.{IsExtent, ShortMessage, AddMet, placed, Extending, count_after, one};
@@ -13,7 +13,7 @@ use crate::{BatchAnswer, HoldingsAnswer, entries, index, messages};
 use scalar::refusals::{CUT_ENTRY, ROOM};
 
 // A file that records are added to: the bytes used, its entries, and the buckets of their index.
-#[derive(Drop)]
+#[derive(Clone, Copy)]
 pub(crate) struct Extent {
     pub used: usize,
     pub count: usize,

@@ -3,7 +3,7 @@ ghost use Rattle.std.specs.Prelude.{◌≡◌, ◌≤◌, length};
 ghost use Rattle.flow.specs.Flow.{same_list, put};
 ghost use Rattle.holdings.specs.Files.{number_of};
 ghost use Rattle.holdings.specs.Answers.{placement, as_pairs, as_pair_bytes};
-ghost use Rattle.holdings_file.specs.Contracts.{held_in, end_of, AsFar, Filled};
+ghost use Rattle.holdings_file.specs.Promises.{held_in, end_of, AsFar, Filled};
 
 use crate::layout::{HEADER_SIZE, LENGTH_SIZE};
 

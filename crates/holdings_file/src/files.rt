@@ -2,7 +2,7 @@
 ghost use Rattle.std.specs.Prelude.{◌≡◌, [], ◌≤◌, length, take, drop};
 ghost use Rattle.flow.specs.Flow.{same_list};
 ghost use Rattle.holdings.specs.Files.{mark, mark_size, header_size, entries_in, versions, lists_from, listing_of};
-ghost use Rattle.holdings_file.specs.Contracts.{newest_rules, version_of, listing_opened};
+ghost use Rattle.holdings_file.specs.Promises.{newest_rules, version_of, listing_opened};
 ghost use Rattle.holdings_file.specs.Index.{Ready, Underway, FaultMet, CheckMet};
 
 use crate::layout::{HEADER_SIZE, LENGTH_SIZE, MARK, MARK_SIZE, NEWEST_VERSION, VERSION_SIZE};
@@ -10,7 +10,7 @@ use crate::{entries, index, messages};
 use scalar::refusals;
 
 // Whether a file is whole, with how many entries; or a refusal's number and place.
-#[derive(Drop)]
+#[derive(Clone, Copy)]
 pub(crate) enum Checked {
     Whole { entries: usize },
     Faulty { number: u8, place: usize },

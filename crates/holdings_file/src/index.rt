@@ -4,7 +4,7 @@
 // not used. With no buckets there is no index.
 ghost use Rattle.std.specs.Prelude.{◌≡◌, [], ◌<◌, ◌≤◌, length};
 ghost use Rattle.holdings.specs.Files.{number_of};
-ghost use Rattle.holdings_file.specs.Contracts.{held_in, work_numbers};
+ghost use Rattle.holdings_file.specs.Promises.{held_in, work_numbers};
 ghost use Rattle.holdings_file.specs.Index.{InBucket, Indexed, Indexing, WholeIndexed, Fresh, Cleared};
 ghost use Rattle.holdings_file.specs.Index.{index_in, WorkIndexed, WorkFresh};
 

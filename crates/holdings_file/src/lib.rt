@@ -1,5 +1,7 @@
 // The holdings file: many records in one file (2026-01). Its layout and what it lists as stand in holdings'
 // specs/Files.antt, what listing and adding answer in its specs/Answers.antt.
+#![tactic(auto)]
+
 pub(crate) mod additions;
 pub(crate) mod entries;
 pub(crate) mod files;
@@ -14,7 +16,7 @@ ghost use Rattle.holdings.specs.Answers.{as_pairs, as_pair_bytes, with_working, 
 ghost use Rattle.holdings.specs.Answers.{listing_to_extend, batch_listed, AddAllCall};
 ghost use Rattle.holdings.specs.Terms.{Enough};
 ghost use Rattle.holdings_file.specs.Answers.{report, report_of_batch};
-ghost use Rattle.holdings_file.specs.Contracts.{BothListed};
+ghost use Rattle.holdings_file.specs.Promises.{BothListed};
 ghost use Rattle.holdings_file.specs.Extents.{AddToMet, AddAllMet};
 
 use crate::additions::Extent;
@@ -24,7 +26,7 @@ use scalar::refusals::{CUT_ENTRY, ROOM};
 
 // What listing or adding comes to: the entries listed, or the entry's number, and the used length afterwards; a
 // refusal's number and place; the entries or bytes needed, where fewer are lent, or 0 where working memory is.
-#[derive(Drop)]
+#[derive(Clone, Copy)]
 pub enum HoldingsAnswer {
     Accepted { count: usize, used: usize },
     Refused { number: u8, place: usize },
@@ -34,7 +36,7 @@ pub enum HoldingsAnswer {
 // What adding many records comes to: all of them taken, with the used length afterwards; the number of the refusal of
 // one, the records taken before it, and the used length then; a refusal of the file, or of working memory, with its
 // place.
-#[derive(Drop)]
+#[derive(Clone, Copy)]
 pub enum BatchAnswer {
     Taken {
         records: usize,

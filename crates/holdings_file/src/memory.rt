@@ -1,6 +1,6 @@
 // Working memory: rows and bytes for the longest message; numbers lent beyond those rows serve as an index.
 ghost use Rattle.std.specs.Prelude.{◌≡◌};
-ghost use Rattle.holdings_file.specs.Contracts.{work_numbers, is_lent};
+ghost use Rattle.holdings_file.specs.Promises.{work_numbers, is_lent};
 
 use record::ROW_NUMBERS;
 use record::limits::LONGEST;

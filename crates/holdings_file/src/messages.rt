@@ -1,7 +1,7 @@
 // One message: its record's shortest message, and what is wrong with it as an entry.
 ghost use Rattle.holdings.specs.Files.{versions};
 ghost use Rattle.holdings.specs.Terms.{Enough};
-ghost use Rattle.holdings_file.specs.Contracts.{RowsOf, Shortened};
+ghost use Rattle.holdings_file.specs.Promises.{RowsOf, Shortened};
 ghost use Rattle.holdings_file.specs.Index.{ShortenMet, FaultAloneMet};
 
 use crate::{entries, memory};
@@ -10,7 +10,7 @@ use scalar::refusals::{LENGTH, NO_RECORD, NOT_SHORTEST, REFUSED_ENTRY, ROOM};
 use writer::WriteAnswer;
 
 // The length of a record's shortest message; or a refusal's number and place.
-#[derive(Drop)]
+#[derive(Clone, Copy)]
 pub(crate) enum Short {
     Is { size: usize },
     Refused { number: u8, place: usize },

@@ -8,6 +8,8 @@
 //   2 chart: the first byte of data is a first byte. Its entry.
 //   3 read at: as 0, at the place that is the last byte of data.
 // Anything else is `bad`. vectors.py writes the cases, stdin, and what is to be printed, stdout.
+#![tactic(auto)]
+
 ghost use Rattle.std.specs.Prelude.{◌≤◌};
 
 use libc::{STDIN_FILENO, STDOUT_FILENO};
@@ -23,7 +25,7 @@ const LONGEST: usize = 0x2_0000;
 // Where the value is stored in a larger buffer.
 const PLACE: usize = 3;
 
-#[derive(Drop)]
+#[derive(Clone, Copy)]
 enum Named {
     As(Sort),
     Unnamed,

@@ -1,5 +1,7 @@
 // Single values: reading one at a place, and the shortest form of each. The definitions are in scalar's
 // specs/Scalars.antt.
+#![tactic(auto)]
+
 pub mod chart;
 pub mod direct;
 pub mod doubles;
@@ -24,7 +26,7 @@ use scalar::refusals::{BYTE, CUT};
 use scalar::{Begun, Rule, Sort, Written};
 
 // What passing a value at a place finds: the value and the bytes that it takes; or a refusal's number and place.
-#[derive(Drop)]
+#[derive(Clone, Copy)]
 pub enum NumberPassed {
     Value { value: u64, size: usize },
     Refused { number: u8, place: usize },
@@ -32,7 +34,7 @@ pub enum NumberPassed {
 
 // What reading a value at a place finds: the value, the bytes that it takes and those of its shortest form; or a
 // refusal's number and place.
-#[derive(Drop)]
+#[derive(Clone, Copy)]
 pub enum NumberRead {
     Value {
         value: u64,
@@ -46,7 +48,7 @@ pub enum NumberRead {
 }
 
 // A form's first byte, and the lowest `more` bytes of `rest` after it; or the value has no form of its kind.
-#[derive(Drop)]
+#[derive(Clone, Copy)]
 pub enum Spelling {
     Form { code: u8, more: usize, rest: u64 },
     Absent,

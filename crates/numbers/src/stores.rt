@@ -12,7 +12,7 @@ use scalar::{Sort, Written};
 
 // The codes of ints or longs: the lowest of one byte, how many these are, and what they hold for the value 0; the
 // lowest of two bytes, and of three.
-#[derive(Drop)]
+#[derive(Clone, Copy)]
 pub struct Codes {
     pub one: u8,
     pub count: u64,

@@ -1,6 +1,8 @@
 // Reads a message from standard input, and prints its record: a line for each row, five unsigned decimals with one
 // space between. A message that is not accepted prints one line, `refused`, number and place. More than 60,000 bytes
 // are refusal 1; more than 1,600 rows are refusal 9.
+#![tactic(auto)]
+
 use libc::{STDIN_FILENO, STDOUT_FILENO};
 use reader::ReadAnswer;
 use record::ROW_NUMBERS;

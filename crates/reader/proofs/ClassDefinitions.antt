@@ -31,10 +31,10 @@ use Rattle.reader.specs.declared.definitions.DefinitionRead.TheVariants as defin
 use Rattle.record.specs.Laws.KnownArray.{known_in, Kept, defined_in, defined_room, known_defined, kept_defined}
 use Rattle.record.specs.Laws.KnownArray.{references_stay, classes_counted, classes_slot}
 use Rattle.reader.specs.declared.Spot.{Spot}
-use Rattle.reader.specs.Contracts.{PlaceIn, ReadyAt, LeadAt, RowRead, StoresRow, StoresRows, ReadsRows}
-use Rattle.reader.specs.Contracts.{DefinitionReadSays}
-use Rattle.reader.specs.Contracts.{CountSays, CountMet, FieldCountMet, ClassReadSays, ClassReadMet, NamesReadSays}
-use Rattle.reader.specs.Contracts.{NamesReadMet, DefinesClass, DefinitionReadMet}
+use Rattle.reader.specs.Promises.{PlaceIn, ReadyAt, LeadAt, RowRead, StoresRow, StoresRows, ReadsRows}
+use Rattle.reader.specs.Promises.{DefinitionReadSays}
+use Rattle.reader.specs.Promises.{CountSays, CountMet, FieldCountMet, ClassReadSays, ClassReadMet, NamesReadSays}
+use Rattle.reader.specs.Promises.{NamesReadMet, DefinesClass, DefinitionReadMet}
 use Rattle.reader.proofs.Tables.{stores_none, stores_single, stores_on, stores_top, stores_numbers_length}
 use Rattle.reader.proofs.Tables.{stores_bytes_length, reads_none, reads_on}
 use Rattle.reader.proofs.Sizes.{passed_says, string_within, string_has}

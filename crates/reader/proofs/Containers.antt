@@ -27,9 +27,9 @@ use Rattle.record.specs.Laws.KnownArray.{one_type}
 use Rattle.record.specs.Laws.KnownArray.{references_same, known_typed, kept_typed, known_in, Kept, types_slot}
 use Rattle.record.specs.Laws.KnownArray.{references_slot}
 use Rattle.reader.specs.declared.Spot.{Spot}
-use Rattle.reader.specs.Contracts.{group_of, group_numbers, StoresRow, StoresRows, type_of, type_rows, type_tag}
-use Rattle.reader.specs.Contracts.{type_second, TypeRoom, EntersHolder, HolderFits, OpensHolder, HeadNeeds}
-use Rattle.reader.specs.Contracts.{HeadFits, HeadRows, ByHeadMet, RowRead, TypeNamed}
+use Rattle.reader.specs.Promises.{group_of, group_numbers, StoresRow, StoresRows, type_of, type_rows, type_tag}
+use Rattle.reader.specs.Promises.{type_second, TypeRoom, EntersHolder, HolderFits, OpensHolder, HeadNeeds}
+use Rattle.reader.specs.Promises.{HeadFits, HeadRows, ByHeadMet, RowRead, TypeNamed}
 use Rattle.reader.proofs.Leaves.{plain_row, text_row_law}
 use Rattle.reader.proofs.Tables.{stores_none, stores_single}
 

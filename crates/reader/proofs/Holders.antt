@@ -41,9 +41,9 @@ use Rattle.reader.specs.declared.heads.Count.TheVariants as count
 use Rattle.reader.specs.declared.heads.TypeRead.{TypeRead}
 use Rattle.reader.specs.declared.heads.TypeRead.TheVariants as type-read
 use Rattle.record.specs.Laws.KnownArray.{Kept, known_in, classes_slot}
-use Rattle.reader.specs.Contracts.{group_of, group_numbers, LeadAt, CountSays, CountMet, CountFits, type_rows}
-use Rattle.reader.specs.Contracts.{typed_by, TypeIs, TypeReadSays, TypeReadMet, HolderHeadMet, holder_of, ListAt}
-use Rattle.reader.specs.Contracts.{ListMet, instance_of}
+use Rattle.reader.specs.Promises.{group_of, group_numbers, LeadAt, CountSays, CountMet, CountFits, type_rows}
+use Rattle.reader.specs.Promises.{typed_by, TypeIs, TypeReadSays, TypeReadMet, HolderHeadMet, holder_of, ListAt}
+use Rattle.reader.specs.Promises.{ListMet, instance_of}
 use Rattle.reader.proofs.Leaves.{byte_small, number_bad, number_is, number_room, lead_at_form, lead_at_run}
 use Rattle.reader.proofs.Leaves.{lead_at_lost}
 

@@ -33,8 +33,8 @@ use Rattle.record.specs.ForReader.ReadDefinitions.{below, plain}
 use Rattle.reader.specs.declared.heads.Head.TheVariants as head
 use Rattle.reader.specs.declared.heads.Count.TheVariants as count
 use Rattle.reader.proofs.Sizes.{binary_has, passed_says, string_within, string_has}
-use Rattle.reader.specs.Contracts.{PlaceIn, LeadAt, CountMet, HeadIs, LeafHeadMet, PlainHeadMet}
-use Rattle.reader.specs.Contracts.{RowRead}
+use Rattle.reader.specs.Promises.{PlaceIn, LeadAt, CountMet, HeadIs, LeafHeadMet, PlainHeadMet}
+use Rattle.reader.specs.Promises.{RowRead}
 
 pub byte_small : (m : List ℕ) (p : ℕ) → Bytes m → get_or m p 0 < 256
 byte_small [] p b = omega arith

@@ -19,7 +19,7 @@ use Rattle.record.specs.Laws.RowLengths.{typed_map_row_length, object_row_length
 use Rattle.record.specs.Laws.RowLengths.{class_row_length, type_number_row_length, text_row_length, bytes_row_length}
 use Rattle.record.specs.Laws.RowLengths.{class_name_row_length, field_name_row_length, type_name_row_length}
 use Rattle.record.specs.Laws.RowLengths.{measured_length, row_length_moved, under_moved, number_most}
-use Rattle.reader.specs.Contracts.{OwnLength, RowRead, first_by, add_to, adding, noted, noted_all}
+use Rattle.reader.specs.Promises.{OwnLength, RowRead, first_by, add_to, adding, noted, noted_all}
 
 -- ---- a kind between two numbers
 one_kind : (P : ℕ → Type 0) (a k : ℕ) → a ≤ k → k < suc a → P a → P k

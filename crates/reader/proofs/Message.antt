@@ -25,9 +25,9 @@ use Rattle.reader.specs.declared.FillAnswer.{FillAnswer}
 use Rattle.reader.specs.declared.FillAnswer.TheVariants as answer
 use Rattle.reader.specs.Answers.{report, shortest, fill_report}
 use Rattle.record.specs.Laws.KnownArray.{known_in, known_size}
-use Rattle.reader.specs.Contracts.{ReadyAt, ValuesReadSays, ValuesReadMet}
-use Rattle.reader.specs.Contracts.{message_start, OneValueMet, IsRecord, JudgedSays, JudgedMet, ReadIntoMet}
-use Rattle.reader.specs.Contracts.{noted_all, IsSum, length_by, with_length}
+use Rattle.reader.specs.Promises.{ReadyAt, ValuesReadSays, ValuesReadMet}
+use Rattle.reader.specs.Promises.{message_start, OneValueMet, IsRecord, JudgedSays, JudgedMet, ReadIntoMet}
+use Rattle.reader.specs.Promises.{noted_all, IsSum, length_by, with_length}
 use Rattle.reader.proofs.StoredRows.{noted_laid}
 use Rattle.reader.proofs.LengthLaws.{sum_floats, sum_thousandths}
 

@@ -28,11 +28,11 @@ use Rattle.reader.specs.declared.values.Beginning.TheVariants as beginning
 use Rattle.reader.specs.declared.values.ValuesRead.{ValuesRead}
 use Rattle.reader.specs.declared.values.ValuesRead.TheVariants as values-read
 use Rattle.record.specs.Laws.KnownArray.{known_in, types_slot}
-use Rattle.reader.specs.Contracts.{group_of, LeadAt, ReadyAt, StoresRow, StoresRows, ReadsRows, ReadsOne}
-use Rattle.reader.specs.Contracts.{type_of, type_rows, EntersHolder, holder_read, read_by_head, HeadIs}
-use Rattle.reader.specs.Contracts.{NoDefinition, HeadAtSays, HeadAtMet, DefinitionReadMet}
-use Rattle.reader.specs.Contracts.{HeadNeeds, HeadRows, HeadFits, ByHeadSays, ByHeadMet, ReadsToValues}
-use Rattle.reader.specs.Contracts.{BeginningSays, BeginningMet, ValuesAre, ValuesReadSays, ValuesReadMet}
+use Rattle.reader.specs.Promises.{group_of, LeadAt, ReadyAt, StoresRow, StoresRows, ReadsRows, ReadsOne}
+use Rattle.reader.specs.Promises.{type_of, type_rows, EntersHolder, holder_read, read_by_head, HeadIs}
+use Rattle.reader.specs.Promises.{NoDefinition, HeadAtSays, HeadAtMet, DefinitionReadMet}
+use Rattle.reader.specs.Promises.{HeadNeeds, HeadRows, HeadFits, ByHeadSays, ByHeadMet, ReadsToValues}
+use Rattle.reader.specs.Promises.{BeginningSays, BeginningMet, ValuesAre, ValuesReadSays, ValuesReadMet}
 use Rattle.reader.specs.contracts.heads.Head.{the_type}
 use Rattle.reader.proofs.ClassDefinitions.{ReadingDefinitions, definitions_refused, definitions_forward}
 use Rattle.reader.proofs.ClassDefinitions.{definitions_more}

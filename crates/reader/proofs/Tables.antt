@@ -9,7 +9,7 @@ use Rattle.record.specs.Laws.RowLengths.{length_under}
 use Rattle.record.specs.ForReader.ReadingAt.{from, numbered, numbered_append, numbered_length}
 use Rattle.record.specs.Laws.TableLaws.{bytes_sized}
 use Rattle.reader.specs.declared.Spot.{Spot}
-use Rattle.reader.specs.Contracts.{add_to, noted, noted_all, StoresRow, StoresRows, ReadyAt, ReadsRows}
+use Rattle.reader.specs.Promises.{add_to, noted, noted_all, StoresRow, StoresRows, ReadyAt, ReadsRows}
 
 pub numbers_sized : (r : Row) → length (as_numbers.encode r) ≡ as_numbers.width
 numbers_sized r = refl

@@ -22,7 +22,7 @@ use Rattle.reader.specs.declared.FillAnswer.{FillAnswer}
 use Rattle.reader.specs.declared.FillAnswer.TheVariants as fill
 use Rattle.reader.specs.Answers.{report, shortest, fill_report}
 use Rattle.reader.specs.OneAnswer.{answer_of, one_answer}
-use Rattle.reader.specs.Contracts.{length_by, with_length, ReadIntoMet, Retold}
+use Rattle.reader.specs.Promises.{length_by, with_length, ReadIntoMet, Retold}
 use Rattle.reader.proofs.Message.{sum_of_two, numbers_call, bytes_call}
 
 -- ---- a row's first number, by the tests

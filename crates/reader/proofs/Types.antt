@@ -23,7 +23,7 @@ use Rattle.record.specs.ForReader.ReadParts.{type_end, type_full, type_name_law,
 use Rattle.record.specs.ForReader.ReadParts.{type_number_lost}
 use Rattle.reader.specs.declared.heads.TypeItem.TheVariants.{Named, Numbered}
 use Rattle.reader.specs.declared.heads.TypeRead.TheVariants as type-read
-use Rattle.reader.specs.Contracts.{PlaceIn, LeadAt, NoName, TypeReadMet}
+use Rattle.reader.specs.Promises.{PlaceIn, LeadAt, NoName, TypeReadMet}
 use Rattle.reader.proofs.Leaves.{byte_small, number_bad, number_is, number_room, string_bad, string_is}
 use Rattle.reader.proofs.Leaves.{string_room}
 use Rattle.reader.proofs.Sizes.{string_has}

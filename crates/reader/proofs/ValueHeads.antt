@@ -22,8 +22,8 @@ use Rattle.record.specs.ForReader.ReadDefinitions.{below, below_none, plain}
 use Rattle.reader.specs.declared.heads.TypeItem.TheVariants.{Untyped}
 use Rattle.reader.specs.declared.heads.Head.{Head}
 use Rattle.reader.specs.declared.heads.Head.TheVariants as head
-use Rattle.reader.specs.Contracts.{group_numbers, PlaceIn, LeadAt, High, IsListOrMap, HeadIs, NoDefinition}
-use Rattle.reader.specs.Contracts.{HeadAtMet, LeafHeadMet, PlainHeadMet, HolderHeadMet}
+use Rattle.reader.specs.Promises.{group_numbers, PlaceIn, LeadAt, High, IsListOrMap, HeadIs, NoDefinition}
+use Rattle.reader.specs.Promises.{HeadAtMet, LeafHeadMet, PlainHeadMet, HolderHeadMet}
 use Rattle.reader.proofs.Leaves.{byte_small, lead_at_form, lead_at_lost}
 use Rattle.reader.proofs.Holders.{map_is}
 

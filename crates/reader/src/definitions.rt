@@ -3,9 +3,9 @@ ghost use Rattle.std.specs.Prelude.{◌≡◌, ◌+◌, ◌^◌, ◌<◌, ◌≤
 ghost use Rattle.scalar.specs.declared.Lead.TheVariants as lead;
 ghost use Rattle.record.specs.Model.Answers.{base};
 ghost use Rattle.record.specs.Laws.KnownArray.{Kept, known_in, classes_slot};
-ghost use Rattle.reader.specs.Contracts.{PlaceIn, ReadyAt, LeadAt};
-ghost use Rattle.reader.specs.Contracts.{FieldCountMet, ClassReadMet, NamesReadMet};
-ghost use Rattle.reader.specs.Contracts.{DefinesClass, DefinitionReadMet};
+ghost use Rattle.reader.specs.Promises.{PlaceIn, ReadyAt, LeadAt};
+ghost use Rattle.reader.specs.Promises.{FieldCountMet, ClassReadMet, NamesReadMet};
+ghost use Rattle.reader.specs.Promises.{DefinesClass, DefinitionReadMet};
 
 use crate::Spot;
 use crate::heads::Count;
@@ -19,7 +19,7 @@ use texts::StringPassed;
 
 // A class's name, by its units and bytes, its number of fields, and where their names begin; or a refusal's number and
 // place.
-#[derive(Drop)]
+#[derive(Clone, Copy)]
 pub(crate) enum ClassRead {
     Is {
         units: u64,
@@ -34,14 +34,14 @@ pub(crate) enum ClassRead {
 }
 
 // Where reading is past field names; or a refusal's number and place.
-#[derive(Drop)]
+#[derive(Clone, Copy)]
 pub(crate) enum NamesRead {
     Done { next: Spot },
     Refused { number: u8, place: usize },
 }
 
 // Where reading is past a definition; or a refusal's number and place.
-#[derive(Drop)]
+#[derive(Clone, Copy)]
 pub(crate) enum DefinitionRead {
     Done { next: Spot },
     Refused { number: u8, place: usize },

@@ -8,9 +8,9 @@ ghost use Rattle.scalar.specs.Answers.{number_at};
 ghost use Rattle.numbers.specs.Answers.{passed};
 ghost use Rattle.reader.specs.declared.heads.Head.TheVariants as head;
 ghost use Rattle.record.specs.Laws.KnownArray.{Kept, known_in, types_slot};
-ghost use Rattle.reader.specs.Contracts.{PlaceIn, LeadAt, High, NoName, IsListOrMap};
-ghost use Rattle.reader.specs.Contracts.{CountMet, CountFits, TypeReadMet, ListAt, ListMet, holder_of, instance_of};
-ghost use Rattle.reader.specs.Contracts.{LeafHeadMet, PlainHeadMet, HolderHeadMet, HeadIs, HeadAtMet};
+ghost use Rattle.reader.specs.Promises.{PlaceIn, LeadAt, High, NoName, IsListOrMap};
+ghost use Rattle.reader.specs.Promises.{CountMet, CountFits, TypeReadMet, ListAt, ListMet, holder_of, instance_of};
+ghost use Rattle.reader.specs.Promises.{LeafHeadMet, PlainHeadMet, HolderHeadMet, HeadIs, HeadAtMet};
 
 use numbers::NumberPassed;
 use record::kinds::{BYTES, DATE, DOUBLE, FALSE, INT, LONG, NULL, REFERENCE, TEXT, TRUE};
@@ -31,7 +31,7 @@ pub(crate) const OPEN: u64 = 2;
 pub(crate) const PAIRS: u64 = 3;
 
 // record's `Group` in plain numbers, which are handed on in less time: one of these shapes, a count, and a class.
-#[derive(Drop)]
+#[derive(Clone, Copy)]
 pub(crate) struct GroupNumbers {
     pub shape: u64,
     pub count: u64,
@@ -39,7 +39,7 @@ pub(crate) struct GroupNumbers {
 }
 
 // The type of a list or map: none; a name, by its units and bytes; a number.
-#[derive(Drop)]
+#[derive(Clone, Copy)]
 pub(crate) enum TypeItem {
     Untyped,
     Named { units: u64, bytes: u64 },
@@ -47,7 +47,7 @@ pub(crate) enum TypeItem {
 }
 
 // A value's head.
-#[derive(Drop)]
+#[derive(Clone, Copy)]
 pub(crate) enum Head {
     // A value with no values inside: its row, and the place past it.
     Leaf {
@@ -71,14 +71,14 @@ pub(crate) enum Head {
 }
 
 // A count, and the bytes that it takes; or a refusal's number and place.
-#[derive(Drop)]
+#[derive(Clone, Copy)]
 pub(crate) enum Count {
     Is { value: u64, size: usize },
     Refused { number: u8, place: usize },
 }
 
 // A type, and the place past it; or a refusal's number and place.
-#[derive(Drop)]
+#[derive(Clone, Copy)]
 pub(crate) enum TypeRead {
     Is { of: TypeItem, next: usize },
     Refused { number: u8, place: usize },
@@ -480,7 +480,7 @@ fn refused(number: u8, place: usize) -> Head
 
 // What stands at `at`: a class definition, or the head of a value, where as many lists, maps and objects as allowed may
 // still open.
-pub(crate) fn head_at_law(message: &[u8], known: &[u64; KNOWN], at: usize, allowed: usize) -> Head
+pub(crate) fn head_at(message: &[u8], known: &[u64; KNOWN], at: usize, allowed: usize) -> Head
     requires { PlaceIn message.now at × Kept known.now }
     ensures { HeadAtMet message.now (known_in known.now) at allowed result }
 {

@@ -6,7 +6,7 @@ ghost use Rattle.record.specs.Model.Kinds.{text_kind, list_kind, class_name_kind
 ghost use Rattle.record.specs.Model.Rows.{row};
 ghost use Rattle.record.specs.Laws.RowLaws.{row_of};
 ghost use Rattle.record.specs.Laws.RowLengths.{row_length, object_length};
-ghost use Rattle.reader.specs.Contracts.{OwnLength, RowRead, first_by, adding};
+ghost use Rattle.reader.specs.Promises.{OwnLength, RowRead, first_by, adding};
 
 use record::Row;
 use record::kinds::{

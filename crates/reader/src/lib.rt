@@ -1,5 +1,7 @@
 // Reads a message into a table of rows. What a message reads as is in record's specs/Model/Reading.antt, what the
 // reader answers in Model/Answers.antt.
+#![tactic(auto)]
+
 pub(crate) mod definitions;
 pub(crate) mod heads;
 pub(crate) mod lengths;
@@ -13,7 +15,7 @@ ghost use Rattle.record.specs.Model.Answers.{base, base_open_from, as_numbers, a
 ghost use Rattle.record.specs.Model.Calls.{ReadCall, MeasuredCall};
 ghost use Rattle.reader.specs.Answers.{report, shortest, fill_report};
 ghost use Rattle.reader.specs.declared.Judged.TheVariants as judged;
-ghost use Rattle.reader.specs.Contracts.{OneValueMet, JudgedMet, ReadIntoMet, with_length, length_by, IsSum};
+ghost use Rattle.reader.specs.Promises.{OneValueMet, JudgedMet, ReadIntoMet, with_length, length_by, IsSum};
 
 use crate::heads::{COUNTED, GroupNumbers};
 use crate::lengths::{BY_FLOATS, BY_THOUSANDTHS};
@@ -25,7 +27,7 @@ use scalar::refusals::{AFTER, LENGTH};
 
 // What reading a message comes to: the rows and the bytes read, and the bytes of the record's shortest message; a
 // refusal's number and place; the rows needed, where fewer are lent.
-#[derive(Drop)]
+#[derive(Clone, Copy)]
 pub enum ReadAnswer {
     Accepted {
         rows: usize,
@@ -42,7 +44,7 @@ pub enum ReadAnswer {
 }
 
 // The same where the message is not measured.
-#[derive(Drop)]
+#[derive(Clone, Copy)]
 pub enum FillAnswer {
     Accepted { rows: usize, length: usize },
     Refused { number: u8, place: usize },
@@ -50,14 +52,14 @@ pub enum FillAnswer {
 }
 
 // Where reading is: the place in the message, and the row that comes next, which is how many there are so far.
-#[derive(Drop)]
+#[derive(Clone, Copy)]
 pub(crate) struct Spot {
     pub at: usize,
     pub row: usize,
 }
 
 // Whether a message is accepted, with how many rows; or a refusal's number and place.
-#[derive(Drop)]
+#[derive(Clone, Copy)]
 pub(crate) enum Judged {
     Record { rows: usize },
     Refused { number: u8, place: usize },

@@ -5,7 +5,7 @@ ghost use Rattle.flow.specs.Flow.{put, stored};
 ghost use Rattle.wire.specs.BigEndian.{be};
 ghost use Rattle.record.specs.Model.Answers.{as_numbers, as_bytes};
 ghost use Rattle.record.specs.Laws.RowLaws.{row_of};
-ghost use Rattle.reader.specs.Contracts.{StoresRow, RowRead};
+ghost use Rattle.reader.specs.Promises.{StoresRow, RowRead};
 
 use record::{ROW_BYTES, ROW_NUMBERS, Row};
 

@@ -4,7 +4,7 @@ ghost use Rattle.std.specs.Prelude.{◌≡◌, ◌+◌, ◌*◌, ◌<◌, ◌≤
 ghost use Rattle.record.specs.Model.Answers.{as_numbers, as_bytes};
 ghost use Rattle.record.specs.Model.Terms.{first_in_thousandths, row_in_thousandths};
 ghost use Rattle.record.specs.Laws.RowLaws.{row_of};
-ghost use Rattle.reader.specs.Contracts.{Retold};
+ghost use Rattle.reader.specs.Promises.{Retold};
 
 use crate::rows::{store_numbers, store_row};
 use record::kinds::DOUBLE;

@@ -6,11 +6,11 @@ ghost use Rattle.record.specs.ForReader.ReadLoops.{closes, stops, past, parts};
 ghost use Rattle.record.specs.Laws.RowLaws.{row_of};
 ghost use Rattle.record.specs.ForReader.ReadValues.{heading};
 ghost use Rattle.record.specs.Laws.KnownArray.{Kept, types_slot, references_slot};
-ghost use Rattle.reader.specs.Contracts.{group_of, ReadyAt, StoresRows};
-ghost use Rattle.reader.specs.Contracts.{type_of, type_rows, type_tag, type_second, TypeRoom, TypeNamed};
-ghost use Rattle.reader.specs.Contracts.{EntersHolder};
-ghost use Rattle.reader.specs.Contracts.{HolderFits, OpensHolder, HeadFits, ByHeadMet};
-ghost use Rattle.reader.specs.Contracts.{BeginningMet, ValuesReadMet};
+ghost use Rattle.reader.specs.Promises.{group_of, ReadyAt, StoresRows};
+ghost use Rattle.reader.specs.Promises.{type_of, type_rows, type_tag, type_second, TypeRoom, TypeNamed};
+ghost use Rattle.reader.specs.Promises.{EntersHolder};
+ghost use Rattle.reader.specs.Promises.{HolderFits, OpensHolder, HeadFits, ByHeadMet};
+ghost use Rattle.reader.specs.Promises.{BeginningMet, ValuesReadMet};
 
 use crate::Spot;
 use crate::definitions::DefinitionRead;
@@ -22,7 +22,7 @@ use scalar::refusals::BYTE;
 
 // How a value begins: it holds no others, and is read; it is the list, map or object at `holder`, where so many types
 // were given, and its values begin at `next`; or a refusal.
-#[derive(Drop)]
+#[derive(Clone, Copy)]
 pub(crate) enum Beginning {
     Leaf {
         next: Spot,
@@ -41,7 +41,7 @@ pub(crate) enum Beginning {
 }
 
 // What reading values comes to: where reading is past them, and how many they are; or a refusal's number and place.
-#[derive(Drop)]
+#[derive(Clone, Copy)]
 pub(crate) enum ValuesRead {
     Done { next: Spot, count: u64 },
     Refused { number: u8, place: usize },

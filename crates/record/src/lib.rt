@@ -1,12 +1,14 @@
 // What a record is, how a message reads, its shortest message, and the theorems stand in specs/: theory, the limits,
 // the kinds of rows and the types that code shares, and the array of what is known.
+#![tactic(auto)]
+
 pub mod kinds;
 pub mod known;
 pub mod limits;
 
 // How the values of a list, map or object are counted: so many elements; the fields of an object, with its class and
 // how many; elements up to 5a; keys and values up to 5a.
-#[derive(Drop)]
+#[derive(Clone, Copy)]
 pub enum Group {
     Counted(u64),
     Fields(u64, u64),
@@ -16,7 +18,7 @@ pub enum Group {
 
 // What a list, map or object holds, as the writer counts it: so many elements or fields; so many keys, each with its
 // value.
-#[derive(Drop)]
+#[derive(Clone, Copy)]
 pub enum Contents {
     Elements(u64),
     Couples(u64),
@@ -24,7 +26,7 @@ pub enum Contents {
 
 // A row of a table. `after` is the number of the row just after the value, definition or single item that the row
 // opens.
-#[derive(Drop)]
+#[derive(Clone, Copy)]
 pub struct Row {
     pub kind: u64,
     pub place: u64,

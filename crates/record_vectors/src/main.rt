@@ -9,6 +9,8 @@
 // was; after `; ` the same by the rule of thousandths; and after another `; ` what the functions that answer the length
 // alone say, by the main rule and by that of thousandths. What is no case is `bad`. vectors.py writes the cases, stdin,
 // and what is to be printed, stdout.
+#![tactic(auto)]
+
 use libc::{STDIN_FILENO, STDOUT_FILENO};
 use reader::ReadAnswer;
 use record::ROW_NUMBERS;
@@ -24,7 +26,7 @@ const MOST: usize = 8_000;
 // The most bytes of cases.
 const MOST_INPUT: usize = 400_000;
 
-#[derive(Drop)]
+#[derive(Clone, Copy)]
 enum Case {
     Of { lent: usize, size: usize },
     NoCase,

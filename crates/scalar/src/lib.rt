@@ -1,9 +1,11 @@
 // The types that the definitions of single values, texts and byte strings share with the code, and the numbers of
 // refusals.
+#![tactic(auto)]
+
 pub mod refusals;
 
 // A kind of single value.
-#[derive(Drop)]
+#[derive(Clone, Copy)]
 pub enum Sort {
     Null,
     False,
@@ -15,7 +17,7 @@ pub enum Sort {
 }
 
 // What a first byte opens; 5a only closes, and four bytes open nothing.
-#[derive(Drop)]
+#[derive(Clone, Copy)]
 pub enum Lead {
     Number(Sort),
     Text,
@@ -32,7 +34,7 @@ pub enum Lead {
 }
 
 // What a form's bytes stand for, by the number that they hold.
-#[derive(Drop)]
+#[derive(Clone, Copy)]
 pub enum Rule {
     // This value, whatever they hold.
     Exactly(u64),
@@ -53,14 +55,14 @@ pub enum Rule {
 }
 
 // What a first byte begins: how many bytes follow, what it holds itself, and the rule for the number in all.
-#[derive(Drop)]
+#[derive(Clone, Copy)]
 pub enum Begun {
     Starts { more: usize, held: u64, rule: Rule },
     NoForm,
 }
 
 // What a string holds: characters in UTF-8, or bytes.
-#[derive(Drop)]
+#[derive(Clone, Copy)]
 pub enum Encoding {
     Utf8,
     Binary,
@@ -69,7 +71,7 @@ pub enum Encoding {
 // A character's first byte: how many bytes follow, and from where to below where the first of those lies. A
 // supplementary character has three, and counts two units. Halved is ed, after which the second byte tells a character
 // of three bytes from a half.
-#[derive(Drop)]
+#[derive(Clone, Copy)]
 pub enum CharLead {
     Basic { more: usize, from: u8, below: u8 },
     Supplementary { from: u8, below: u8 },
@@ -79,7 +81,7 @@ pub enum CharLead {
 
 // What storing a shortest form comes to: the bytes stored; the bytes needed, where they do not fit; or there is no such
 // form.
-#[derive(Drop)]
+#[derive(Clone, Copy)]
 pub enum Written {
     Stored { size: usize },
     NoRoom { needed: usize },

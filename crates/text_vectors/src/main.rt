@@ -13,6 +13,8 @@
 // Else it has `refused`, number and place; and `none ok` where there is no length, and nothing is stored. In a form,
 // bytes that stand four times or more in a row, up to four at once, are a segment of their own, as few at once as do.
 // What is no case is `bad`. vectors.py writes the cases, stdin, and what is to be printed, stdout.
+#![tactic(auto)]
+
 ghost use Rattle.std.specs.Prelude.{◌≤◌, ◌<◌, length};
 
 use libc::{STDIN_FILENO, STDOUT_FILENO};
@@ -35,7 +37,7 @@ const LONG: usize = 5_000;
 // Bytes that stand this often are a segment of their own.
 const OFTEN: usize = 4;
 
-#[derive(Drop)]
+#[derive(Clone, Copy)]
 enum Case {
     Of {
         kind: Encoding,
@@ -46,7 +48,7 @@ enum Case {
 }
 
 // Bytes that repeat: how many at once, how often, and how many in all.
-#[derive(Drop)]
+#[derive(Clone, Copy)]
 struct Group {
     width: usize,
     times: usize,

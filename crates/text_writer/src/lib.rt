@@ -1,5 +1,7 @@
 // The shortest form of a text or byte string at a place of a source: its length, and the form stored in a lent slice.
 // Its content, stored in a lent slice.
+#![tactic(auto)]
+
 ghost use Rattle.std.specs.Prelude.{◌≡◌, [], ◌∷◌, ◌+◌, ◌^◌, ◌≤◌, ◌<◌, min, length, get_or, take, drop};
 ghost use Rattle.flow.specs.Flow.{stored};
 ghost use Rattle.scalar.specs.declared.Encoding.TheVariants as Encoding;
@@ -15,7 +17,7 @@ use texts::{ChunkRead, StringRead};
 
 // Where the content of a text or byte string goes on: the place of its next byte, the bytes left in that chunk, those
 // bytes' units, whether the chunk is the last, and whether its bytes stand in the content as they are.
-#[derive(Drop)]
+#[derive(Clone, Copy)]
 pub(crate) struct Cursor {
     pub here: usize,
     pub left: usize,
@@ -26,7 +28,7 @@ pub(crate) struct Cursor {
 
 // The codes of heads: of a last chunk's, of one byte, up to `few` units, of two and of three bytes; and of another
 // chunk's.
-#[derive(Drop)]
+#[derive(Clone, Copy)]
 pub(crate) struct Heads {
     pub one: u64,
     pub few: usize,
@@ -36,7 +38,7 @@ pub(crate) struct Heads {
 }
 
 // Bytes of a chunk that are passed at once: how many, those that the content has for them, and their units.
-#[derive(Drop)]
+#[derive(Clone, Copy)]
 pub(crate) struct Piece {
     pub size: usize,
     pub bytes: usize,
@@ -44,7 +46,7 @@ pub(crate) struct Piece {
 }
 
 // What is copied of a content: its bytes and its units, and the cursor after it.
-#[derive(Drop)]
+#[derive(Clone, Copy)]
 pub(crate) struct Copied {
     pub next: Cursor,
     pub bytes: usize,
@@ -52,7 +54,7 @@ pub(crate) struct Copied {
 }
 
 // A text or byte string at a place: where its content begins, its units and its bytes; or there is none.
-#[derive(Drop)]
+#[derive(Clone, Copy)]
 pub(crate) enum Found {
     There {
         first: Cursor,

@@ -1,4 +1,6 @@
 // Texts and byte strings: reading one at a place. The definitions are in scalar's specs/Scalars.antt.
+#![tactic(auto)]
+
 ghost use Rattle.std.specs.Prelude.{◌≡◌, ℕ, ◌+◌, ◌-◌, ◌*◌, ◌/◌, ◌^◌, ◌<◌, ◌≤◌, true, ◌↔◌, length, take, drop};
 ghost use Rattle.wire.specs.BigEndian.{joined};
 ghost use Rattle.scalar.specs.declared.Encoding.TheVariants as Encoding;
@@ -21,7 +23,7 @@ const LONGEST_CHUNK: usize = 65_535;
 const SUPPLEMENTARY: usize = 4;
 
 // How many bytes something takes, and how many its content has; or a refusal's number and place.
-#[derive(Drop)]
+#[derive(Clone, Copy)]
 pub(crate) enum Extent {
     Takes { size: usize, bytes: usize },
     Refused { number: u8, place: usize },
@@ -29,7 +31,7 @@ pub(crate) enum Extent {
 
 // A character, or some in a row: the bytes that are taken, those in UTF-8, and the units; or a refusal's number and
 // place.
-#[derive(Drop)]
+#[derive(Clone, Copy)]
 pub(crate) enum CharRead {
     Char {
         size: usize,
@@ -43,14 +45,14 @@ pub(crate) enum CharRead {
 }
 
 // What the byte begins as a chunk's head: how many bytes follow, what it holds itself, whether the chunk is the last.
-#[derive(Drop)]
+#[derive(Clone, Copy)]
 pub(crate) enum HeadForm {
     Starts { more: usize, held: u64, last: bool },
     NoHead,
 }
 
 // A chunk's head: how many bytes it takes, the units that it counts, and whether the chunk is the last; or a refusal.
-#[derive(Drop)]
+#[derive(Clone, Copy)]
 pub(crate) enum HeadRead {
     Head {
         size: usize,
@@ -65,7 +67,7 @@ pub(crate) enum HeadRead {
 
 // A chunk: the bytes of its head and those after it, the bytes of its content, its units, and whether it is the last;
 // or a refusal.
-#[derive(Drop)]
+#[derive(Clone, Copy)]
 pub enum ChunkRead {
     Chunk {
         head: usize,
@@ -82,7 +84,7 @@ pub enum ChunkRead {
 
 // What passing a text or byte string finds: its units, its content's bytes, and the bytes that it takes in all; or a
 // refusal.
-#[derive(Drop)]
+#[derive(Clone, Copy)]
 pub enum StringPassed {
     Content {
         units: usize,
@@ -97,7 +99,7 @@ pub enum StringPassed {
 
 // What reading a text or byte string finds: its units, its content's bytes, the bytes that it takes in all, and those
 // of its shortest form; or a refusal.
-#[derive(Drop)]
+#[derive(Clone, Copy)]
 pub enum StringRead {
     Content {
         units: usize,

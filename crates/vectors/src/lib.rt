@@ -1,5 +1,7 @@
 // What the programs share that run cases from standard input: lines, and the numbers and bytes in them; what lent bytes
 // hold before a call, whether they still do, and their checksum.
+#![tactic(auto)]
+
 ghost use Rattle.std.specs.Prelude.{◌≡◌, ◌&&◌, ◌+◌, ◌-◌, ◌≤◌, ◌<◌, max, ltb, leb, eqb, length, get_or};
 ghost use Rattle.std.proofs.lemmas.List.Edits.{sets};
 ghost use Rattle.std.proofs.Math.Seq.{slice};
@@ -8,14 +10,14 @@ ghost use Rattle.vectors.specs.Cases.{TimesMet, Filled, UnchangedMet};
 ghost use Rattle.vectors.specs.Groups.{groups_of, group_at, took_bytes, repeated};
 
 // A number, and where the line goes on.
-#[derive(Drop)]
+#[derive(Clone, Copy)]
 pub enum Scanned {
     Number { value: u64, next: usize },
     NoNumber,
 }
 
 // How far a line is read: where it goes on, and how much of a slice is stored.
-#[derive(Drop)]
+#[derive(Clone, Copy)]
 pub enum Step {
     On { next: usize, size: usize },
     Stuck,

@@ -1,4 +1,6 @@
 // Numbers in byte slices, the highest byte first.
+#![tactic(auto)]
+
 ghost use Rattle.std.specs.Prelude.{◌≡◌, ◌+◌, ◌*◌, ◌%◌, ◌^◌, ◌≤◌, ◌<◌, leb, length, take, drop};
 ghost use Rattle.flow.specs.Flow.{stored};
 ghost use Rattle.wire.specs.BigEndian.{joined, be};

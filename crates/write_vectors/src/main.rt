@@ -7,6 +7,8 @@
 // The line printed has the answer: number, count and place; the checksum of the lent output as it then is; and `ok`
 // where all past what is written, or the whole output after a refusal, is as it was. What is no case is `bad`.
 // vectors.py writes the cases, stdin, and what is to be printed, stdout.
+#![tactic(auto)]
+
 use libc::{STDIN_FILENO, STDOUT_FILENO};
 use record::ROW_NUMBERS;
 use record::limits::LONGEST;
@@ -24,7 +26,7 @@ const MOST: usize = 10_000;
 const MOST_INPUT: usize = 400_000;
 
 // How many bytes are lent, how many rows are claimed, the bytes of the source and the numbers in the table.
-#[derive(Drop)]
+#[derive(Clone, Copy)]
 enum Case {
     Of {
         lent: usize,

@@ -42,9 +42,9 @@ use Rattle.writer.specs.declared.progress.Step.{Step}
 use Rattle.writer.specs.declared.progress.Step.TheVariants as step
 use Rattle.writer.specs.declared.definitions.Found.TheVariants as found
 use Rattle.record.specs.Laws.RowLaws.{row_of}
-use Rattle.writer.specs.Contracts.{rows_in, items_in, RowIs, FetchMet, Puts, PutSays, PutMet, StringMet, WalkSays}
-use Rattle.writer.specs.Contracts.{NameKind, class_name, field_name, NameMet, NamesMet, Writable, WrittenUpTo}
-use Rattle.writer.specs.Contracts.{StepSays, StepMet, ClassSays, ClassMet, FoundMet, over_longest}
+use Rattle.writer.specs.Promises.{rows_in, items_in, RowIs, FetchMet, Puts, PutSays, PutMet, StringMet, WalkSays}
+use Rattle.writer.specs.Promises.{NameKind, class_name, field_name, NameMet, NamesMet, Writable, WrittenUpTo}
+use Rattle.writer.specs.Promises.{StepSays, StepMet, ClassSays, ClassMet, FoundMet, over_longest}
 use Rattle.writer.proofs.PutLaws.{puts_none, puts_on}
 use Rattle.writer.proofs.FetchLaws.{fetched_end, fetched_inside, fetched_stands, stands_either}
 use Rattle.writer.proofs.Texts.{text_put, text_not}

@@ -31,7 +31,7 @@ use Rattle.writer.specs.declared.progress.Progress.{Progress}
 use Rattle.writer.specs.declared.progress.Step.TheVariants as step
 use Rattle.record.specs.Laws.RowLaws.{row_of}
 use Rattle.record.specs.Model.Claims.{content_at}
-use Rattle.writer.specs.Contracts.{row_from, lent_in, row_in, rows_in, items_in, RowIs, FetchSays, FetchMet, StepMet}
+use Rattle.writer.specs.Promises.{row_from, lent_in, row_in, rows_in, items_in, RowIs, FetchSays, FetchMet, StepMet}
 
 module _ (t b : List ℕ) (k : ℕ) (h : k < lent_in t b) where
   -- ---- of numbers

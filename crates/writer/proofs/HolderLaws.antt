@@ -45,11 +45,11 @@ use Rattle.writer.specs.declared.holders.ValueStart.TheVariants as begun
 use Rattle.record.specs.ForWriter.BareItems.{NoneIn, type_none}
 use Rattle.record.specs.Laws.RowLaws.{row_of}
 use Rattle.record.specs.Model.Claims.{content_at}
-use Rattle.writer.specs.Contracts.{RowIs, Puts, PutMet, Writable, WrittenUpTo, StepMet, type_by, has_type}
-use Rattle.writer.specs.Contracts.{InteriorMet, elements, counted, CountWritten, ListOrMapMet, ObjectMet}
-use Rattle.writer.specs.Contracts.{HolderMet}
-use Rattle.writer.specs.Contracts.{HolderKind, few_code, counted_code, open_code, map_code, list_code, holder_code}
-use Rattle.writer.specs.Contracts.{list_by, map_by, object_by, plain_by, over_longest}
+use Rattle.writer.specs.Promises.{RowIs, Puts, PutMet, Writable, WrittenUpTo, StepMet, type_by, has_type}
+use Rattle.writer.specs.Promises.{InteriorMet, elements, counted, CountWritten, ListOrMapMet, ObjectMet}
+use Rattle.writer.specs.Promises.{HolderMet}
+use Rattle.writer.specs.Promises.{HolderKind, few_code, counted_code, open_code, map_code, list_code, holder_code}
+use Rattle.writer.specs.Promises.{list_by, map_by, object_by, plain_by, over_longest}
 use Rattle.writer.proofs.PutLaws.{puts_on}
 
 -- ---- a code before a form

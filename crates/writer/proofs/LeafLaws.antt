@@ -33,8 +33,8 @@ use Rattle.writer.specs.declared.puts.Put.{Put}
 use Rattle.writer.specs.declared.puts.Put.TheVariants as put
 use Rattle.record.specs.Laws.RowLaws.{row_of}
 use Rattle.record.specs.Model.Claims.{content_at}
-use Rattle.writer.specs.Contracts.{Puts, PutMet, StringMet, NoHolderKind, LeafMet, NumberMet, ContentMet}
-use Rattle.writer.specs.Contracts.{ReferenceMet}
+use Rattle.writer.specs.Promises.{Puts, PutMet, StringMet, NoHolderKind, LeafMet, NumberMet, ContentMet}
+use Rattle.writer.specs.Promises.{ReferenceMet}
 use Rattle.writer.proofs.PutLaws.{puts_on}
 use Rattle.writer.proofs.Texts.{text_put, text_not}
 

@@ -36,8 +36,8 @@ use Rattle.writer.specs.declared.progress.Step.TheVariants as step
 use Rattle.writer.specs.declared.WriteAnswer as answer
 use Rattle.writer.specs.declared.WriteAnswer.TheVariants as answers
 use Rattle.writer.specs.Answers.{report}
-use Rattle.writer.specs.Contracts.{lent_in, rows_in, items_in, Writable, WrittenUpTo, ValuesSay, ValuesMet, PutSays}
-use Rattle.writer.specs.Contracts.{PutMet, WritesInto, written_from, WritesFrom}
+use Rattle.writer.specs.Promises.{lent_in, rows_in, items_in, Writable, WrittenUpTo, ValuesSay, ValuesMet, PutSays}
+use Rattle.writer.specs.Promises.{PutMet, WritesInto, written_from, WritesFrom}
 use Rattle.writer.proofs.FetchLaws.{rows_counted}
 
 -- ---- before the first row nothing is known

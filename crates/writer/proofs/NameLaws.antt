@@ -16,7 +16,7 @@ use Rattle.scalar.specs.Answers.{content_read, sized_form}
 use Rattle.scalar.specs.AnswerLaws.{sized_fault, sized_both, sized_other_units, sized_other_bytes}
 use Rattle.writer.specs.declared.puts.Put.{Put}
 use Rattle.writer.specs.declared.puts.Put.TheVariants as put
-use Rattle.writer.specs.Contracts.{PutMet, ContentAt, StringMet}
+use Rattle.writer.specs.Promises.{PutMet, ContentAt, StringMet}
 
 module _ (k : Encoding) (m : List ℕ) (p u b : ℕ) where
   -- the form of a string of these sizes

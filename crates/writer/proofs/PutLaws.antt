@@ -14,7 +14,7 @@ use Rattle.scalar.specs.Answers.{report, report_of, output_of}
 use Rattle.scalar.specs.AnswerLaws.{report_none, report_stored, report_over, output_some}
 use Rattle.writer.specs.declared.puts.Put.{Put}
 use Rattle.writer.specs.declared.puts.Put.TheVariants as put
-use Rattle.writer.specs.Contracts.{Puts, put_of, PutMet, over_longest}
+use Rattle.writer.specs.Promises.{Puts, put_of, PutMet, over_longest}
 
 pub puts_none : (out : List ℕ) (s : ℕ) → s ≤ over_longest → Puts out s [] out s
 puts_none out s h = record { grows = omega arith; same = refl; holds = λ i l. sym (stored_sets out s [] i) }

@@ -18,7 +18,7 @@ use Rattle.writer.specs.declared.puts.Put.{Put}
 use Rattle.writer.specs.declared.puts.Put.TheVariants as put
 use Rattle.record.specs.Laws.RowLaws.{row_of}
 use Rattle.record.specs.Model.Claims.{content_at}
-use Rattle.writer.specs.Contracts.{Puts, ContentAt, StringSays, StringMet}
+use Rattle.writer.specs.Promises.{Puts, ContentAt, StringSays, StringMet}
 
 -- the row claims the item f of a content, whose shortest form is put
 pub record TextPut (f : List ℕ → Item) (source : List ℕ) (r : code.Row) (out : List ℕ) (s : ℕ) (out' : List ℕ)

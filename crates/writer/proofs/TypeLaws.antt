@@ -27,8 +27,8 @@ use Rattle.writer.specs.declared.puts.Put.TheVariants as put
 use Rattle.writer.specs.declared.progress.Progress.{Progress}
 use Rattle.writer.specs.declared.progress.Step.TheVariants as step
 use Rattle.record.specs.Laws.RowLaws.{row_of}
-use Rattle.writer.specs.Contracts.{items_in, RowIs, FetchMet, Puts, PutSays, PutMet, StringMet, WalkSays, Writable}
-use Rattle.writer.specs.Contracts.{StepMet, type_by, TypeRowMet, TypeNumberMet}
+use Rattle.writer.specs.Promises.{items_in, RowIs, FetchMet, Puts, PutSays, PutMet, StringMet, WalkSays, Writable}
+use Rattle.writer.specs.Promises.{StepMet, type_by, TypeRowMet, TypeNumberMet}
 use Rattle.writer.proofs.PutLaws.{puts_none}
 use Rattle.writer.proofs.FetchLaws.{fetched_end, fetched_stands, stands_either}
 use Rattle.writer.proofs.Texts.{text_either, text_put, text_not}

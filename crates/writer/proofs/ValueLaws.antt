@@ -53,11 +53,11 @@ use Rattle.writer.specs.declared.values.Entered.{Entered}
 use Rattle.writer.specs.declared.values.Entered.TheVariants as entered
 use Rattle.record.specs.Laws.RowLaws.{row_of}
 use Rattle.record.specs.Model.Claims.{content_at}
-use Rattle.writer.specs.Contracts.{RowIs, Puts, WalkSays, WalkMet, NoHolderKind, HolderKind, LeafMet, Writable}
-use Rattle.writer.specs.Contracts.{WrittenUpTo, StepSays, StepMet, ValueReached, FoundSays, FoundMet, closed}
-use Rattle.writer.specs.Contracts.{closing, InteriorLeft, InteriorSays, InteriorMet, ValuesLeft, BeginSays}
-use Rattle.writer.specs.Contracts.{BeginMet, BareIn, HolderAt, HolderMet, HeldIn, RowMet, InteriorOf, EnterSays}
-use Rattle.writer.specs.Contracts.{EnterMet, ValuesSay, ValuesMet, over_longest}
+use Rattle.writer.specs.Promises.{RowIs, Puts, WalkSays, WalkMet, NoHolderKind, HolderKind, LeafMet, Writable}
+use Rattle.writer.specs.Promises.{WrittenUpTo, StepSays, StepMet, ValueReached, FoundSays, FoundMet, closed}
+use Rattle.writer.specs.Promises.{closing, InteriorLeft, InteriorSays, InteriorMet, ValuesLeft, BeginSays}
+use Rattle.writer.specs.Promises.{BeginMet, BareIn, HolderAt, HolderMet, HeldIn, RowMet, InteriorOf, EnterSays}
+use Rattle.writer.specs.Promises.{EnterMet, ValuesSay, ValuesMet, over_longest}
 use Rattle.writer.proofs.PutLaws.{puts_none, puts_on}
 use Rattle.writer.proofs.FetchLaws.{stands_either}
 

@@ -2,8 +2,8 @@
 // and WrittenValues.antt.
 ghost use Rattle.std.specs.Prelude.{◌≡◌, ◌≤◌, ◌<◌, length};
 ghost use Rattle.record.specs.Model.Kinds.{class_kind};
-ghost use Rattle.writer.specs.Contracts.{lent_in, items_in, WritableIn, TurnIn, ClassWritten, DefinitionWritten};
-ghost use Rattle.writer.specs.Contracts.{DefinitionsWritten, over_longest};
+ghost use Rattle.writer.specs.Promises.{lent_in, items_in, WritableIn, TurnIn, ClassWritten, DefinitionWritten};
+ghost use Rattle.writer.specs.Promises.{DefinitionsWritten, over_longest};
 
 use crate::progress::{Progress, Step, Turn};
 use crate::puts::Put;
@@ -13,7 +13,7 @@ use record::known::{CLASSES_GIVEN, KNOWN};
 use record::limits::{CLASSES, FIELDS};
 
 // The row of the value past class definitions, and where writing is then; or there is no record.
-#[derive(Drop)]
+#[derive(Clone, Copy)]
 pub(crate) enum Found {
     Value(Turn),
     NoRecord,

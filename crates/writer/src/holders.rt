@@ -3,8 +3,8 @@
 ghost use Rattle.std.specs.Prelude.{◌≡◌, ◌≤◌};
 ghost use Rattle.record.specs.Model.Shortest.{object_code};
 ghost use Rattle.record.specs.Laws.KnownArray.{Kept};
-ghost use Rattle.writer.specs.Contracts.{WritableIn, TurnIn, HolderKind, list_code, map_code, holder_code, PutMet};
-ghost use Rattle.writer.specs.Contracts.{CountWritten, ListOrMapBegun, ObjectBegun, HolderBegun, over_longest};
+ghost use Rattle.writer.specs.Promises.{WritableIn, TurnIn, HolderKind, list_code, map_code, holder_code, PutMet};
+ghost use Rattle.writer.specs.Promises.{CountWritten, ListOrMapBegun, ObjectBegun, HolderBegun, over_longest};
 
 use crate::progress::{Progress, Scope, Step, Turn};
 use crate::puts::Put;
@@ -13,7 +13,7 @@ use record::known::{CLASSES_GIVEN, KNOWN, REFERENCES_GIVEN};
 use record::{Contents, Row};
 
 // What a list, map or object holds, and where that begins.
-#[derive(Drop)]
+#[derive(Clone, Copy)]
 pub(crate) struct Interior {
     pub contents: Contents,
     pub at: Progress,
@@ -21,7 +21,7 @@ pub(crate) struct Interior {
 
 // How a value begins: it is written, and ends there; what it holds is to follow, with 5a after it where `closes`; or
 // there is no record.
-#[derive(Drop)]
+#[derive(Clone, Copy)]
 pub(crate) enum ValueStart {
     Past(Progress),
     Within { inside: Interior, closes: bool },

@@ -2,7 +2,7 @@
 ghost use Rattle.std.specs.Prelude.{◌≡◌, ◌≤◌, ◌<◌};
 ghost use Rattle.scalar.specs.Scalars.{sort_kind};
 ghost use Rattle.record.specs.Model.Kinds.{text_kind};
-ghost use Rattle.writer.specs.Contracts.{NoHolderKind, NumberMet, ContentMet, ReferenceMet, LeafMet, over_longest};
+ghost use Rattle.writer.specs.Promises.{NoHolderKind, NumberMet, ContentMet, ReferenceMet, LeafMet, over_longest};
 
 use crate::puts::Put;
 use record::Row;

@@ -1,5 +1,7 @@
 // Writes the shortest message of a table of rows, whose texts and byte strings lie in a source. What a record's
 // shortest message is, and what the writer answers, stands in record's specs/Model/Answers.antt.
+#![tactic(auto)]
+
 pub(crate) mod definitions;
 pub(crate) mod holders;
 pub(crate) mod leaves;
@@ -15,7 +17,7 @@ ghost use Rattle.record.specs.Model.Answers.{base, base_open_from, shortest_of, 
 ghost use Rattle.record.specs.Model.Calls.{WriteCall};
 ghost use Rattle.record.specs.Model.Claims.{content_at};
 ghost use Rattle.writer.specs.Answers.{report};
-ghost use Rattle.writer.specs.Contracts.{lent_in, rows_in, PutMet, WritesInto, WritesFrom};
+ghost use Rattle.writer.specs.Promises.{lent_in, rows_in, PutMet, WritesInto, WritesFrom};
 
 use crate::holders::Interior;
 use crate::progress::{Progress, Scope, Step};
@@ -26,7 +28,7 @@ use record::{Contents, ROW_BYTES, ROW_NUMBERS};
 
 // What writing a table comes to: the bytes written; the source, or the shortest message, is too long; the rows are no
 // record; the bytes needed, where fewer are lent.
-#[derive(Drop)]
+#[derive(Clone, Copy)]
 pub enum WriteAnswer {
     Written { size: usize },
     TooLong,

@@ -1,6 +1,6 @@
 // Texts and byte strings that rows name by a place of the source.
 ghost use Rattle.std.specs.Prelude.{◌≡◌, ◌≤◌, length};
-ghost use Rattle.writer.specs.Contracts.{lent_in, items_in, StringMet, NameWritten, NamesWritten, over_longest};
+ghost use Rattle.writer.specs.Promises.{lent_in, items_in, StringMet, NameWritten, NamesWritten, over_longest};
 
 use crate::progress::Progress;
 use crate::puts::Put;

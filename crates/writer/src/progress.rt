@@ -2,14 +2,14 @@
 use record::Row;
 
 // The row that comes next, and how many bytes there are.
-#[derive(Drop)]
+#[derive(Clone, Copy)]
 pub(crate) struct Progress {
     pub next: usize,
     pub size: usize,
 }
 
 // A row that is written, and where writing is.
-#[derive(Drop)]
+#[derive(Clone, Copy)]
 pub(crate) struct Turn {
     pub row: Row,
     pub at: Progress,
@@ -17,7 +17,7 @@ pub(crate) struct Turn {
 
 // How many rows there are, how many more lists, maps and objects may open, and from how many elements on a list has
 // the open form.
-#[derive(Drop)]
+#[derive(Clone, Copy)]
 pub(crate) struct Scope {
     pub rows: usize,
     pub allowed: usize,
@@ -25,7 +25,7 @@ pub(crate) struct Scope {
 }
 
 // Where writing is then; or there is no record.
-#[derive(Drop)]
+#[derive(Clone, Copy)]
 pub(crate) enum Step {
     Done(Progress),
     NoRecord,

@@ -4,7 +4,7 @@ ghost use Rattle.std.specs.Prelude.{◌≡◌, [], ◌∷◌, ◌+◌, ◌≤◌
 ghost use Rattle.scalar.specs.declared.Sort.TheVariants as kinds;
 ghost use Rattle.scalar.specs.Scalars.{shortest, forms_of};
 ghost use Rattle.scalar.specs.Answers.{sized_form};
-ghost use Rattle.writer.specs.Contracts.{Puts, put_of, PutMet, over_longest};
+ghost use Rattle.writer.specs.Promises.{Puts, put_of, PutMet, over_longest};
 
 use record::limits::LONGEST;
 use scalar::{Encoding, Sort, Written};
@@ -13,7 +13,7 @@ use scalar::{Encoding, Sort, Written};
 const OVER: usize = LONGEST + 1;
 
 // How many bytes there are then; or there is no record.
-#[derive(Drop)]
+#[derive(Clone, Copy)]
 pub(crate) enum Put {
     Done { size: usize },
     NoRecord,

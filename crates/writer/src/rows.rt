@@ -2,13 +2,13 @@
 ghost use Rattle.std.specs.Prelude.{◌≡◌, ◌+◌, ◌^◌, ◌≤◌, ◌<◌};
 ghost use Rattle.record.specs.Laws.RowLaws.{row_of};
 ghost use Rattle.record.specs.ForWriter.WritingAt.{plainly};
-ghost use Rattle.writer.specs.Contracts.{lent_in, row_in, FetchMet};
+ghost use Rattle.writer.specs.Promises.{lent_in, row_in, FetchMet};
 
 use record::kinds::{CLASS, LIST, REFERENCE};
 use record::{ROW_BYTES, ROW_NUMBERS, Row};
 
 // The row at an index, if there is one.
-#[derive(Drop)]
+#[derive(Clone, Copy)]
 pub(crate) enum Fetched {
     Row(Row),
     End,

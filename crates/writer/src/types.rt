@@ -2,8 +2,8 @@
 ghost use Rattle.std.specs.Prelude.{◌≡◌, ◌≤◌};
 ghost use Rattle.record.specs.Model.Kinds.{type_name_kind, type_number_kind};
 ghost use Rattle.record.specs.Laws.KnownArray.{Kept};
-ghost use Rattle.writer.specs.Contracts.{WritableIn, has_type, TypeRowMet, TypeNumberMet, TypeWritten};
-ghost use Rattle.writer.specs.Contracts.{over_longest};
+ghost use Rattle.writer.specs.Promises.{WritableIn, has_type, TypeRowMet, TypeNumberMet, TypeWritten};
+ghost use Rattle.writer.specs.Promises.{over_longest};
 
 use crate::progress::{Progress, Step, Turn};
 use crate::puts::Put;

@@ -2,8 +2,8 @@
 // specs/ForWriter/WrittenContents.antt and WrittenValues.antt.
 ghost use Rattle.std.specs.Prelude.{◌≡◌, ◌≤◌};
 ghost use Rattle.record.specs.ForWriter.WrittenContents.{done};
-ghost use Rattle.writer.specs.Contracts.{WritableIn, TurnIn, Puts, closing, RowBegun, ValueBegun};
-ghost use Rattle.writer.specs.Contracts.{ValuesWritten, over_longest};
+ghost use Rattle.writer.specs.Promises.{WritableIn, TurnIn, Puts, closing, RowBegun, ValueBegun};
+ghost use Rattle.writer.specs.Promises.{ValuesWritten, over_longest};
 
 use crate::definitions::Found;
 use crate::holders::{Interior, ValueStart};
@@ -14,7 +14,7 @@ use record::kinds::{LIST, OBJECT};
 use record::known::{KNOWN, REFERENCES_GIVEN};
 
 // How a value begins, as in holders.rt; of a list, map or object also its fifth number.
-#[derive(Drop)]
+#[derive(Clone, Copy)]
 pub(crate) enum Entered {
     Past(Progress),
     Within {

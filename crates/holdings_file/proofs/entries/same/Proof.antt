@@ -4,7 +4,7 @@ use Prim.Native.Nat.{◌-◌, ◌≤◌}
 use native.Mathlib.Omega.{arith}
 use lib.ListN.{length}
 use borrow.Author.Rules.{rules}
-use Rattle.holdings_file.specs.Contracts.{AsFar}
+use Rattle.holdings_file.specs.Promises.{AsFar}
 use Rattle.holdings_file.proofs.EntryWalks.{differ_length, differ_eight, same_eight}
 use Rattle.holdings_file.proofs.entries.same.Statement.{statement}
 use Rattle.holdings_file.proofs.entries.same.Tie as tie

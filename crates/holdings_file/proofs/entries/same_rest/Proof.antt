@@ -3,7 +3,7 @@ use Prim.Native.Nat.{◌-◌}
 use native.Mathlib.Omega.{arith}
 use lib.ListN.{length}
 use borrow.Author.Rules.{rules}
-use Rattle.holdings_file.specs.Contracts.{AsFar}
+use Rattle.holdings_file.specs.Promises.{AsFar}
 use Rattle.holdings_file.proofs.EntryWalks.{differ_at, same_all, same_next}
 use Rattle.holdings_file.proofs.entries.same_rest.Statement.{statement}
 use Rattle.holdings_file.proofs.entries.same_rest.Tie as tie

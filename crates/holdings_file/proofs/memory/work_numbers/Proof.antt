@@ -1,5 +1,5 @@
 use borrow.Author.Rules.{rules}
-use Rattle.holdings_file.specs.Contracts.{work_numbers}
+use Rattle.holdings_file.specs.Promises.{work_numbers}
 use Rattle.holdings_file.proofs.memory.work_numbers.Statement.{statement}
 use Rattle.holdings_file.proofs.memory.work_numbers.Tie as tie
 

@@ -3,7 +3,7 @@
 -- rows are left.
 use Prim.Native.Nat.{◌-◌}
 use borrow.Author.Rules.{rules}
-use Rattle.writer.specs.Contracts.{items_in}
+use Rattle.writer.specs.Promises.{items_in}
 use Rattle.writer.proofs.Classes.{DefinitionsSoFar, defining_start, defining_end, defining_inside}
 use Rattle.writer.proofs.Classes.{defining_stands, defining_value}
 use Rattle.writer.proofs.Classes.{defining_lost, defining_less, defining_more}

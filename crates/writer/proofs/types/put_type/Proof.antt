@@ -1,7 +1,7 @@
 -- Each way out has its law in proofs/TypeLaws.antt.
 use borrow.Author.Tests.{not-true, not-false}
 use borrow.Author.Rules.{rules}
-use Rattle.writer.specs.Contracts.{has_type}
+use Rattle.writer.specs.Promises.{has_type}
 use Rattle.writer.proofs.TypeLaws.{type_none, type_past, type_refused, type_done}
 use Rattle.writer.proofs.FetchLaws.{items_few, step_fits}
 use Rattle.writer.proofs.types.put_type.Statement.{statement}

@@ -3,7 +3,7 @@
 use mathlib.Core.Path.{◌∙◌}
 use native.Mathlib.Omega.{arith}
 use borrow.Author.Rules.{rules}
-use Rattle.writer.specs.Contracts.{rows_in, items_in}
+use Rattle.writer.specs.Promises.{rows_in, items_in}
 use Rattle.writer.proofs.FetchLaws.{items_few}
 use Rattle.writer.proofs.ValueLaws.{ValuesSoFar, running_start, values_stop, values_none, past_less, past_fits}
 use Rattle.writer.proofs.ValueLaws.{running_past, inner_open, inner_less, inner_ready, values_inner_none}
