@@ -1,0 +1,39 @@
+-- Each way out has its law in proofs/Calls.antt.
+use mathlib.Core.Path.{sym}
+use lib.Seq.{length-take-le}
+use borrow.Author.Rules.{rules}
+use Rattle.holdings_file.proofs.MemoryParts.{work_within}
+use Rattle.holdings_file.proofs.Calls.{add_faulty, extending, add_answers}
+use Rattle.holdings_file.proofs.add_used.Goals as goal
+
+pub begin-buckets-requires : goal.begin-buckets-requires
+begin-buckets-requires c = search (work_within, rules)
+
+pub slice_bounds-check_to_extend-end-2 : goal.slice_bounds-check_to_extend-end-2
+slice_bounds-check_to_extend-end-2 c = let pre = c.requires in
+    sym (length-take-le _ _ pre.1)
+
+pub add_record-requires : goal.add_record-requires
+add_record-requires c = let args = c.args in
+    let pre = c.requires in
+    let begin = c.begin-buckets in
+    let check-to-extend = c.check_to_extend in
+    let count = c.count-1 in
+    extending args.file.now args.used pre.1 begin.result check-to-extend.result
+    check-to-extend.last.1.0 check-to-extend.ensures count.given.0.0 (search rules) args.rows.now
+    args.bytes.now _ pre.0 (search rules) (search rules)
+
+pub returns-in-Faulty : goal.returns-in-Faulty
+returns-in-Faulty c = let args = c.args in
+    let pre = c.requires in
+    let begin = c.begin-buckets in
+    let check-to-extend = c.check_to_extend in
+    search (
+      add_faulty args.file.now args.used pre.1 begin.result check-to-extend.result
+          check-to-extend.new.1.0 check-to-extend.ensures args.«record».now,
+      rules,
+    )
+
+pub returns-in-Whole : goal.returns-in-Whole
+returns-in-Whole c = let add-record = c.add_record in
+    add_answers _ _ _ _ _ _ add-record.ensures

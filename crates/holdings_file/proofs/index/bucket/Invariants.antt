@@ -1,0 +1,11 @@
+-- The loop's invariant: the hash sought goes on from here with the blocks left. The measure is how many are left.
+use native.Mathlib.Omega.{arith}
+use borrow.Author.Rules.{rules}
+use Rattle.holdings_file.proofs.IndexChains.{Hashing, hash_start, hash_next, hash_done}
+use Rattle.holdings_file.proofs.index.bucket.Given as goal
+
+abbrev pub invariant-loop-left : goal.invariant-loop-left
+invariant-loop-left l = Hashing l.message l.hash l.at l.left
+
+abbrev pub decreases-loop-left : goal.decreases-loop-left
+decreases-loop-left l = l.left

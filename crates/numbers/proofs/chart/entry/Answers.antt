@@ -1,0 +1,7 @@
+-- The table has the entries in the order of the bytes.
+use Rattle.std.proofs.Common.{rules}
+use Rattle.scalar.specs.ChartLaws.{entries}
+use Rattle.numbers.proofs.chart.entry.Goals as goal
+
+pub returns : goal.returns
+returns c = entries c.args.b c.ranges.b.fits

@@ -1,0 +1,19 @@
+-- An arm's bytes are those of one form; others are read as any number.
+use Rattle.std.proofs.Common.{arith, rules}
+use Rattle.scalar.specs.declared.Sort.TheVariants.{Long}
+use Rattle.scalar.specs.FormLaws.{forms_long}
+use Rattle.numbers.proofs.Reading.{begins}
+use Rattle.numbers.proofs.Loads.{formed}
+use Rattle.numbers.proofs.direct.pass_wide_long.Goals as goal
+
+pub returns-in-89 : goal.returns-in-89
+returns-in-89 c = formed _ _ _ _ _ Long _ c.five_bytes.ensures (omega arith)
+    (begins Long forms_long 3 (omega arith) (omega arith))
+
+pub returns-in-76 : goal.returns-in-76
+returns-in-76 c = formed _ _ _ _ _ Long _ c.nine_bytes.ensures (omega arith)
+    (begins Long forms_long 4 (omega arith) (omega arith))
+
+pub returns-in-56-to-63 : goal.returns-in-56-to-63
+returns-in-56-to-63 c = formed _ _ _ _ _ Long _ c.three_bytes.ensures (omega arith)
+    (begins Long forms_long 2 (omega arith) (omega arith))

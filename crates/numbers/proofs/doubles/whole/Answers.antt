@@ -1,0 +1,13 @@
+-- `doubles::whole` meets its contract.
+use Rattle.std.proofs.Common.{sym, arith, w16, rules}
+use mir.ValLaws.{to_z-of_z}
+use Rattle.scalar.specs.Ieee.{of_int_no_nan, whole_agrees}
+use Rattle.numbers.proofs.doubles.whole.Goals as goal
+
+pub float_to_bits-result : goal.float_to_bits-result
+float_to_bits-result c = of_int_no_nan _ _
+
+pub returns : goal.returns
+returns c = let n = c.args.n in
+    let f = c.ranges.n in
+    rw (to_z-of_z w16 n f) (sym (whole_agrees n (omega (arith, f.sfits))))

@@ -1,0 +1,10 @@
+-- Each way out has its law in proofs/LengthLaws.antt.
+use Rattle.std.proofs.Common.{rules}
+use Rattle.numbers.proofs.LengthLaws.{length_minutes, length_no_minutes}
+use Rattle.numbers.proofs.lengths.date_length.Goals as goal
+
+pub returns-then-milliseconds-value : goal.returns-then-milliseconds-value
+returns-then-milliseconds-value c = search (length_minutes, rules)
+
+pub returns : goal.returns
+returns c = search (length_no_minutes, rules)

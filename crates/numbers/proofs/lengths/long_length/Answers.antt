@@ -1,0 +1,11 @@
+-- Each way out has its law in proofs/LengthLaws.antt.
+use Rattle.std.proofs.Common.{rules}
+use Rattle.numbers.proofs.Shortest.{long_codes}
+use Rattle.numbers.proofs.LengthLaws.{in_range_law, length_nine}
+use Rattle.numbers.proofs.lengths.long_length.Goals as goal
+
+pub at_most_five-requires : goal.at_most_five-requires
+at_most_five-requires c = search (long_codes, in_range_law, rules)
+
+pub returns : goal.returns
+returns c = search (length_nine, rules)

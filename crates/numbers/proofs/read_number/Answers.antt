@@ -1,0 +1,7 @@
+-- As it was passed, with the length of the shortest form.
+use Rattle.std.proofs.Common.{rules}
+use Rattle.numbers.proofs.Reading.{met_measured}
+use Rattle.numbers.proofs.read_number.Goals as goal
+
+pub returns : goal.returns
+returns c = search (met_measured, rules)

@@ -1,0 +1,7 @@
+-- The forms are those of ints.
+use Rattle.std.proofs.Common.{rules}
+use Rattle.scalar.specs.FormLaws.{forms_int}
+use Rattle.numbers.proofs.spell_int.Goals as goal
+
+pub returns : goal.returns
+returns c = rw forms_int c.spell_whole.ensures

@@ -1,0 +1,12 @@
+-- Each way out has its law in proofs/ThousandthLaws.antt. The rows before i are told.
+use Rattle.std.proofs.Common.{◌-◌, arith, rules}
+use Rattle.record.specs.Model.Answers.{as_bytes}
+use Rattle.record.specs.Laws.TableLaws.{bytes_keep}
+use Rattle.reader.proofs.ThousandthLaws.{Retelling, retelling_start, retelling_next, retelling_end}
+use Rattle.reader.proofs.thousandths.retell_bytes.Given as goal
+
+abbrev pub invariant-loop-i : goal.invariant-loop-i
+invariant-loop-i l = Retelling as_bytes bytes_keep l.message l.initial.table l.rows l.table l.i
+
+abbrev pub decreases-loop-i : goal.decreases-loop-i
+decreases-loop-i l = l.rows - l.i

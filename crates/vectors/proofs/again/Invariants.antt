@@ -1,0 +1,11 @@
+-- `again` meets its contract. The measure is what is left to store.
+use Prim.Native.Nat.{◌-◌}
+use borrow.Author.Rules.{rules}
+use Rattle.vectors.proofs.Stores.{Copied, copied_more, copied_full, copied_all}
+use Rattle.vectors.proofs.again.Given as goal
+
+abbrev pub invariant-loop-back : goal.invariant-loop-back
+invariant-loop-back l = Copied l.initial.bytes l.from l.size l.here l.bytes l.back l.to
+
+abbrev pub decreases-loop-back : goal.decreases-loop-back
+decreases-loop-back l = l.size - l.back
