@@ -208,7 +208,8 @@ module _ {C I : Type 0} (f : From C I One) (G : Phrase C I) where
     pub until_reads : Reads f G → (k : ℕ) (c : C) (at : ℕ) (s : List ℕ) → Bytes s
         → Parsed (λ w n is c'. Ended e G n c w is c') s (until e f k c at s)
     until_reads h zero c at s l = tt
-    until_reads h (suc k) c at s l = takes (λ w n is c'. Ended e G n c w is c') _ c at s l (λ b t m i.
+    until_reads h (suc k) c at s l = takes (λ w n is c'. Ended e G n c w is c')
+        (λ p b. cond (eqb b e) (give 0) (after (f p b) (mapped suc (until e f k)))) c at s l (λ b t m i.
         by_test (λ (g : Read C I ℕ). Parsed (λ w n is c'. Ended e G n c (b ∷ w) is c') t (g c (at + 1) t)) (eqb b e)
         (λ x. gives (λ w n is c'. Ended e G n c (b ∷ w) is c') 0 c (at + 1) t (rw (eqb→eq b e x) (ended finished)))
         (λ x. binds (λ w u is c'. G c (b ∷ w) is c') (λ w n is c'. Ended e G n c (b ∷ w) is c') (f at b)

@@ -16,11 +16,11 @@ bounds-bytes-here c = omega (arith, ltb-true)
 
 pub overflow_add-v : goal.overflow_add-v
 overflow_add-v c = omega (
-      arith,
-      c.wide.ensures,
-      c.type_inv.bytes
-          c.loop-left.here,
-    )
+  arith,
+  c.wide.ensures,
+  c.type_inv.bytes
+      c.loop-left.here,
+)
 
 pub overflow_add-here : goal.overflow_add-here
 overflow_add-here c = omega (arith, ltb-true)
