@@ -16,6 +16,7 @@ calls = (
   after-cut-reads.Learnt,
   last-head-size-reads.Asked,
   last-head-size-reads.Learnt,
+)
 
 leads : (c : lts.Joined2 calls reads.Pre reads.Post invariant-loop decreases-loop)
     → let head = c.before.before in

@@ -10,3 +10,4 @@ returns c = λ z. record {
   short = omega arith;
   inside = omega arith;
   ascii = ascii_part _ _ _ 0 _ _ (omega arith) (omega arith) (c.short_ascii.ensures.0 (not-false _ c.if-not-short_ascii.false));
+    }

@@ -28,7 +28,7 @@ overflow_add-here c = omega (arith, ltb-true)
 pub loop-left-preserved : goal.loop-left-preserved
 loop-left-preserved c = let l = c.loop-left in
     let s = c.args.bytes.now in
-    let h : l.here < length s = ltb-true _ _ c.if-here-len.true in
+    let h : l.here < length s = c.if-here-len.true in
     let b : c.wide.result < 256 =
     omega (arith, c.wide.ensures, c.type_inv.bytes l.here) in (
       omega arith,
@@ -45,7 +45,7 @@ returns-else-here-len c = let l = c.loop-left in
       arith,
       l.invariant,
       joined_past c.args.bytes.now l.here l.left l.v
-          (ltb-false _ _ c.if-here-len.false),
+          c.if-here-len.false,
     )
 
 pub returns-after-loop-left : goal.returns-after-loop-left

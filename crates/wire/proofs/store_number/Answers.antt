@@ -19,6 +19,7 @@ short l at count value h = (
   sym (lt-leb (at + count) (length l) h),
   sym (stored_out l at (be count value)
       (omega (arith, be_length count value))),
+)
 
 pub returns-then-len-at : goal.returns-then-len-at
 returns-then-len-at c = let a = c.args in short a.bytes.now a.at a.count a.value (omega arith)

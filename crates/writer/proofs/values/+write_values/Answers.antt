@@ -60,6 +60,7 @@ write_values-requires t c = (
         c.loop-scope.invariant _ c.finished.ensures c.if-finished.false
         _ _ _ c.begin.ensures _ _ _ c.in-Within.is,
   ),
+    )
 
 pub returns-in-NoRecord-write_values : goal.returns-in-NoRecord-write_values
 returns-in-NoRecord-write_values t c = search (values_inner_none, rules)

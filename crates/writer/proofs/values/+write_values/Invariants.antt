@@ -12,7 +12,7 @@ use Prim.Native.Nat.{ℕ, ◌-◌, ◌<◌}
 use Rattle.writer.proofs.values.+write_values.Given as goal
 
 abbrev pub decreases-write_values : goal.decreases-write_values
-decreases-write_values l = ▢ -- 
+decreases-write_values l = l.scope.allowed
 
 abbrev pub invariant-loop-scope : goal.invariant-loop-scope
 invariant-loop-scope l = ValuesSoFar l.source (rows_in l.numbers l.bytes l.scope.rows) l.scope.rows l.scope.open_from l.scope.allowed
