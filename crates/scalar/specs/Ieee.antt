@@ -1,4 +1,5 @@
 -- Whole numbers and widened floats are the doubles of `lib.Ieee`, IEEE 754's account.
+use lib.Ieee.{nan}
 use Rattle.std.specs.Prelude.{◌≡◌, refl, Bool, true, false, not, cond, ◌&&◌, T, leb, ltb, eqb, ℤ, pos, negsuc, Float}
 use Rattle.std.proofs.Common.{sym, ap, ◌∙◌, lt_of_lt_of_le, lt_irrefl, mul-div_cancel, mul_assoc, mul-one, mul_right_comm, mul_comm, mul-le-mul_right, le_trans, add_assoc, zero-add, arith, pow-add, pow_mono, shl_lt, leb-true, leb-false, eqb-true, eq-eqb, ne_eqb}
 use Prim.Native.Nat.{ℕ, zero, suc, ◌+◌, ◌-◌, ◌*◌, ◌/◌, ◌%◌, ◌^◌, ◌≤◌, ◌<◌, compare}
@@ -72,11 +73,15 @@ scaled_bits (fin t q e) s c m h k l v =
     ap (λ (x : ℕ). x / down e) v.1 ∙ mul-div_cancel (m * 2 ^ c) (down_pos e) in
     rw (n, v.0, p.0, p.1)
     (sym (add_assoc (cond s (2 ^ 63) 0) ((c - 21 - count_leading_zeros 32 m) * 2 ^ 52) (m * 2 ^ (21 + count_leading_zeros 32 m))))
+scaled_bits nan s c m h k l v = elim v [ ]
+scaled_bits (inf _) s c m h k l v = elim v [ ]
 
 -- a value as another fraction
 rescale : (x : Float) (s : Bool) (a c u : ℕ) → HasValue x s a c → HasValue x s (a * u) (c * u)
 rescale (fin t q e) s a c u v =
     (v.0, sym (mul_assoc (q * up e) c u) ∙ ap (λ (y : ℕ). y * u) v.1 ∙ mul_right_comm a (down e) u)
+rescale nan s a c u v = elim v [ ]
+rescale (inf _) s a c u v = elim v [ ]
 
 -- ---- whole numbers
 

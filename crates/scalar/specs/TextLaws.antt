@@ -1,4 +1,6 @@
 -- Texts and byte strings: what is read is a string of the grammar, and a string of the grammar is read; its bytes.
+use Rattle.scalar.specs.Grammar.{later}
+use Rattle.flow.specs.RefusalNumbers.{not_utf8}
 use Rattle.std.specs.Prelude.{◌≡◌, true, false, cond, T, length}
 use Rattle.std.proofs.Math.Path.{refl}
 use mathlib.Core.List.{List, [], ◌∷◌, ◌++◌, append_assoc}
@@ -48,6 +50,7 @@ last_first k y = number_apart (part_head k) y (heads_apart k)
 part_first : (w : Form) {h : List ℕ} {n : ℕ} → Number (w ∷ []) h n → First (λ b. inside w b ≡ true) h
 part_first w (here (held q t l e i)) =
     within_yes w.head (w.head + w.codes) (w.head + q) (omega arith) (omega arith)
+part_first w {h = h} {n = n} (later x5) = elim x5 [ ]
 
 -- ---- reading: what is read is a string
 module _ {C : Type 0} (I : Type 0) where
@@ -55,7 +58,7 @@ module _ {C : Type 0} (I : Type 0) where
   ranged_read : {A : Type 0} (H : Goal C I A) (o lo hi : ℕ) (f : ℕ → Read C I A) (c : C) (at : ℕ) (s : List ℕ) → Bytes s
       → ((b : ℕ) (t : List ℕ) → Bytes t → lo ≤ b → b < hi
       → Parsed (λ w a is c'. H (b ∷ w) a is c') t (f b c (at + 1) t)) → Parsed H s (ranged o lo hi f c at s)
-  ranged_read {A} H o lo hi f c at s l h = takes H _ c at s l (λ b t m i.
+  ranged_read {A} H o lo hi f c at s l h = takes H (λ x x'. cond {0} {A = Read C I A} (within lo hi x') (f x') (fail {C = C} {I = I} {A = A} not_utf8 o)) c at s l (λ b t m i.
       by_test (λ (g : Read C I A). Parsed (λ w a is c'. H (b ∷ w) a is c') t (g c (at + 1) t)) (within lo hi b)
       (λ x. let r = within_is lo hi b x in h b t i r.0 r.1) (λ x. tt))
 
@@ -163,7 +166,7 @@ module _ {C : Type 0} (I : Type 0) where
   octets_read zero c at s l = gives (Whole Binary 0 c) [] c at s (quiet empty)
   octets_read (suc n) c at s l =
       let e : 1 + n ≡ suc n = omega arith in
-      takes (Whole Binary (suc n) c) _ c at s l (λ b t m i.
+      takes (Whole Binary (suc n) c) (λ x x'. mapped {C = C} {I = I} {A = List ℕ} {B = List ℕ} (λ cs. x' ∷ cs) (λ x'' x3 x4. octets {C = C} {I = I} n x'' x3 x4)) c at s l (λ b t m i.
       maps (λ w a is c'. Whole Binary (suc n) c (b ∷ w) a is c') (λ cs. b ∷ cs) t (octets n c (at + 1) t)
       (quietly (Body Binary n) (λ w a is c'. Whole Binary (suc n) c (b ∷ w) (b ∷ a) is c') c t
       (λ w cs z. rw (← e) (quiet (with_char (as_it_is (one_byte m)) z)))

@@ -110,6 +110,7 @@ three_heads a b c m few n l e = split n m
       where
         held_of : {w : Form} {h : List ℕ} → Number (w ∷ []) h n → Held w h n
         held_of (here y) = y
+        held_of {h = h} (later x6) = elim x6 [ ]
 
 last_some : (k : Encoding) (n : ℕ) → n ≤ 65535 → SomeHead (last_heads k) n (last k n)
 unfolding last_heads
@@ -260,9 +261,9 @@ string_content : {k : Encoding} {w cs : List ℕ} → String k w cs → Content 
 string_content (last_chunk y r) = content_counted (body_content r)
 string_content (chunk_before y r x) = content_append (body_content r) (string_content x)
 
-are_bytes : (cs : List ℕ) → Bytes cs → T (are_bytes cs)
-are_bytes [] h = tt
-are_bytes (b ∷ cs) h = and_both (ltb b 256) (are_bytes cs) (lt→ltb b 256 h.0) (are_bytes cs h.1)
+bytes_test : (cs : List ℕ) → Bytes cs → T (are_bytes cs)
+bytes_test [] h = tt
+bytes_test (b ∷ cs) h = and_both (ltb b 256) (are_bytes cs) (lt→ltb b 256 h.0) (bytes_test cs h.1)
 
 bytes_are : (cs : List ℕ) → T (are_bytes cs) → Bytes cs
 bytes_are [] h = tt

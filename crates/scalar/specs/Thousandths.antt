@@ -1,4 +1,6 @@
 -- 2026-11: whole thousandths as doubles.
+use lib.Ieee.{nan}
+use lib.Ieee.{inf}
 use Rattle.std.specs.Prelude.{◌≡◌, Bool, false, not, ℕ, ◌<◌, ◌≤◌, ◌^◌, T, Float, ℤ, pos, negsuc}
 use Rattle.std.proofs.Math.Path.{refl}
 use Rattle.std.proofs.Common.{subst, arith, le→leb, lt→ltb, leb→le, ltb→lt}
@@ -56,6 +58,8 @@ mul_no_nan : (f : Format) (x : Float) (s : Bool) (a c : ℕ) (t : Bool) (n : ℕ
     → T (not (is_nan (mul f x (fin t n d))))
 unfolding mul
 mul_no_nan f (fin s m e) s' a c t n d h = round_no_nan f _ _ _
+mul_no_nan f nan s' a c t n d h = elim h [ ]
+mul_no_nan f (inf _) s' a c t n d h = elim h [ ]
 
 in_32 : (z : ℤ) → mag z < 2 ^ 31 → T (in_float binary64 z)
 unfolding in_float
