@@ -114,7 +114,8 @@ module _ {C : Type 0} (I : Type 0) where
       → ((cs : List ℕ) → Continued j lo hi cs → Char Utf8 u (front ++ cs)) → u + n ≡ m → Fills Utf8 n c g
       → FillsAfter front m c (chained front (continued o j lo hi) g)
   as_is_read front o j lo hi g u n m c x = chained_read front front (continued o j lo hi) g u n m c
-      (λ at s l. continued_read _ o j lo hi c at s l (λ cs r. quiet (as_it_is (x cs r))))
+      (λ at s l. continued_read (Quiet (λ w cs. Sent Utf8 u (front ++ w) (front ++ cs)) c) o j lo hi c at s l
+      (λ cs r. quiet (as_it_is (x cs r))))
 
   -- after a character of two units one unit less is read
   abbrev Less : ℕ → C → Option (Read C I (List ℕ)) → Type 0
@@ -136,7 +137,7 @@ module _ {C : Type 0} (I : Type 0) where
           → FillsAfter (0xed ∷ d ∷ []) (suc n) c (pair_then p d g)
       high none hg r = λ at s l. tt
       high (some g) hg r = chained_read (0xed ∷ d ∷ []) [] (pair_of p d) g 2 hg.0 (suc n) c
-          (λ at s l. pair_read _ p d c at s l (λ x y z i j k. quiet (as_a_pair (r.0, r.1, i, j) k)))
+          (λ at s l. pair_read (Quiet (λ w cs. Sent Utf8 2 (0xed ∷ d ∷ w) cs) c) p d c at s l (λ x y z i j k. quiet (as_a_pair (r.0, r.1, i, j) k)))
           (omega (arith, hg.1)) hg.2
 
   character_read : (n : ℕ) (c : C) (f : Read C I (List ℕ)) (g : Option (Read C I (List ℕ))) → Fills Utf8 n c f
@@ -155,10 +156,11 @@ module _ {C : Type 0} (I : Type 0) where
   characters_read : (n : ℕ) (c : C) → Fills Utf8 n c (characters n)
   characters_read zero c at s l = gives (Whole Utf8 0 c) [] c at s (quiet empty)
   characters_read (suc zero) c at s l =
-      takes (Whole Utf8 1 c) _ c at s l (λ b t m i.
+      takes (Whole Utf8 1 c) (λ p b. character (char_lead b) (characters zero) none p b) c at s l (λ b t m i.
       character_read 0 c (characters zero) none (characters_read zero c) tt at b (char_lead b) refl (at + 1) t i)
   characters_read (suc (suc n)) c at s l =
-      takes (Whole Utf8 (suc (suc n)) c) _ c at s l (λ b t m i.
+      takes (Whole Utf8 (suc (suc n)) c)
+      (λ p b. character (char_lead b) (characters (suc n)) (some (characters n)) p b) c at s l (λ b t m i.
       character_read (suc n) c (characters (suc n)) (some (characters n)) (characters_read (suc n) c)
       (n, refl, characters_read n c) at b (char_lead b) refl (at + 1) t i)
 

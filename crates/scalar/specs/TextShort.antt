@@ -276,7 +276,7 @@ unfolding content
 content_passes {k} {n} {cs} r =
     let q = (body_make One k (content_body r) (tt {0})).makes 0 [] in
     let e : body k n tt 0 cs ≡ Done (length cs) cs q.0 tt = rw append-nil at q.1 in
-    and_both (are_bytes cs) (reads_as cs (body k (units k cs) tt 0 cs)) (are_bytes cs (content_bytes r))
+    and_both (are_bytes cs) (reads_as cs (body k (units k cs) tt 0 cs)) (bytes_test cs (content_bytes r))
     (rw (content_units r, e) (same_refl cs))
 
 pub content_is : (k : Encoding) (cs : List ℕ) → T (content k cs) → Content k (units k cs) cs
