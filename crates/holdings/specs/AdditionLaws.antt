@@ -63,7 +63,7 @@ module _ (R : Rules) (r : List Item) (w : List ℕ) where
         entries = shortest_accepts.entries;
         known = shortest_accepts.known;
         accepted = shortest_accepts.done;
-        short = ap (shortest_by R) shortest_accepts.reads_as_law ∙ e;
+        short = ap (shortest_by R) shortest_accepts.reads_record ∙ e;
       };
       new = l;
     }
@@ -83,7 +83,7 @@ pub shortest_least : (R : Rules) → SoundRules R → (r : List Item) (w : List 
     → (m : List ℕ) → Bytes m → Accepts Floats R.limits m r → length w ≤ length m
 shortest_least R sound r w e m b x =
     let y = shortest_some R sound m b (length m) x.entries x.known x.done in
-    let is = ap (shortest_by R) (sym x.reads_as_law) ∙ y.1 in
+    let is = ap (shortest_by R) (sym x.reads_record) ∙ y.1 in
     let q : y.0 ≡ w = cc in
     omega (arith, y.2, ap length q)
 

@@ -60,7 +60,7 @@ module _ (m : List ℕ) (b : Bytes m) (n : ℕ) (es : List (Entry Item)) (c : Kn
         entries = es;
         known = c;
         done = e ∙ ap (λ (j : ℕ). Done j tt es c) all;
-        reads_as_law = refl;
+        reads_record = refl;
       } in
       omega (arith, accepted_some Floats base m b (items es) x, entries_length x)
 

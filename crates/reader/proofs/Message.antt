@@ -190,12 +190,12 @@ module _ (m : List ℕ) (bytes : (i : ℕ) → Fits w8 (get_or m i 0)) (u : List
         }
 
     module _ (n : ℕ) (e : r ≡ judged.Record n) where
-      record_of_law : IsRecord m u n u'
-      record_of_law = judged_says (judged.Record n) e
+      the_record : IsRecord m u n u'
+      the_record = judged_says (judged.Record n) e
 
       pub into_few : lent < n → ReadIntoMet m t b u lent (answer.TooFew n) t b u'
       into_few l =
-          let w = record_of_law in
+          let w = the_record in
           let h : read Floats base lent m ≡ Refuse 9 n 0 =
           read_small base lent m w.some w.short (length m) w.rows w.after w.says
           (omega arith) (omega (arith, w.counted))
@@ -212,9 +212,9 @@ module _ (m : List ℕ) (bytes : (i : ℕ) → Fits w8 (get_or m i 0)) (u : List
           → ReadIntoMet m t b u lent (answer.Accepted n (length m)) t' b' u'
       into_record l room v t' b' x = go v x.met.says
         where
-          h : read Floats base lent m ≡ Accept (numbered 0 record_of_law.rows) (length m)
+          h : read Floats base lent m ≡ Accept (numbered 0 the_record.rows) (length m)
           h =
-              let w = record_of_law in
+              let w = the_record in
               read_got base lent m w.some w.short (length m) w.rows w.after w.says
               (omega arith) (omega (arith, w.counted))
 
@@ -222,11 +222,11 @@ module _ (m : List ℕ) (bytes : (i : ℕ) → Fits w8 (get_or m i 0)) (u : List
               → ReadIntoMet m t b u lent (answer.Accepted n (length m)) t' b' u'
           go (values-read.Refused y o) s =
               let i = single_lost (value_from Floats base base.containers) start m 0 y o s in
-              let j = record_of_law.says in
+              let j = the_record.says in
               let z : ◌≡◌ {A = ℕ} 0 1 = cc in
               absurd (omega arith)
           go (values-read.Done q i) s =
-              let w = record_of_law in
+              let w = the_record in
               let g =
               single_got (value_from Floats base base.containers) start m 0 q.at i
               s.rows (known_in x.after) s.says in

@@ -19,7 +19,7 @@ use Rattle.record.specs.Model.Shortest.{Put, put_then, put_many, put_bytes, obje
 use Rattle.record.specs.Model.Answers.{base}
 use Rattle.record.specs.Model.Shortest.{code_then}
 use Rattle.record.specs.Laws.Claimed.{item_at}
-use Rattle.record.specs.ForWriter.RowItems.{untyped_list, untyped_map_law, typed_list_law, typed_map_law, an_object, first_item}
+use Rattle.record.specs.ForWriter.RowItems.{untyped_list, untyped_map_law, typed_list_law, typed_map_head, an_object, first_item}
 use Rattle.record.specs.ForWriter.RowItems.{first_none}
 use Rattle.record.specs.ForWriter.RowItems.{both_item}
 use Rattle.record.specs.Laws.Takes.{Drops, takes_drops, bytes_takes, then_takes, many_takes, type_takes}
@@ -462,7 +462,7 @@ module _ (source : List ℕ) (r : code.Row) (is : List Item) (k : ℕ) (z : RowI
     map_at a b = go (eqb (r.kind % 2) 0) refl
       where
         go : (t : Bool) → eqb (r.kind % 2) 0 ≡ t → At is k (Val (map_of t r.first r.second))
-        go true e = z.item _ (both_item source typed_map_law (row_of r) (omega (arith, eqb-true (r.kind % 2) 0 e)))
+        go true e = z.item _ (both_item source typed_map_head (row_of r) (omega (arith, eqb-true (r.kind % 2) 0 e)))
         go false e = let q = eqb-false (r.kind % 2) 0 e in
             z.item _ (first_item source untyped_map_law (row_of r) (omega arith) (second_is (omega arith)))
 

@@ -12,18 +12,18 @@ use Rattle.scalar.specs.Chart.{ranges, range_of, lead_of, kind_of}
 use Rattle.scalar.specs.ScalarLaws.{lead_for}
 use Rattle.record.specs.Model.Items.{Leaf, Val}
 use Rattle.record.specs.Model.Rows.{item_row}
-use Rattle.record.specs.Model.Reading.{ValueHead, leaf, few, few_typed_law, few_object_law, counted, counted_typed_law}
-use Rattle.record.specs.Model.Reading.{open_list_law, open_typed_law, open_map, typed_map_law, object, reference, head_of}
+use Rattle.record.specs.Model.Reading.{ValueHead, leaf, few, few_of_type, few_fields, counted, counted_typed_head}
+use Rattle.record.specs.Model.Reading.{open_list_head, open_typed_head, open_map, typed_map_head, object, reference, head_of}
 
 abbrev pub form_by : Lead → ℕ → ValueHead
 form_by (lead.Number s) b = leaf
 form_by lead.Text b = leaf
 form_by lead.Bytes b = leaf
-form_by lead.List b = pick (eqb b 0x57) open_list_law (pick (eqb b 0x58) counted (few (b - 0x78)))
-form_by lead.TypedList b = pick (eqb b 0x55) open_typed_law (pick (eqb b 0x56) counted_typed_law (few_typed_law (b - 0x70)))
+form_by lead.List b = pick (eqb b 0x57) open_list_head (pick (eqb b 0x58) counted (few (b - 0x78)))
+form_by lead.TypedList b = pick (eqb b 0x55) open_typed_head (pick (eqb b 0x56) counted_typed_head (few_of_type (b - 0x70)))
 form_by lead.Map b = open_map
-form_by lead.TypedMap b = typed_map_law
-form_by lead.Object b = pick (eqb b 0x4f) object (few_object_law (b - 0x60))
+form_by lead.TypedMap b = typed_map_head
+form_by lead.Object b = pick (eqb b 0x4f) object (few_fields (b - 0x60))
 form_by lead.Reference b = reference
 form_by lead.Definition b = leaf
 form_by lead.Close b = leaf
@@ -33,46 +33,46 @@ form_by lead.Reserved b = leaf
 abbrev kind : ValueHead → ℕ
 kind leaf = 0
 kind (few n) = 1
-kind (few_typed_law n) = 2
-kind (few_object_law k) = 3
+kind (few_of_type n) = 2
+kind (few_fields k) = 3
 kind counted = 4
-kind counted_typed_law = 5
-kind open_list_law = 6
-kind open_typed_law = 7
+kind counted_typed_head = 5
+kind open_list_head = 6
+kind open_typed_head = 7
 kind open_map = 8
-kind typed_map_law = 9
+kind typed_map_head = 9
 kind object = 10
 kind reference = 11
 
 abbrev size : ValueHead → ℕ
 size leaf = 0
 size (few n) = n
-size (few_typed_law n) = n
-size (few_object_law k) = k
+size (few_of_type n) = n
+size (few_fields k) = k
 size counted = 0
-size counted_typed_law = 0
-size open_list_law = 0
-size open_typed_law = 0
+size counted_typed_head = 0
+size open_list_head = 0
+size open_typed_head = 0
 size open_map = 0
-size typed_map_law = 0
+size typed_map_head = 0
 size object = 0
 size reference = 0
 
 abbrev formed : ℕ → ℕ → ValueHead
-formed k n = get_or (leaf ∷ few n ∷ few_typed_law n ∷ few_object_law n ∷ counted ∷ counted_typed_law ∷ open_list_law ∷ open_typed_law
-    ∷ open_map ∷ typed_map_law ∷ object ∷ reference ∷ []) k leaf
+formed k n = get_or (leaf ∷ few n ∷ few_of_type n ∷ few_fields n ∷ counted ∷ counted_typed_head ∷ open_list_head ∷ open_typed_head
+    ∷ open_map ∷ typed_map_head ∷ object ∷ reference ∷ []) k leaf
 
 formed_is : (x : ValueHead) → formed (kind x) (size x) ≡ x
 formed_is leaf = refl
 formed_is (few n) = refl
-formed_is (few_typed_law n) = refl
-formed_is (few_object_law k) = refl
+formed_is (few_of_type n) = refl
+formed_is (few_fields k) = refl
 formed_is counted = refl
-formed_is counted_typed_law = refl
-formed_is open_list_law = refl
-formed_is open_typed_law = refl
+formed_is counted_typed_head = refl
+formed_is open_list_head = refl
+formed_is open_typed_head = refl
 formed_is open_map = refl
-formed_is typed_map_law = refl
+formed_is typed_map_head = refl
 formed_is object = refl
 formed_is reference = refl
 

@@ -49,14 +49,14 @@ module _ (ρ : DoubleRule) (ℓ : Limits) (open_from : ℕ) (most : open_from �
   rows_under Floats =
       let x = answer_holds Floats ℓ (length rs) m bytes (numbered 0 rs) (length m) got in
       ap (λ (l : List Row). total (map (row_length m) l)) x.holds
-      ∙ rows_measured Floats ℓ open_from most m bytes x.record_of_law x.accepts
+      ∙ rows_measured Floats ℓ open_from most m bytes x.the_record x.accepts
   rows_under Thousandths =
       let retold = read_in_thousandths_law m ℓ (length rs) ∙ ap (result_in_thousandths m ℓ) got in
       let x = answer_holds Thousandths ℓ (length rs) m bytes (map (row_in_thousandths m) (numbered 0 rs)) (length m)
       retold in
       lengths_in_thousandths m (numbered 0 rs)
       ∙ ap (λ (l : List Row). total (map (row_length m) l)) x.holds
-      ∙ rows_measured Thousandths ℓ open_from most m bytes x.record_of_law x.accepts
+      ∙ rows_measured Thousandths ℓ open_from most m bytes x.the_record x.accepts
 
   length_is : (ρ : DoubleRule) → total (map (length_under ρ m) rs) ≡ shortest_length ρ ℓ open_from m
   length_is ρ = sym (lengths_numbered m ρ 0 rs) ∙ rows_under ρ

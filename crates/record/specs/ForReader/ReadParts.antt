@@ -186,9 +186,9 @@ module _ (ℓ : Limits) (c : Known) (m : List ℕ) (p : ℕ) where
         type_laid o h = name_test ∙ pick_true _ _ (lt-ltb c.types ℓ.types s)
             ∙ ap (through (λ u. c.types)) (name_laid (typed c) m p 18 TypeName (λ cs. refl) (omega arith) o h)
 
-        pub type_name_law : (n u b w : ℕ) → measured_at Utf8 m p ≡ Done n (sized u b w) [] tt
+        pub type_spelled : (n u b w : ℕ) → measured_at Utf8 m p ≡ Done n (sized u b w) [] tt
             → run (byte_at (type_from ℓ)) c m p ≡ ReadTo (p + n) c.types (row 18 p u b 1 ∷ []) (typed c)
-        type_name_law n u b w h = type_laid (Done n (sized u b w) [] tt) h
+        type_spelled n u b w h = type_laid (Done n (sized u b w) [] tt) h
 
         pub type_name_lost : (x o : ℕ) → measured_at Utf8 m p ≡ Fault x o
             → run (byte_at (type_from ℓ)) c m p ≡ RefusedAt x o
@@ -210,9 +210,9 @@ module _ (ℓ : Limits) (c : Known) (m : List ℕ) (p : ℕ) where
           ∙ ap (topped p TypeNumber) (run_give k c m (p + n))))
           (run_fail 6 p c m (p + n))
 
-      pub type_number_law : (n k : ℕ) → number_at Int m p ≡ Done n k [] tt → k < c.types
+      pub type_numbered : (n k : ℕ) → number_at Int m p ≡ Done n k [] tt → k < c.types
           → run (byte_at (type_from ℓ)) c m p ≡ ReadTo (p + n) k (row 19 p k 0 1 ∷ []) c
-      type_number_law n k h s = number_test n k h ∙ pick_true _ _ (lt-ltb k c.types s)
+      type_numbered n k h s = number_test n k h ∙ pick_true _ _ (lt-ltb k c.types s)
 
       pub type_ungiven : (n k : ℕ) → number_at Int m p ≡ Done n k [] tt → c.types ≤ k
           → run (byte_at (type_from ℓ)) c m p ≡ RefusedAt 6 p

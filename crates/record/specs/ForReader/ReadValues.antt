@@ -30,8 +30,8 @@ use Rattle.record.specs.Model.Items.{Val, Known, opened, Limits}
 use Rattle.record.specs.Model.Reading.{Reader, Opening, int, count, field_values, type_from, with_type, plain_from}
 use Rattle.record.specs.Model.Containers.{pair}
 use Rattle.record.specs.Model.Rows.{Row, row, item_row}
-use Rattle.record.specs.Model.Reading.{ValueHead, leaf, few, few_typed_law, few_object_law, counted, counted_typed_law}
-use Rattle.record.specs.Model.Reading.{open_list_law, open_typed_law, open_map, typed_map_law, object, reference, head_of}
+use Rattle.record.specs.Model.Reading.{ValueHead, leaf, few, few_of_type, few_fields, counted, counted_typed_head}
+use Rattle.record.specs.Model.Reading.{open_list_head, open_typed_head, open_map, typed_map_head, object, reference, head_of}
 use Rattle.record.specs.Model.Reading.{plain_by}
 use Rattle.record.specs.Laws.ValueHeads.{plain_is}
 use Rattle.record.specs.Model.Reading.{Two, with_two, reference_to}
@@ -186,28 +186,28 @@ heading Pairs (some t) k = Val (TypedMap k t)
 abbrev pub holds : ValueHead → Bool
 holds leaf = false
 holds (few n) = true
-holds (few_typed_law n) = true
-holds (few_object_law k) = true
+holds (few_of_type n) = true
+holds (few_fields k) = true
 holds counted = true
-holds counted_typed_law = true
-holds open_list_law = true
-holds open_typed_law = true
+holds counted_typed_head = true
+holds open_list_head = true
+holds open_typed_head = true
 holds open_map = true
-holds typed_map_law = true
+holds typed_map_head = true
 holds object = true
 holds reference = false
 
 abbrev pub has_type : ValueHead → Bool
 has_type leaf = false
 has_type (few n) = false
-has_type (few_typed_law n) = true
-has_type (few_object_law k) = false
+has_type (few_of_type n) = true
+has_type (few_fields k) = false
 has_type counted = false
-has_type counted_typed_law = true
-has_type open_list_law = false
-has_type open_typed_law = true
+has_type counted_typed_head = true
+has_type open_list_head = false
+has_type open_typed_head = true
 has_type open_map = false
-has_type typed_map_law = true
+has_type typed_map_head = true
 has_type object = false
 has_type reference = false
 
@@ -242,14 +242,14 @@ module _ (ℓ : Limits) (below : Option (Opening One)) (c : Known) (m : List ℕ
       go : (x : ValueHead) → T (holds x) → run (plain_by Floats ℓ none x p (get_or m p 0)) c m (p + 1) ≡ RefusedAt 7 p
       go leaf t = absurd t
       go (few n) t = refl
-      go (few_typed_law n) t = refl
-      go (few_object_law k) t = refl
+      go (few_of_type n) t = refl
+      go (few_fields k) t = refl
       go counted t = refl
-      go counted_typed_law t = refl
-      go open_list_law t = refl
-      go open_typed_law t = refl
+      go counted_typed_head t = refl
+      go open_list_head t = refl
+      go open_typed_head t = refl
       go open_map t = refl
-      go typed_map_law t = refl
+      go typed_map_head t = refl
       go object t = refl
       go reference t = absurd t
 
@@ -278,10 +278,10 @@ module _ (ℓ : Limits) (below : Option (Opening One)) (c : Known) (m : List ℕ
         ∙ ap (topped p (heading (Counted n) none)) (sym (run_mapped (λ u. n) (many f n) (opened c) m (p + 1))
         ∙ rest_many f m n (opened c) (p + 1))
 
-    pub form_open : head_of (get_or m p 0) ≡ open_list_law → Here ≡ topped p (heading Open none)
+    pub form_open : head_of (get_or m p 0) ≡ open_list_head → Here ≡ topped p (heading Open none)
         (run (rest f Open 0) (opened c) m (p + 1))
     unfolding plain_by
-    form_open h = held (heading Open none) (until_end 0x5a f) open_list_law refl h
+    form_open h = held (heading Open none) (until_end 0x5a f) open_list_head refl h
         ∙ ap (topped p (heading Open none)) (rest_open f m (opened c) (p + 1))
 
     pub form_map : head_of (get_or m p 0) ≡ open_map → Here ≡ topped p (heading Pairs none)
@@ -313,10 +313,10 @@ module _ (ℓ : Limits) (below : Option (Opening One)) (c : Known) (m : List ℕ
           (count_lost (λ o n. mapped (λ u. n) (many f n)) (opened c) m (p + 1) (omega arith) x o e)
 
     -- objects
-    module _ (k : ℕ) (h : head_of (get_or m p 0) ≡ few_object_law k) where
+    module _ (k : ℕ) (h : head_of (get_or m p 0) ≡ few_fields k) where
       few_object_by : Here ≡ topped p (λ n. Val (Object k n)) (run (field_values f p k) (opened c) m (p + 1))
       unfolding plain_by
-      few_object_by = held (λ n. Val (Object k n)) (field_values f p k) (few_object_law k) refl h
+      few_object_by = held (λ n. Val (Object k n)) (field_values f p k) (few_fields k) refl h
 
       pub form_few_object : (n : ℕ) → n ≡ get_or c.classes k 0 → k < length c.classes
           → Here ≡ topped p (heading (Fields k n) none) (run (rest f (Fields k n) 0) (opened c) m (p + 1))
@@ -375,19 +375,19 @@ module _ (ℓ : Limits) (below : Option (Opening One)) (c : Known) (m : List ℕ
     unfolding plain_by
     form_type_lost leaf h t y o e = absurd t
     form_type_lost (few n) h t y o e = absurd t
-    form_type_lost (few_typed_law n) h t y o e =
-        behind_type (λ t. Val (TypedList n t)) (λ t. mapped (λ u. t) (many f n)) (few_typed_law n) refl h (RefusedAt y o) e
-    form_type_lost (few_object_law k) h t y o e = absurd t
+    form_type_lost (few_of_type n) h t y o e =
+        behind_type (λ t. Val (TypedList n t)) (λ t. mapped (λ u. t) (many f n)) (few_of_type n) refl h (RefusedAt y o) e
+    form_type_lost (few_fields k) h t y o e = absurd t
     form_type_lost counted h t y o e = absurd t
-    form_type_lost counted_typed_law h t y o e =
+    form_type_lost counted_typed_head h t y o e =
         behind_type (λ (x : ℕ × ℕ). Val (TypedList x.1 x.0)) (λ t. count
-        (λ o n. mapped (λ u. with_two t n) (many f n))) counted_typed_law refl h (RefusedAt y o) e
-    form_type_lost open_list_law h t y o e = absurd t
-    form_type_lost open_typed_law h t y o e = behind_type (λ (x : ℕ × ℕ). Val (TypedList x.1 x.0))
-        (λ t. mapped (with_two t) (until_end 0x5a f)) open_typed_law refl h (RefusedAt y o) e
+        (λ o n. mapped (λ u. with_two t n) (many f n))) counted_typed_head refl h (RefusedAt y o) e
+    form_type_lost open_list_head h t y o e = absurd t
+    form_type_lost open_typed_head h t y o e = behind_type (λ (x : ℕ × ℕ). Val (TypedList x.1 x.0))
+        (λ t. mapped (with_two t) (until_end 0x5a f)) open_typed_head refl h (RefusedAt y o) e
     form_type_lost open_map h t y o e = absurd t
-    form_type_lost typed_map_law h t y o e = behind_type (λ (x : ℕ × ℕ). Val (TypedMap x.1 x.0))
-        (λ t. mapped (with_two t) (until_end 0x5a (pair f))) typed_map_law refl h (RefusedAt y o) e
+    form_type_lost typed_map_head h t y o e = behind_type (λ (x : ℕ × ℕ). Val (TypedMap x.1 x.0))
+        (λ t. mapped (with_two t) (until_end 0x5a (pair f))) typed_map_head refl h (RefusedAt y o) e
     form_type_lost object h t y o e = absurd t
     form_type_lost reference h t y o e = absurd t
 
@@ -413,39 +413,39 @@ module _ (ℓ : Limits) (below : Option (Opening One)) (c : Known) (m : List ℕ
           ∙ sym (mapped_topped (heading (Counted n) (some t)) (λ u. n) (many f n) q)
           ∙ ap (λ (o : ReadingAt ℕ). topped p (heading (Counted n) (some t)) (front rs o)) (rest_many f m n c₁ q)
 
-      pub form_few_typed : (n : ℕ) → head_of (get_or m p 0) ≡ few_typed_law n
+      pub form_few_typed : (n : ℕ) → head_of (get_or m p 0) ≡ few_of_type n
           → Here ≡ topped p (heading (Counted n) (some t)) (front rs (run (rest f (Counted n) 0) c₁ m e))
       unfolding plain_by
       form_few_typed n h =
-          behind_type (λ t. Val (TypedList n t)) (λ t. mapped (λ u. t) (many f n)) (few_typed_law n) refl h
+          behind_type (λ t. Val (TypedList n t)) (λ t. mapped (λ u. t) (many f n)) (few_of_type n) refl h
           (ReadTo e t rs c₁) y
           ∙ many_topped (λ t. Val (TypedList n t)) t n e refl
 
-      pub form_open_typed : head_of (get_or m p 0) ≡ open_typed_law → Here ≡ topped p (heading Open (some t))
+      pub form_open_typed : head_of (get_or m p 0) ≡ open_typed_head → Here ≡ topped p (heading Open (some t))
           (front rs (run (rest f Open 0) c₁ m e))
       unfolding plain_by
       form_open_typed h =
           behind_type (λ (x : ℕ × ℕ). Val (TypedList x.1 x.0)) (λ t. mapped (with_two t) (until_end 0x5a f))
-          open_typed_law refl h (ReadTo e t rs c₁) y
+          open_typed_head refl h (ReadTo e t rs c₁) y
           ∙ mapped_topped (λ (x : ℕ × ℕ). Val (TypedList x.1 x.0)) (with_two t) (until_end 0x5a f) e
           ∙ ap (λ (o : ReadingAt ℕ). topped p (heading Open (some t)) (front rs o)) (rest_open f m c₁ e)
 
-      pub form_typed_map : head_of (get_or m p 0) ≡ typed_map_law → Here ≡ topped p (heading Pairs (some t))
+      pub form_typed_map : head_of (get_or m p 0) ≡ typed_map_head → Here ≡ topped p (heading Pairs (some t))
           (front rs (run (rest f Pairs 0) c₁ m e))
       unfolding plain_by
       form_typed_map h =
           behind_type (λ (x : ℕ × ℕ). Val (TypedMap x.1 x.0)) (λ t. mapped (with_two t) (until_end 0x5a (pair f)))
-          typed_map_law refl h (ReadTo e t rs c₁) y
+          typed_map_head refl h (ReadTo e t rs c₁) y
           ∙ mapped_topped (λ (x : ℕ × ℕ). Val (TypedMap x.1 x.0)) (with_two t) (until_end 0x5a (pair f)) e
           ∙ ap (λ (o : ReadingAt ℕ). topped p (heading Pairs (some t)) (front rs o)) (rest_pairs f m c₁ e)
 
-      module _ (h : head_of (get_or m p 0) ≡ counted_typed_law) (i : e ≤ length m) where
+      module _ (h : head_of (get_or m p 0) ≡ counted_typed_head) (i : e ≤ length m) where
         counted_typed_by : (o : ReadingAt Two) → run (count (λ o n. mapped (λ u. with_two t n) (many f n))) c₁ m e ≡ o
             → Here ≡ topped p (λ (x : ℕ × ℕ). Val (TypedList x.1 x.0)) (front rs o)
         unfolding plain_by
         counted_typed_by o q =
             behind_type (λ (x : ℕ × ℕ). Val (TypedList x.1 x.0))
-            (λ t. count (λ o n. mapped (λ u. with_two t n) (many f n))) counted_typed_law refl h (ReadTo e t rs c₁) y
+            (λ t. count (λ o n. mapped (λ u. with_two t n) (many f n))) counted_typed_head refl h (ReadTo e t rs c₁) y
             ∙ ap (λ (o : ReadingAt Two). topped p (λ (x : ℕ × ℕ). Val (TypedList x.1 x.0)) (front rs o)) q
 
         pub form_counted_typed : (n v : ℕ) → number_at Int m e ≡ Done n v [] tt → v < 2 ^ 63

@@ -30,12 +30,12 @@ pub data OfFirst : ℕ → (ℕ → Item) → Type 0 where
   untyped_map_law : OfFirst 11 (λ n. Val (UntypedMap n))
   a_reference : OfFirst 14 (λ k. Val (Reference k))
   a_definition : OfFirst 15 (λ n. Definition n)
-  type_number_law : OfFirst 19 (λ k. TypeNumber k)
+  type_numbered : OfFirst 19 (λ k. TypeNumber k)
 
 -- 10, 12, 13: by both numbers
 pub data OfBoth : ℕ → (ℕ → ℕ → Item) → Type 0 where
   typed_list_law : OfBoth 10 (λ n t. Val (TypedList n t))
-  typed_map_law : OfBoth 12 (λ n t. Val (TypedMap n t))
+  typed_map_head : OfBoth 12 (λ n t. Val (TypedMap n t))
   an_object : OfBoth 13 (λ k n. Val (Object k n))
 
 -- 7, 16, 17, 18: by the text at the place
@@ -43,7 +43,7 @@ pub data OfText : ℕ → (List ℕ → Item) → Type 0 where
   a_text : OfText 7 (λ cs. Val (Leaf (Str Utf8 cs)))
   class_name : OfText 16 (λ cs. ClassName cs)
   field_name : OfText 17 (λ cs. FieldName cs)
-  type_name_law : OfText 18 (λ cs. TypeName cs)
+  type_spelled : OfText 18 (λ cs. TypeName cs)
 
 module _ (source : List ℕ) where
   by_kind : (x : Row) (k : ℕ) → x.kind ≡ k → item_at (content_at source) x
@@ -65,7 +65,7 @@ module _ (source : List ℕ) where
   first_is untyped_map_law p a b z = refl
   first_is a_reference p a b z = refl
   first_is a_definition p a b z = refl
-  first_is type_number_law p a b z = refl
+  first_is type_numbered p a b z = refl
 
   module _ {k : ℕ} {f : ℕ → Item} (t : OfFirst k f) (x : Row) (h : x.kind ≡ k) where
     pub first_item : x.second ≡ 0 → item_at (content_at source) x ≡ some (f x.first)
@@ -85,7 +85,7 @@ module _ (source : List ℕ) where
       ≡ cond ((eqb p p && (eqb a a && eqb b b)) && true) (some (f a b)) none
   unfolding item_at of_kind pick content_at
   both_is typed_list_law p a b z = refl
-  both_is typed_map_law p a b z = refl
+  both_is typed_map_head p a b z = refl
   both_is an_object p a b z = refl
 
   pub both_item : {k : ℕ} {f : ℕ → ℕ → Item} → OfBoth k f → (x : Row) → x.kind ≡ k
@@ -109,7 +109,7 @@ module _ (source : List ℕ) where
   text_is a_text p a b z = refl
   text_is class_name p a b z = refl
   text_is field_name p a b z = refl
-  text_is type_name_law p a b z = refl
+  text_is type_spelled p a b z = refl
 
   same_true : (cs : List ℕ) → same_list cs cs ≡ true
   same_true cs = go (same_list cs cs) (same_refl cs)

@@ -65,10 +65,10 @@ module _ (ℓ : Limits) (t : ℕ) (c : Known) (is : List Item) (k : ℕ) where
         ∙ ap (λ (o : Option (List ℕ)). walk (put_if (eqb c.types t && ltb c.types ℓ.types)
         (λ c r. put_bytes o (typed c) r)) c is (suc k)) h
 
-    pub type_name_law : c.types ≡ t → c.types < ℓ.types → (w : List ℕ) → shortest_text cs ≡ some w
+    pub type_spelled : c.types ≡ t → c.types < ℓ.types → (w : List ℕ) → shortest_text cs ≡ some w
         → TypeHere ≡ WrittenTo w (suc k) (typed c)
     unfolding walk
-    type_name_law x y w h =
+    type_spelled x y w h =
         named (some w) h
         ∙ walk_both c is (suc k) (λ c r. put_bytes (some w) (typed c) r) (eqb c.types t) (ltb c.types ℓ.types)
         (eq-eqb c.types t x) (lt-ltb c.types ℓ.types y)
@@ -99,8 +99,8 @@ module _ (ℓ : Limits) (t : ℕ) (c : Known) (is : List Item) (k : ℕ) where
         ap (λ (s : List Item). writing_of is (put_type ℓ t c s)) e
         ∙ ap (λ (o : Option (List ℕ)). walk (put_if (eqb j t && ltb j c.types) (put_bytes o)) c is (suc k)) h
 
-    pub type_number_law : j ≡ t → j < c.types → (w : List ℕ) → shortest_int j ≡ some w → TypeHere ≡ WrittenTo w (suc k) c
-    type_number_law x y w h =
+    pub type_numbered : j ≡ t → j < c.types → (w : List ℕ) → shortest_int j ≡ some w → TypeHere ≡ WrittenTo w (suc k) c
+    type_numbered x y w h =
         numbered (some w) h
         ∙ walk_both c is (suc k) (put_bytes (some w)) (eqb j t) (ltb j c.types) (eq-eqb j t x) (lt-ltb j c.types y)
         ∙ walk_bytes c is (suc k) w (at_within is k (TypeNumber j) e)

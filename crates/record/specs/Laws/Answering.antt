@@ -41,7 +41,7 @@ module _ (ρ : DoubleRule) (ℓ : Limits) where
             known = c;
             done = done_judged ρ ℓ m (length m) es c l (e
                 ∙ ap (λ (k : ℕ). Done k tt es c) all);
-            reads_as_law = a;
+            reads_record = a;
           }
       go (Fault y o) e a = absurd a
 
@@ -97,7 +97,7 @@ module _ (ρ : DoubleRule) (ℓ : Limits) where
               known = c;
               done = e
                   ∙ ap (λ (j : ℕ). Done j tt es c) all;
-              reads_as_law = refl;
+              reads_record = refl;
             } in
             pick_either P (ltb lent (length es)) (λ t. few (items es) x (ltb-true lent (length es) t))
             (λ t. subst (λ (j : ℕ). P (Accept (rows es) j)) (sym all)

@@ -16,7 +16,7 @@ use Rattle.scalar.specs.Scalars.{Floats}
 use Rattle.record.specs.Model.Items.{Value, Leaf, UntypedList, TypedList, UntypedMap, TypedMap, Object, Reference}
 use Rattle.record.specs.Model.Items.{Item, Val, Definition, ClassName, FieldName, TypeName, TypeNumber, Known}
 use Rattle.record.specs.Model.Items.{start, opened, typed, defined, Limits}
-use Rattle.record.specs.Model.Grammar.{NameForm, a_name, TypeForm, type_name_law, type_number_law, PairForm, a_pair}
+use Rattle.record.specs.Model.Grammar.{NameForm, a_name, TypeForm, type_spelled, type_numbered, PairForm, a_pair}
 use Rattle.record.specs.Model.Grammar.{DefinitionForm, a_definition, PlainForm, a_leaf, a_few, a_counted, an_open}
 use Rattle.record.specs.Model.Grammar.{a_few_typed, a_counted_typed, an_open_typed, a_map, a_typed_map}
 use Rattle.record.specs.Model.Grammar.{a_few_object, an_object, a_reference, ValueForm, Message}
@@ -207,11 +207,11 @@ module _ (ℓ : Limits) (open_from : ℕ) (most : open_from ≤ 48) where
       written : (c : Known) (cs : List ℕ) → c.types ≡ t → c.types < ℓ.types
           → {w : List ℕ} {is : List Item} {c' : Known} → Raw (λ w. Text w cs) (typed c) w is c'
           → TypeForm ℓ c w t (TypeName cs ∷ is) c'
-      written c cs e l {w} (raw y) = subst (λ (z : ℕ). TypeForm ℓ c w z (TypeName cs ∷ []) (typed c)) e (type_name_law l y)
+      written c cs e l {w} (raw y) = subst (λ (z : ℕ). TypeForm ℓ c w z (TypeName cs ∷ []) (typed c)) e (type_spelled l y)
 
       numbered : (c : Known) (k : ℕ) → k ≡ t → k < c.types → {w : List ℕ} {is : List Item} {c' : Known}
           → Raw (λ w. Int w k) c w is c' → TypeForm ℓ c w t (TypeNumber k ∷ is) c'
-      numbered c k e l {w} (raw y) = subst (λ (z : ℕ). TypeForm ℓ c w z (TypeNumber k ∷ []) c) e (type_number_law y l)
+      numbered c k e l {w} (raw y) = subst (λ (z : ℕ). TypeForm ℓ c w z (TypeNumber k ∷ []) c) e (type_numbered y l)
 
       go : (c : Known) (r : List Item) → Back (λ w is c'. TypeForm ℓ c w t is c') r (put_type ℓ t c r)
       go c [] = tt

@@ -26,14 +26,14 @@ use Rattle.record.specs.Model.Items.{typed, defined, Limits}
 use Rattle.record.specs.Model.Reading.{Reader, Opening, int, count, name, container, field_values, type_from}
 use Rattle.record.specs.Model.Reading.{with_type, field_names, plain_from, definition, value_from}
 use Rattle.record.specs.Model.Containers.{pair}
-use Rattle.record.specs.Model.Reading.{ValueHead, leaf, few, few_typed_law, few_object_law, counted, counted_typed_law}
-use Rattle.record.specs.Model.Reading.{open_list_law, open_typed_law, open_map, typed_map_law, object, reference, head_of}
+use Rattle.record.specs.Model.Reading.{ValueHead, leaf, few, few_of_type, few_fields, counted, counted_typed_head}
+use Rattle.record.specs.Model.Reading.{open_list_head, open_typed_head, open_map, typed_map_head, object, reference, head_of}
 use Rattle.record.specs.Model.Reading.{plain_by}
 use Rattle.record.specs.Laws.ValueHeads.{few_head, few_typed_head, few_object_head, leaf_head}
 use Rattle.record.specs.Laws.ValueHeads.{plain_is, singles, no_scalar}
 use Rattle.record.specs.Model.Reading.{with_two, type_number, reference_to, type_name}
 use Rattle.record.specs.Model.Grammar.{Nowhere}
-use Rattle.record.specs.Model.Grammar.{NameForm, a_name, TypeForm, type_name_law, type_number_law, PairForm, a_pair}
+use Rattle.record.specs.Model.Grammar.{NameForm, a_name, TypeForm, type_spelled, type_numbered, PairForm, a_pair}
 use Rattle.record.specs.Model.Grammar.{DefinitionForm, a_definition, PlainForm, a_leaf, a_few, a_counted, an_open}
 use Rattle.record.specs.Model.Grammar.{a_few_typed, a_counted_typed, an_open_typed, a_map, a_typed_map}
 use Rattle.record.specs.Model.Grammar.{a_few_object, an_object, a_reference, ValueForm}
@@ -84,7 +84,7 @@ module _ (ρ : DoubleRule) (ℓ : Limits) where
   type_makes : {c c' : Known} {w : List ℕ} {t : ℕ} {is : List Item} → TypeForm ℓ c w t is c'
       → Leads (type_from ℓ) c w t is c'
   unfolding type_from
-  type_makes (type_name_law {c = c} {w = w} {cs = cs} l r) = go w (text_first r) (text_makes Item r (typed c))
+  type_makes (type_spelled {c = c} {w = w} {cs = cs} l r) = go w (text_first r) (text_makes Item r (typed c))
     where
       go : (w : List ℕ) → First (λ b. T (is_text b)) w → Leads {I = Item} text_from (typed c) w cs [] (typed c)
           → Leads (type_from ℓ) c w c.types (TypeName cs ∷ []) (typed c)
@@ -97,7 +97,7 @@ module _ (ρ : DoubleRule) (ℓ : Limits) where
           (fail 7 p) (lt→ltb c.types ℓ.types l)
           (map_makes (λ (u : One). c.types) (changing typed (name TypeName p b))
           (change_makes typed (name TypeName p b) (head_makes p TypeName (text_from p b) (h p))))))
-  type_makes (type_number_law {c = c} {w = w} {k = k} x l) = go w (int_first x) (int_makes Item x c)
+  type_makes (type_numbered {c = c} {w = w} {k = k} x l) = go w (int_first x) (int_makes Item x c)
     where
       go : (w : List ℕ) → First (λ b. T (not (is_text b))) w → Leads {I = Item} int_from c w k [] c
           → Leads (type_from ℓ) c w k (TypeNumber k ∷ []) c
@@ -157,21 +157,21 @@ module _ (ρ : DoubleRule) (ℓ : Limits) where
           (λ p. holds (λ n. Val (UntypedList n)) (λ f. count (λ o n. mapped (λ u. n) (many f n))) p r
           (λ f hf x. count_then (λ o n. mapped (λ u. n) (many f n)) i l
           (λ o. map_makes (λ (u : One). n) (many f n) (many_makes f G hf y))))
-      plain_makes c w is c' (an_open r y) = by_form_law open_list_law 0x57 singles.of_open_list
+      plain_makes c w is c' (an_open r y) = by_form_law open_list_head 0x57 singles.of_open_list
           (λ p. holds (λ n. Val (UntypedList n)) (until_end 0x5a) p r (λ f hf x. end_makes f G 0x5a hf x y))
       plain_makes c w is c' (a_few_typed {n = n} {t = t} r l q y) =
-          by_form_law (few_typed_law n) (0x70 + n) (few_typed_head n l)
+          by_form_law (few_of_type n) (0x70 + n) (few_typed_head n l)
           (λ p. holds (λ t. Val (TypedList n t)) (λ f. with_type ℓ (λ t. mapped (λ u. t) (many f n))) p r
           (λ f hf x. type_then (λ t. mapped (λ u. t) (many f n)) q (map_makes (λ (u : One). t) (many f n)
           (many_makes f G hf y))))
       plain_makes c w is c' (a_counted_typed {n = n} {t = t} r q i l y) =
-          by_form_law counted_typed_law 0x56 singles.of_counted_typed
+          by_form_law counted_typed_head 0x56 singles.of_counted_typed
           (λ p. holds (λ (x : ℕ × ℕ). Val (TypedList x.1 x.0)) (λ f. with_type ℓ
           (λ t. count (λ o n. mapped (λ u. with_two t n) (many f n)))) p r
           (λ f hf x. type_then (λ t. count (λ o n. mapped (λ u. with_two t n) (many f n))) q
           (count_then (λ o n. mapped (λ u. with_two t n) (many f n)) i l
           (λ o. map_makes (λ (u : One). with_two t n) (many f n) (many_makes f G hf y)))))
-      plain_makes c w is c' (an_open_typed {t = t} r q y) = by_form_law open_typed_law 0x55 singles.of_open_typed
+      plain_makes c w is c' (an_open_typed {t = t} r q y) = by_form_law open_typed_head 0x55 singles.of_open_typed
           (λ p. holds (λ (x : ℕ × ℕ). Val (TypedList x.1 x.0)) (λ f. with_type ℓ
           (λ t. mapped (with_two t) (until_end 0x5a f))) p r
           (λ f hf x. type_then (λ t. mapped (with_two t) (until_end 0x5a f)) q
@@ -179,13 +179,13 @@ module _ (ρ : DoubleRule) (ℓ : Limits) where
       plain_makes c w is c' (a_map r y) = by_form_law open_map 0x48 singles.of_open_map
           (λ p. holds (λ n. Val (UntypedMap n)) (λ f. until_end 0x5a (pair f)) p r
           (λ f hf x. end_makes (pair f) (PairForm G) 0x5a (pair_makes f G hf) (pair_shut f 0x5a x) y))
-      plain_makes c w is c' (a_typed_map {t = t} r q y) = by_form_law typed_map_law 0x4d singles.of_typed_map
+      plain_makes c w is c' (a_typed_map {t = t} r q y) = by_form_law typed_map_head 0x4d singles.of_typed_map
           (λ p. holds (λ (x : ℕ × ℕ). Val (TypedMap x.1 x.0)) (λ f. with_type ℓ
           (λ t. mapped (with_two t) (until_end 0x5a (pair f)))) p r
           (λ f hf x. type_then (λ t. mapped (with_two t) (until_end 0x5a (pair f))) q
           (map_makes (with_two t) (until_end 0x5a (pair f))
           (end_makes (pair f) (PairForm G) 0x5a (pair_makes f G hf) (pair_shut f 0x5a x) y))))
-      plain_makes c w is c' (a_few_object {k = k} r l i y) = by_form_law (few_object_law k) (0x60 + k) (few_object_head k l)
+      plain_makes c w is c' (a_few_object {k = k} r l i y) = by_form_law (few_fields k) (0x60 + k) (few_object_head k l)
           (λ p. holds (λ n. Val (Object k n)) (λ f. field_values f p k) p r (λ f hf x. fields_makes f G hf p k i y))
       plain_makes c w is c' (an_object {k = k} r q i y) = by_form_law object 0x4f singles.of_object
           (λ p. holds (λ (x : ℕ × ℕ). Val (Object x.0 x.1)) (λ f. int

@@ -13,7 +13,7 @@ use Rattle.scalar.specs.Scalars.{DoubleRule}
 use Rattle.record.specs.Model.Items.{Item, FieldName, Known, start, Limits}
 use Rattle.record.specs.Model.Reading.{value_from}
 use Rattle.record.specs.Model.Terms.{Reads}
-use Rattle.record.specs.Model.Grammar.{NameForm, a_name, TypeForm, type_name_law, type_number_law, PairForm, a_pair}
+use Rattle.record.specs.Model.Grammar.{NameForm, a_name, TypeForm, type_spelled, type_numbered, PairForm, a_pair}
 use Rattle.record.specs.Model.Grammar.{DefinitionForm, a_definition, PlainForm, a_leaf, a_few, a_counted, an_open}
 use Rattle.record.specs.Model.Grammar.{a_few_typed, a_counted_typed, an_open_typed, a_map, a_typed_map}
 use Rattle.record.specs.Model.Grammar.{a_few_object, an_object, a_reference, ValueForm}
@@ -45,8 +45,8 @@ name_few x c w is c' (a_name r) = omega (arith, string_some r)
 
 type_few : (ℓ : Limits) {c c' : Known} {w : List ℕ} {t : ℕ} {is : List Item} → TypeForm ℓ c w t is c'
     → length is ≤ length w
-type_few ℓ (type_name_law l r) = omega (arith, string_some r)
-type_few ℓ (type_number_law x l) = omega (arith, number_some x)
+type_few ℓ (type_spelled l r) = omega (arith, string_some r)
+type_few ℓ (type_numbered x l) = omega (arith, number_some x)
 
 pair_few : (G : Phrase Known Item) → Few G → Few (PairForm G)
 pair_few G h c w is c' (a_pair {c₁ = c₁} {u = u} {v = v} {is = is₁} {js = js} x y) =

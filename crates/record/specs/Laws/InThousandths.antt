@@ -17,8 +17,8 @@ use Rattle.record.specs.Model.Items.{Known, start, opened, typed, defined, Limit
 use Rattle.record.specs.Model.Containers.{pair}
 use Rattle.record.specs.Model.Reading.{Reader, Opening, int, count, name, container, field_values, with_two}
 use Rattle.record.specs.Model.Reading.{typed_list, typed_map, object_of, reference_to, type_number, type_name, type_from}
-use Rattle.record.specs.Model.Reading.{with_type, ValueHead, leaf, few, few_typed_law, few_object_law, counted}
-use Rattle.record.specs.Model.Reading.{counted_typed_law, open_list_law, open_typed_law, open_map, typed_map_law, object}
+use Rattle.record.specs.Model.Reading.{with_type, ValueHead, leaf, few, few_of_type, few_fields, counted}
+use Rattle.record.specs.Model.Reading.{counted_typed_head, open_list_head, open_typed_head, open_map, typed_map_head, object}
 use Rattle.record.specs.Model.Reading.{reference, head_of, ending, plain_by, plain_from, definition, value_from}
 use Rattle.record.specs.Model.Reading.{message}
 use Rattle.record.specs.Laws.ValueHeads.{plain_is}
@@ -165,25 +165,25 @@ module _ (m : List ℕ) where
       plain_part leaf p b d = leaf_part p b d
       plain_part (few n) p b d = within p (λ f g k.
           headed_part p (λ u. Val (UntypedList n)) (λ u. refl) (tell.many_retells φ m k n (p + 1)))
-      plain_part (few_typed_law n) p b d = within p (λ f g k.
+      plain_part (few_of_type n) p b d = within p (λ f g k.
           headed_part p (λ t. Val (TypedList n t)) (λ t. refl) (type_part (λ t q.
           tell.mapped_retells φ m q (λ u. t) (tell.many_retells φ m k n q)) (p + 1)))
-      plain_part (few_object_law i) p b d = within p (λ f g k.
+      plain_part (few_fields i) p b d = within p (λ f g k.
           headed_part p (λ n. Val (Object i n)) (λ n. refl) (fields_part k p i (p + 1)))
       plain_part counted p b d = within p (λ f g k.
           headed_part p (λ n. Val (UntypedList n)) (λ n. refl) (count_part (λ o n q.
           tell.mapped_retells φ m q (λ u. n) (tell.many_retells φ m k n q)) (p + 1)))
-      plain_part counted_typed_law p b d = within p (λ f g k.
+      plain_part counted_typed_head p b d = within p (λ f g k.
           headed_part p typed_list (λ x. refl) (type_part (λ t q. count_part (λ o n r.
           tell.mapped_retells φ m r (λ u. with_two t n) (tell.many_retells φ m k n r)) q) (p + 1)))
-      plain_part open_list_law p b d = within p (λ f g k.
+      plain_part open_list_head p b d = within p (λ f g k.
           headed_part p (λ n. Val (UntypedList n)) (λ n. refl) (tell.end_retells φ m 0x5a k (p + 1)))
-      plain_part open_typed_law p b d = within p (λ f g k.
+      plain_part open_typed_head p b d = within p (λ f g k.
           headed_part p typed_list (λ x. refl) (type_part (λ t q.
           tell.mapped_retells φ m q (with_two t) (tell.end_retells φ m 0x5a k q)) (p + 1)))
       plain_part open_map p b d = within p (λ f g k.
           headed_part p (λ n. Val (UntypedMap n)) (λ n. refl) (tell.end_retells φ m 0x5a (pair_part k) (p + 1)))
-      plain_part typed_map_law p b d = within p (λ f g k.
+      plain_part typed_map_head p b d = within p (λ f g k.
           headed_part p typed_map (λ x. refl) (type_part (λ t q.
           tell.mapped_retells φ m q (with_two t) (tell.end_retells φ m 0x5a (pair_part k) q)) (p + 1)))
       plain_part object p b d = within p (λ f g k.

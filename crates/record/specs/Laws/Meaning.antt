@@ -15,7 +15,7 @@ use Rattle.scalar.specs.Scalars.{DoubleRule}
 use Rattle.record.specs.Model.Items.{Item, FieldName, Known, start, Limits}
 use Rattle.record.specs.Model.Reading.{value_from, message}
 use Rattle.record.specs.Model.Terms.{Accepted, Reads}
-use Rattle.record.specs.Model.Grammar.{NameForm, a_name, TypeForm, type_name_law, type_number_law, PairForm, a_pair}
+use Rattle.record.specs.Model.Grammar.{NameForm, a_name, TypeForm, type_spelled, type_numbered, PairForm, a_pair}
 use Rattle.record.specs.Model.Grammar.{DefinitionForm, a_definition, PlainForm, a_leaf, a_few, a_counted, an_open}
 use Rattle.record.specs.Model.Grammar.{a_few_typed, a_counted_typed, an_open_typed, a_map, a_typed_map}
 use Rattle.record.specs.Model.Grammar.{a_few_object, an_object, a_reference, ValueForm, Message}
@@ -42,8 +42,8 @@ name_bytes : (x : List ℕ → Item) → Byted (NameForm x)
 name_bytes x c w is c' (a_name r) = text_bytes r
 
 type_bytes : (ℓ : Limits) {c c' : Known} {w : List ℕ} {t : ℕ} {is : List Item} → TypeForm ℓ c w t is c' → Bytes w
-type_bytes ℓ (type_name_law l r) = text_bytes r
-type_bytes ℓ (type_number_law x l) = int_bytes x
+type_bytes ℓ (type_spelled l r) = text_bytes r
+type_bytes ℓ (type_numbered x l) = int_bytes x
 
 pair_bytes : (G : Phrase Known Item) → Byted G → Byted (PairForm G)
 pair_bytes G h c w is c' (a_pair {c₁ = c₁} {u = u} {v = v} {is = is₁} {js = js} x y) =

@@ -13,7 +13,7 @@ use Rattle.scalar.specs.Scalars.{is_text, scalar_from, int_from, text_from}
 use Rattle.scalar.specs.Grammar.{SpeltUnder, Int, Text}
 use Rattle.scalar.specs.ScalarLaws.{scalar_scans, int_scans, text_scans}
 use Rattle.scalar.specs.Scalars.{DoubleRule}
-use Rattle.record.specs.Model.Items.{Leaf, UntypedList, TypedList, UntypedMap, TypedMap, Object, Reference, Value}
+use Rattle.record.specs.Model.Items.{typed, Leaf, UntypedList, TypedList, UntypedMap, TypedMap, Object, Reference, Value}
 use Rattle.record.specs.Model.Items.{Item, Val, Definition, ClassName, FieldName, TypeName, TypeNumber, Known}
 use Rattle.record.specs.Model.Items.{start}
 use Rattle.record.specs.Model.Items.{Limits}
@@ -21,9 +21,9 @@ use Rattle.record.specs.Model.Reading.{Reader, Opening, int, count, name, contai
 use Rattle.record.specs.Model.Containers.{pair}
 use Rattle.record.specs.Model.Reading.{type_from, with_type, field_names, plain_from, definition, value_from, message}
 use Rattle.record.specs.Model.Rows.{holds, begins}
-use Rattle.record.specs.Model.Reading.{ValueHead, leaf, few, few_typed_law, few_object_law, counted, counted_typed_law}
-use Rattle.record.specs.Model.Reading.{open_list_law}
-use Rattle.record.specs.Model.Reading.{open_typed_law, open_map, typed_map_law, object, reference, head_of, plain_by}
+use Rattle.record.specs.Model.Reading.{ValueHead, leaf, few, few_of_type, few_fields, counted, counted_typed_head}
+use Rattle.record.specs.Model.Reading.{open_list_head}
+use Rattle.record.specs.Model.Reading.{open_typed_head, open_map, typed_map_head, object, reference, head_of, plain_by}
 use Rattle.record.specs.Laws.ValueHeads.{plain_is}
 use Rattle.record.specs.Model.Reading.{Two, with_two, ending}
 use Rattle.record.specs.Laws.Forest.{Stands, Opens, opening, EntryForest, no_entries, entries_beside, entry_over}
@@ -253,9 +253,9 @@ module _ (m : List ℕ) where
     module _ (ρ : DoubleRule) (ℓ : Limits) where
       type_yields : Anywhere Tree (byte_at (type_from ℓ))
       unfolding type_from
-      type_yields = byte_yields (λ p b e. cond_yields (is_text b)
+      type_yields = byte_yields {f = type_from ℓ} (λ p b e. cond_yields (is_text b)
           (ask_yields (λ c. cond_yields (ltb c.types ℓ.types)
-          (map_yields (λ u. c.types) (change_yields (weaker_yields (named p b e) (λ u es x. x.0))))
+          (map_yields (λ u. c.types) (change_yields {φ = typed} (weaker_yields (named p b e) (λ u es x. x.0))))
           (fail_yields 7 p)))
           (int_behind (λ p b v e k. ask_yields (λ c. cond_yields (ltb v c.types) (map_yields (λ u. v) (numbered v e))
           (fail_yields 6 p))) p b e))
@@ -291,21 +291,21 @@ module _ (m : List ℕ) where
         form_yields leaf p b e = leaf_yields ρ p b e
         form_yields (few n) p b e =
             container_yields (λ u. UntypedList n) e (λ u. tt) (λ f h. many_yields trees_grow h n)
-        form_yields (few_typed_law n) p b e = container_yields (λ t. TypedList n t) e (λ t. tt)
+        form_yields (few_of_type n) p b e = container_yields (λ t. TypedList n t) e (λ t. tt)
             (λ f h. with_yields (λ t k. map_yields (λ u. t) (many_yields trees_grow h n k)))
-        form_yields (few_object_law j) p b e =
+        form_yields (few_fields j) p b e =
             container_yields (λ n. Object j n) e (λ n. tt) (λ f h. fields_yield h p j)
         form_yields counted p b e = container_yields (λ n. UntypedList n) e (λ n. tt)
             (λ f h. count_then (λ o n k. map_yields (λ u. n) (many_yields trees_grow h n k)))
-        form_yields counted_typed_law p b e = container_yields (λ (x : Two). TypedList x.1 x.0) e (λ x. tt)
+        form_yields counted_typed_head p b e = container_yields (λ (x : Two). TypedList x.1 x.0) e (λ x. tt)
             (λ f h. with_yields (λ t. count_then (λ o n k.
             map_yields (λ u. with_two t n) (many_yields trees_grow h n k))))
-        form_yields open_list_law p b e = container_yields (λ n. UntypedList n) e (λ n. tt) (λ f h. end_one h)
-        form_yields open_typed_law p b e = container_yields (λ (x : Two). TypedList x.1 x.0) e (λ x. tt)
+        form_yields open_list_head p b e = container_yields (λ n. UntypedList n) e (λ n. tt) (λ f h. end_one h)
+        form_yields open_typed_head p b e = container_yields (λ (x : Two). TypedList x.1 x.0) e (λ x. tt)
             (λ f h. with_yields (λ t k. map_yields (with_two t) (end_one h k)))
         form_yields open_map p b e =
             container_yields (λ n. UntypedMap n) e (λ n. tt) (λ f h. end_yields (pair_yields h))
-        form_yields typed_map_law p b e = container_yields (λ (x : Two). TypedMap x.1 x.0) e (λ x. tt)
+        form_yields typed_map_head p b e = container_yields (λ (x : Two). TypedMap x.1 x.0) e (λ x. tt)
             (λ f h. with_yields (λ t k. map_yields (with_two t) (end_yields (pair_yields h) k)))
         form_yields object p b e = container_yields (λ (x : Two). Object x.0 x.1) e (λ x. tt)
             (λ f h. int_then (λ o j k. map_yields (with_two j) (fields_yield h p j k)))

@@ -6,7 +6,7 @@ use Rattle.flow.specs.Flow.{Bytes}
 use Rattle.flow.specs.Grammar.{Phrase, Many, finished, another, Ended, ended, Preceded, alone, first}
 use Rattle.scalar.specs.Scalars.{DoubleRule}
 use Rattle.record.specs.Model.Items.{Item, FieldName, Known, start, Limits}
-use Rattle.record.specs.Model.Grammar.{NameForm, a_name, TypeForm, type_name_law, type_number_law, PairForm, a_pair}
+use Rattle.record.specs.Model.Grammar.{NameForm, a_name, TypeForm, type_spelled, type_numbered, PairForm, a_pair}
 use Rattle.record.specs.Model.Grammar.{PlainForm, a_leaf, a_few_typed, a_counted_typed, an_open_typed, a_few}
 use Rattle.record.specs.Model.Grammar.{a_counted, an_open, a_typed_map, a_map, a_few_object, an_object}
 use Rattle.record.specs.Model.Grammar.{a_reference, DefinitionForm, a_definition, ValueForm}
@@ -64,8 +64,8 @@ pair_adds G h c w is c' (a_pair {c₁ = c₁} {u = u} {v = v} {is = is₁} {js =
 )
 
 type_adds : (ℓ : Limits) {c c' : Known} {w : List ℕ} {t : ℕ} {is : List Item} → TypeForm ℓ c w t is c' → After c is c'
-type_adds ℓ (type_name_law {c = c} l r) = sym (append-nil c.classes)
-type_adds ℓ (type_number_law {c = c} x l) = sym (append-nil c.classes)
+type_adds ℓ (type_spelled {c = c} l r) = sym (append-nil c.classes)
+type_adds ℓ (type_numbered {c = c} x l) = sym (append-nil c.classes)
 
 -- field names define nothing: the number is given once they are read
 names_add : {n : ℕ} {c c' : Known} {w : List ℕ} {is : List Item} → Many (NameForm FieldName) n c w is c'
@@ -116,5 +116,5 @@ pub accepted_adds : (ρ : DoubleRule) (ℓ : Limits) (m : List ℕ) → Bytes m 
 accepted_adds ρ ℓ m b r x =
     let p = judged_done ρ ℓ m (length m) x.entries x.known x.done in
     let v = message_form ρ ℓ m b (length m) tt x.entries x.known p.1 in
-    subst (λ (z : List Item). (0 < length z) × (x.known.classes ≡ definitions z)) x.reads_as_law
+    subst (λ (z : List Item). (0 < length z) × (x.known.classes ≡ definitions z)) x.reads_record
     (value_adds ρ ℓ ℓ.containers start m _ x.known v)

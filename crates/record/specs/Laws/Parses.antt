@@ -24,14 +24,14 @@ use Rattle.record.specs.Model.Items.{typed, defined, Limits}
 use Rattle.record.specs.Model.Reading.{Reader, Opening, int, count, name, container, field_values, type_from}
 use Rattle.record.specs.Model.Reading.{with_type, field_names, plain_from, definition, value_from}
 use Rattle.record.specs.Model.Containers.{pair}
-use Rattle.record.specs.Model.Reading.{ValueHead, leaf, few, few_typed_law, few_object_law, counted, counted_typed_law}
-use Rattle.record.specs.Model.Reading.{open_list_law, open_typed_law, open_map, typed_map_law, object, reference, head_of}
+use Rattle.record.specs.Model.Reading.{ValueHead, leaf, few, few_of_type, few_fields, counted, counted_typed_head}
+use Rattle.record.specs.Model.Reading.{open_list_head, open_typed_head, open_map, typed_map_head, object, reference, head_of}
 use Rattle.record.specs.Model.Reading.{plain_by}
 use Rattle.record.specs.Laws.ValueHeads.{HeadFact, head_fact}
 use Rattle.record.specs.Laws.ValueHeads.{plain_is}
 use Rattle.record.specs.Model.Reading.{Two, with_two, type_number, reference_to}
 use Rattle.record.specs.Model.Grammar.{Nowhere}
-use Rattle.record.specs.Model.Grammar.{NameForm, a_name, TypeForm, type_name_law, type_number_law, PairForm, a_pair}
+use Rattle.record.specs.Model.Grammar.{NameForm, a_name, TypeForm, type_spelled, type_numbered, PairForm, a_pair}
 use Rattle.record.specs.Model.Grammar.{DefinitionForm, a_definition, PlainForm, a_leaf, a_few, a_counted, an_open}
 use Rattle.record.specs.Model.Grammar.{a_few_typed, a_counted_typed, an_open_typed, a_map, a_typed_map}
 use Rattle.record.specs.Model.Grammar.{a_few_object, an_object, a_reference, ValueForm}
@@ -108,7 +108,7 @@ module _ (ρ : DoubleRule) (ℓ : Limits) where
       (name TypeName at b (typed c) (at + 1) t)
       (heads (λ w u is c'. TypeForm ℓ c (b ∷ w) c.types is c') at TypeName t (text_from at b (typed c) (at + 1) t)
       (quietly (λ w cs. Text (b ∷ w) cs) (λ w cs is c'. TypeForm ℓ c (b ∷ w) c.types (TypeName cs ∷ is) c')
-      (typed c) t (λ w cs r. type_name_law (ltb→lt c.types ℓ.types y) r)
+      (typed c) t (λ w cs r. type_spelled (ltb→lt c.types ℓ.types y) r)
       (text_from at b (typed c) (at + 1) t) (text_scans Item at b (typed c) (at + 1) t i))))
       (λ y. tt))
       (λ x. binds_quiet (λ u k. Int (b ∷ u) k) (λ w t is c'. TypeForm ℓ c (b ∷ w) t is c') (int_from at b)
@@ -119,7 +119,7 @@ module _ (ρ : DoubleRule) (ℓ : Limits) where
     where
       numbered : (b : ℕ) (u : List ℕ) (k : ℕ) → Int (b ∷ u) k → k < c.types → (t : List ℕ) → (0 ≤ length t)
           × TypeForm ℓ c (b ∷ (u ++ [])) k (TypeNumber k ∷ []) c
-      numbered b u k z y t = (omega arith, rw append-nil (type_number_law z y))
+      numbered b u k z y t = (omega arith, rw append-nil (type_numbered z y))
 
   withs : {A : Type 0} (H : Goal Known Item A) (g : ℕ → Reader A) (c : Known) (at : ℕ) (s : List ℕ) → Bytes s
       → ((u : List ℕ) (t : ℕ) (is : List Item) (c₁ : Known) (at₁ : ℕ) (s₁ : List ℕ) → Bytes s₁ → TypeForm ℓ c u t is c₁
@@ -164,13 +164,13 @@ module _ (ρ : DoubleRule) (ℓ : Limits) where
           (λ f r hf. weaker (λ w u is c'. Many G n (opened c) w is c') (At c (0x78 + n) (λ u. Val (UntypedList n))) s
           (λ w u is c' y. a_few r q.1 y) (many f n (opened c) at s)
           (many_reads f G hf n (opened c) at s l))
-      plain_by_law (few_typed_law n) b q p c at s l = held_in_law c b (0x70 + n) p q.0 (λ t. Val (TypedList n t))
+      plain_by_law (few_of_type n) b q p c at s l = held_in_law c b (0x70 + n) p q.0 (λ t. Val (TypedList n t))
           (λ f. with_type ℓ (λ t. mapped (λ u. t) (many f n))) at s
           (λ f r hf. withs (At c (0x70 + n) (λ t. Val (TypedList n t))) (λ t. mapped (λ u. t) (many f n))
           (opened c) at s l
           (λ u t is c₁ at₁ s₁ i x. manys f G hf (Behind (At c (0x70 + n) (λ t. Val (TypedList n t))) u is) n t c₁ at₁ s₁
           i (λ w js c₂ y. a_few_typed r q.1 x y)))
-      plain_by_law (few_object_law k) b q p c at s l =
+      plain_by_law (few_fields k) b q p c at s l =
           held_in_law c b (0x60 + k) p q.0 (λ n. Val (Object k n)) (λ f. field_values f p k) at s
           (λ f r hf. objects f G hf (At c (0x60 + k) (λ n. Val (Object k n))) p k (opened c) at s l
           (λ w is c' y z. a_few_object r q.1 y z))
@@ -179,7 +179,7 @@ module _ (ρ : DoubleRule) (ℓ : Limits) where
           (λ f r hf. counts (At c 0x58 (λ n. Val (UntypedList n))) (λ o n. mapped (λ u. n) (many f n)) (opened c) at s l
           (λ u n o at₁ t i x y. manys f G hf (Behind (At c 0x58 (λ n. Val (UntypedList n))) u []) n n (opened c) at₁ t i
           (λ w is c' z. a_counted r x y z)))
-      plain_by_law counted_typed_law b q p c at s l = held_in_law c b 0x56 p q typed_list
+      plain_by_law counted_typed_head b q p c at s l = held_in_law c b 0x56 p q typed_list
           (λ f. with_type ℓ (λ t. count (λ o n. mapped (λ u. with_two t n) (many f n)))) at s
           (λ f r hf. withs (At c 0x56 typed_list) (λ t. count (λ o n. mapped (λ u. with_two t n) (many f n)))
           (opened c) at s l
@@ -187,9 +187,9 @@ module _ (ρ : DoubleRule) (ℓ : Limits) where
           (λ o n. mapped (λ u. with_two t n) (many f n)) c₁ at₁ s₁ i
           (λ v n o at₂ s₂ j y z. manys f G hf (Behind (Behind (At c 0x56 typed_list) u is) v []) n
           (with_two t n) c₁ at₂ s₂ j (λ w js c₂ e. a_counted_typed r x y z e))))
-      plain_by_law open_list_law b q p c at s l = held_in_law c b 0x57 p q (λ n. Val (UntypedList n)) (until_end 0x5a) at s
+      plain_by_law open_list_head b q p c at s l = held_in_law c b 0x57 p q (λ n. Val (UntypedList n)) (until_end 0x5a) at s
           (λ f r hf. ends f G hf (At c 0x57 (λ n. Val (UntypedList n))) (opened c) at s l (λ w n is c' y. an_open r y))
-      plain_by_law open_typed_law b q p c at s l =
+      plain_by_law open_typed_head b q p c at s l =
           held_in_law c b 0x55 p q typed_list (λ f. with_type ℓ (λ t. mapped (with_two t) (until_end 0x5a f))) at s
           (λ f r hf. withs (At c 0x55 typed_list) (λ t. mapped (with_two t) (until_end 0x5a f)) (opened c) at s l
           (λ u t is c₁ at₁ s₁ i x. maps (Behind (At c 0x55 typed_list) u is) (with_two t) s₁ (until_end 0x5a f c₁ at₁ s₁)
@@ -199,7 +199,7 @@ module _ (ρ : DoubleRule) (ℓ : Limits) where
           held_in_law c b 0x48 p q (λ n. Val (UntypedMap n)) (λ f. until_end 0x5a (pair f)) at s
           (λ f r hf. ends (pair f) (PairForm G) (pairs f G hf) (At c 0x48 (λ n. Val (UntypedMap n))) (opened c) at s l
           (λ w n is c' y. a_map r y))
-      plain_by_law typed_map_law b q p c at s l =
+      plain_by_law typed_map_head b q p c at s l =
           held_in_law c b 0x4d p q typed_map (λ f. with_type ℓ (λ t. mapped (with_two t) (until_end 0x5a (pair f)))) at s
           (λ f r hf. withs (At c 0x4d typed_map) (λ t. mapped (with_two t) (until_end 0x5a (pair f))) (opened c) at s l
           (λ u t is c₁ at₁ s₁ i x. maps (Behind (At c 0x4d typed_map) u is) (with_two t) s₁

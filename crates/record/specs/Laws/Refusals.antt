@@ -19,8 +19,8 @@ use Rattle.record.specs.Model.Reading.{Reader, Opening, int, count, name, contai
 use Rattle.record.specs.Model.Reading.{with_type, plain_from, definition, value_from, message}
 use Rattle.record.specs.Model.Reading.{with_two, typed_list, typed_map, object_of, type_number, reference_to, type_name}
 use Rattle.record.specs.Model.Reading.{ending, plain_by}
-use Rattle.record.specs.Model.Reading.{ValueHead, leaf, few, few_typed_law, few_object_law, counted, counted_typed_law}
-use Rattle.record.specs.Model.Reading.{open_list_law, open_typed_law, open_map, typed_map_law, object, reference, head_of}
+use Rattle.record.specs.Model.Reading.{ValueHead, leaf, few, few_of_type, few_fields, counted, counted_typed_head}
+use Rattle.record.specs.Model.Reading.{open_list_head, open_typed_head, open_map, typed_map_head, object, reference, head_of}
 use Rattle.record.specs.Model.Containers.{pair}
 use Rattle.record.specs.Laws.ValueHeads.{plain_is}
 
@@ -128,22 +128,22 @@ module _ (end bound : ℕ) where
     plain_part below h leaf p b m = headed_tells p (λ x. Val (Leaf x)) (scalar.scalar_tells at_end wrong ill ρ p b m)
     plain_part below h (few n) p b m = container_part below h p m (λ f k.
         headed_tells p (λ u. Val (UntypedList n)) (many_tells at_end k n))
-    plain_part below h (few_typed_law n) p b m = container_part below h p m (λ f k.
+    plain_part below h (few_of_type n) p b m = container_part below h p m (λ f k.
         headed_tells p (λ t. Val (TypedList n t)) (type_part (λ t. mapped_tells (λ u. t) (many_tells at_end k n))))
-    plain_part below h (few_object_law i) p b m = container_part below h p m (λ f k.
+    plain_part below h (few_fields i) p b m = container_part below h p m (λ f k.
         headed_tells p (λ n. Val (Object i n)) (fields_part k p m i))
     plain_part below h counted p b m = container_part below h p m (λ f k.
         headed_tells p (λ n. Val (UntypedList n)) (count_part (λ o q n. mapped_tells (λ u. n) (many_tells at_end k n))))
-    plain_part below h counted_typed_law p b m = container_part below h p m (λ f k.
+    plain_part below h counted_typed_head p b m = container_part below h p m (λ f k.
         headed_tells p typed_list (type_part (λ t.
         count_part (λ o q n. mapped_tells (λ u. with_two t n) (many_tells at_end k n)))))
-    plain_part below h open_list_law p b m = container_part below h p m (λ f k.
+    plain_part below h open_list_head p b m = container_part below h p m (λ f k.
         headed_tells p (λ n. Val (UntypedList n)) (end_tells at_end 0x5a k))
-    plain_part below h open_typed_law p b m = container_part below h p m (λ f k.
+    plain_part below h open_typed_head p b m = container_part below h p m (λ f k.
         headed_tells p typed_list (type_part (λ t. mapped_tells (with_two t) (end_tells at_end 0x5a k))))
     plain_part below h open_map p b m = container_part below h p m (λ f k.
         headed_tells p (λ n. Val (UntypedMap n)) (end_tells at_end 0x5a (pair_part k)))
-    plain_part below h typed_map_law p b m = container_part below h p m (λ f k.
+    plain_part below h typed_map_head p b m = container_part below h p m (λ f k.
         headed_tells p typed_map (type_part (λ t. mapped_tells (with_two t) (end_tells at_end 0x5a (pair_part k)))))
     plain_part below h object p b m = container_part below h p m (λ f k.
         headed_tells p object_of (int_part (λ o q i. mapped_tells (with_two i) (fields_part k p m i))))

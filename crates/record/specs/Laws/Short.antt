@@ -18,7 +18,7 @@ use Rattle.scalar.specs.Scalars.{Floats}
 use Rattle.record.specs.Model.Items.{Value, UntypedList, TypedList, UntypedMap, TypedMap, Object, Reference, Item}
 use Rattle.record.specs.Model.Items.{Val, Definition, ClassName, FieldName, TypeName, TypeNumber, Known, opened}
 use Rattle.record.specs.Model.Items.{typed, defined, Limits}
-use Rattle.record.specs.Model.Grammar.{NameForm, a_name, TypeForm, type_name_law, type_number_law, PairForm, a_pair}
+use Rattle.record.specs.Model.Grammar.{NameForm, a_name, TypeForm, type_spelled, type_numbered, PairForm, a_pair}
 use Rattle.record.specs.Model.Grammar.{DefinitionForm, a_definition, PlainForm, a_leaf, a_few, a_counted, an_open}
 use Rattle.record.specs.Model.Grammar.{a_few_typed, a_counted_typed, an_open_typed, a_map, a_typed_map}
 use Rattle.record.specs.Model.Grammar.{a_few_object, an_object, a_reference, ValueForm, Message}
@@ -142,14 +142,14 @@ module _ (ℓ : Limits) (open_from : ℕ) (most : open_from ≤ 48) where
   type_spells : {c c' : Known} {w : List ℕ} {t : ℕ} {is : List Item} → TypeForm ℓ c w t is c'
       → Spells (put_type ℓ t) c is (length w) c'
   unfolding put_type
-  type_spells (type_name_law {c = c} {w = w} {cs = cs} l r) = record {
+  type_spells (type_spelled {c = c} {w = w} {cs = cs} l r) = record {
     spells = (if_spells (eqb c.types c.types && ltb c.types ℓ.types)
         (rw (eq-eqb c.types c.types refl, lt-ltb c.types ℓ.types l)) (known r)).spells;
   }
     where
       known : Text w cs → Spells (λ c r. put_bytes (shortest_text cs) (typed c) r) c [] (length w) (typed c)
       known r = record { spells = (bytes_spell (shortest_text cs) {c = typed c} (text_short r)).spells }
-  type_spells (type_number_law {c = c} {k = k} x l) = record {
+  type_spells (type_numbered {c = c} {k = k} x l) = record {
     spells = (if_spells (eqb k k && ltb k c.types) {c = c} (rw (eq-eqb k k refl, lt-ltb k c.types l))
         (bytes_spell (shortest_int k) (int_short x))).spells;
   }

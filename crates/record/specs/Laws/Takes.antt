@@ -248,7 +248,7 @@ module _ (ℓ : Limits) where
   preceded_takes : {g : Put} → Takes forests 1 g → (k : ℕ) → Takes forests 1 (put_preceded ℓ k g)
   preceded_takes h zero = h
   preceded_takes {g} h (suc k) = let y = preceded_takes h k in
-      record { takes = λ c s. elim s [ [] ↦ h.takes c [] | i ∷ r ↦ go y c i r (definition? i) ] }
+      record { takes = λ c s. elim s as (λ s. Taken (Forest 1) s (put_preceded ℓ (suc k) g c s)) [ [] ↦ h.takes c [] | i ∷ r ↦ go y c i r (definition? i) ] }
     where
       go : Takes forests 1 (put_preceded ℓ k g) → (c : Known) (i : Item) (r : List Item) (o : Option ℕ)
           → Taken (Forest 1) (i ∷ r)

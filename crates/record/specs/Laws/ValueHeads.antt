@@ -10,8 +10,8 @@ use Rattle.scalar.specs.ScalarLaws.{is_scalar}
 use Rattle.scalar.specs.Scalars.{DoubleRule}
 use Rattle.record.specs.Model.Items.{Limits}
 use Rattle.record.specs.Model.Reading.{Opening, plain_from}
-use Rattle.record.specs.Model.Reading.{ValueHead, leaf, few, few_typed_law, few_object_law, counted, counted_typed_law}
-use Rattle.record.specs.Model.Reading.{open_list_law, open_typed_law, open_map, typed_map_law, object, reference, head_of}
+use Rattle.record.specs.Model.Reading.{ValueHead, leaf, few, few_of_type, few_fields, counted, counted_typed_head}
+use Rattle.record.specs.Model.Reading.{open_list_head, open_typed_head, open_map, typed_map_head, object, reference, head_of}
 use Rattle.record.specs.Model.Reading.{plain_by}
 
 pub plain_is : (ρ : DoubleRule) (ℓ : Limits) (below : Option (Opening One)) (p b : ℕ) → plain_from ρ ℓ below p b
@@ -23,14 +23,14 @@ plain_is ρ ℓ below p b = refl
 abbrev pub HeadFact : ℕ → ValueHead → Type 0
 HeadFact b leaf = Unit {0}
 HeadFact b (few n) = (b ≡ 0x78 + n) × (n < 8)
-HeadFact b (few_typed_law n) = (b ≡ 0x70 + n) × (n < 8)
-HeadFact b (few_object_law k) = (b ≡ 0x60 + k) × (k < 16)
+HeadFact b (few_of_type n) = (b ≡ 0x70 + n) × (n < 8)
+HeadFact b (few_fields k) = (b ≡ 0x60 + k) × (k < 16)
 HeadFact b counted = b ≡ 0x58
-HeadFact b counted_typed_law = b ≡ 0x56
-HeadFact b open_list_law = b ≡ 0x57
-HeadFact b open_typed_law = b ≡ 0x55
+HeadFact b counted_typed_head = b ≡ 0x56
+HeadFact b open_list_head = b ≡ 0x57
+HeadFact b open_typed_head = b ≡ 0x55
 HeadFact b open_map = b ≡ 0x48
-HeadFact b typed_map_law = b ≡ 0x4d
+HeadFact b typed_map_head = b ≡ 0x4d
 HeadFact b object = b ≡ 0x4f
 HeadFact b reference = b ≡ 0x51
 
@@ -62,10 +62,10 @@ head_fact b =
 past : (b k : ℕ) (x y : ValueHead) → k < b → pick (eqb b k) x y ≡ y
 past b k x y l = pick_false x y (ne_eqb b k (λ (e : b ≡ k). omega arith))
 
-pub few_typed_head : (n : ℕ) → n < 8 → head_of (0x70 + n) ≡ few_typed_law n
+pub few_typed_head : (n : ℕ) → n < 8 → head_of (0x70 + n) ≡ few_of_type n
 unfolding head_of
 few_typed_head n l =
-    pick_true _ _ (within_yes 0x70 0x78 (0x70 + n) (omega arith) (omega arith)) ∙ ap few_typed_law (omega arith)
+    pick_true _ _ (within_yes 0x70 0x78 (0x70 + n) (omega arith) (omega arith)) ∙ ap few_of_type (omega arith)
 
 pub few_head : (n : ℕ) → n < 8 → head_of (0x78 + n) ≡ few n
 unfolding head_of
@@ -75,7 +75,7 @@ few_head n l =
     ∙ past b 0x55 _ _ (omega arith)
     ∙ pick_true _ _ (within_yes 0x78 0x80 b (omega arith) (omega arith)) ∙ ap few (omega arith)
 
-pub few_object_head : (k : ℕ) → k < 16 → head_of (0x60 + k) ≡ few_object_law k
+pub few_object_head : (k : ℕ) → k < 16 → head_of (0x60 + k) ≡ few_fields k
 unfolding head_of
 few_object_head k l =
     let b = 0x60 + k in
@@ -84,15 +84,15 @@ few_object_head k l =
     ∙ pick_false _ _ (within_below 0x78 0x80 b (omega arith)) ∙ past b 0x58 _ _ (omega arith)
     ∙ past b 0x57 _ _ (omega arith)
     ∙ past b 0x4d _ _ (omega arith) ∙ past b 0x48 _ _ (omega arith)
-    ∙ pick_true _ _ (within_yes 0x60 0x70 b (omega arith) (omega arith)) ∙ ap few_object_law (omega arith)
+    ∙ pick_true _ _ (within_yes 0x60 0x70 b (omega arith) (omega arith)) ∙ ap few_fields (omega arith)
 
 pub record Singles : Type 0 where
   pub of_counted : head_of 0x58 ≡ counted
-  pub of_counted_typed : head_of 0x56 ≡ counted_typed_law
-  pub of_open_list : head_of 0x57 ≡ open_list_law
-  pub of_open_typed : head_of 0x55 ≡ open_typed_law
+  pub of_counted_typed : head_of 0x56 ≡ counted_typed_head
+  pub of_open_list : head_of 0x57 ≡ open_list_head
+  pub of_open_typed : head_of 0x55 ≡ open_typed_head
   pub of_open_map : head_of 0x48 ≡ open_map
-  pub of_typed_map : head_of 0x4d ≡ typed_map_law
+  pub of_typed_map : head_of 0x4d ≡ typed_map_head
   pub of_object : head_of 0x4f ≡ object
   pub of_reference : head_of 0x51 ≡ reference
   -- the end byte, and a definition's
@@ -120,13 +120,13 @@ abbrev pub head_kind : ValueHead → ℕ
 head_kind leaf = 0
 head_kind (few n) = 9
 head_kind counted = 9
-head_kind open_list_law = 9
-head_kind (few_typed_law n) = 10
-head_kind counted_typed_law = 10
-head_kind open_typed_law = 10
+head_kind open_list_head = 9
+head_kind (few_of_type n) = 10
+head_kind counted_typed_head = 10
+head_kind open_typed_head = 10
 head_kind open_map = 11
-head_kind typed_map_law = 12
-head_kind (few_object_law k) = 13
+head_kind typed_map_head = 12
+head_kind (few_fields k) = 13
 head_kind object = 13
 head_kind reference = 14
 
@@ -145,14 +145,14 @@ head_kind_law b l = eqb→eq (head_kind (head_of b)) (chart_kind (kind_of (lead_
 is_leaf : (x : ValueHead) → head_kind x ≡ 0 → x ≡ leaf
 is_leaf leaf h = refl
 is_leaf (few n) h = absurd (omega arith)
-is_leaf (few_typed_law n) h = absurd (omega arith)
-is_leaf (few_object_law k) h = absurd (omega arith)
+is_leaf (few_of_type n) h = absurd (omega arith)
+is_leaf (few_fields k) h = absurd (omega arith)
 is_leaf counted h = absurd (omega arith)
-is_leaf counted_typed_law h = absurd (omega arith)
-is_leaf open_list_law h = absurd (omega arith)
-is_leaf open_typed_law h = absurd (omega arith)
+is_leaf counted_typed_head h = absurd (omega arith)
+is_leaf open_list_head h = absurd (omega arith)
+is_leaf open_typed_head h = absurd (omega arith)
 is_leaf open_map h = absurd (omega arith)
-is_leaf typed_map_law h = absurd (omega arith)
+is_leaf typed_map_head h = absurd (omega arith)
 is_leaf object h = absurd (omega arith)
 is_leaf reference h = absurd (omega arith)
 

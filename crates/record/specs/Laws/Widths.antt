@@ -15,7 +15,7 @@ use Rattle.scalar.specs.Bits.{number_bits, content_length, units_few}
 use Rattle.scalar.specs.Scalars.{DoubleRule}
 use Rattle.record.specs.Model.Items.{Leaf, Item, Val, FieldName, Known, start, opened, typed, defined, Limits}
 use Rattle.record.specs.Model.Rows.{row, item_row, rows_from, rows}
-use Rattle.record.specs.Model.Grammar.{NameForm, a_name, TypeForm, type_name_law, type_number_law, PairForm, a_pair}
+use Rattle.record.specs.Model.Grammar.{NameForm, a_name, TypeForm, type_spelled, type_numbered, PairForm, a_pair}
 use Rattle.record.specs.Model.Grammar.{DefinitionForm, a_definition, PlainForm, a_leaf, a_few, a_counted, an_open}
 use Rattle.record.specs.Model.Grammar.{a_few_typed, a_counted_typed, an_open_typed, a_map, a_typed_map}
 use Rattle.record.specs.Model.Grammar.{a_few_object, an_object, a_reference, ValueForm}
@@ -160,7 +160,7 @@ name_bounds N c w is c' (a_name r) a l = record {
 
 type_bounds : (ℓ : Limits) {c c' : Known} {w : List ℕ} {t : ℕ} {is : List Item} → TypeForm ℓ c w t is c' → (N : ℕ)
     → Within N c → N + length w < 2 ^ 63 → (t ≤ N) × Bounded N 1 w is c'
-type_bounds ℓ (type_name_law r x) N a l = (
+type_bounds ℓ (type_spelled r x) N a l = (
   a.types,
   record {
     some = omega (arith, string_some x);
@@ -169,7 +169,7 @@ type_bounds ℓ (type_name_law r x) N a l = (
     narrow = (text_fits (omega arith) x (omega arith), tt);
   },
 )
-type_bounds ℓ (type_number_law x r) N a l = (
+type_bounds ℓ (type_numbered x r) N a l = (
   omega arith,
   record {
     some = omega (arith, number_some x);

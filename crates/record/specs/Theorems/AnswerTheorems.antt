@@ -31,7 +31,7 @@ module _ (ρ : DoubleRule) (ℓ : Limits) where
       × Message ρ ℓ m r)
   accepted_exactly m b r = (
     λ x. let p = judged_done ρ ℓ m (length m) x.entries x.known x.done in
-        (p.0, reads_derived ρ ℓ m r (record { bytes = b; accepted = rw p.1 x.reads_as_law })),
+        (p.0, reads_derived ρ ℓ m r (record { bytes = b; accepted = rw p.1 x.reads_record })),
     λ x. reads_accepts ρ ℓ m r x.0 (derived_reads ρ ℓ m r x.1),
   )
 
@@ -82,7 +82,7 @@ module _ (ρ : DoubleRule) (ℓ : Limits) where
     pub answer_holds : Bytes m → (rs : List Row) (n : ℕ) → read ρ ℓ lent m ≡ Accept rs n → Holds ρ ℓ lent m rs
     answer_holds b rs n = by_read ρ ℓ lent m b (λ a. a ≡ Accept rs n → Holds ρ ℓ lent m rs)
         (λ h e. never cc) (λ x o h e. never cc) (λ r x h e. never cc)
-        (λ r x h e. record { record_of_law = r; accepts = x; holds = cc; enough = h })
+        (λ r x h e. record { the_record = r; accepts = x; holds = cc; enough = h })
 
     -- so the count reported of an accepted message is never 0
     pub answer_some : Bytes m → (rs : List Row) (n : ℕ) → read ρ ℓ lent m ≡ Accept rs n → 0 < length rs
@@ -92,9 +92,9 @@ module _ (ρ : DoubleRule) (ℓ : Limits) where
           arith,
           ap length x.holds,
           rows_length x.accepts.entries,
-          ap length x.accepts.reads_as_law,
+          ap length x.accepts.reads_record,
           length-map x.accepts.entries (λ (e : Entry Item). e.item),
-          accepted_some m b x.record_of_law x.accepts,
+          accepted_some m b x.the_record x.accepts,
         )
 
   -- the table then holds that record, whatever the layout in which these rows can be stored
@@ -118,23 +118,23 @@ module _ (ρ : DoubleRule) (ℓ : Limits) where
   kept_holds L k m t b l rs n e =
       let x = answer_holds (lent_rows L t) m b rs n e in
       table_holds L k.sized m t b rs n
-      (all_kept k rs (subst (All Fits) (sym x.holds) (rows_fit ρ ℓ m b l x.record_of_law x.accepts))) e
+      (all_kept k rs (subst (All Fits) (sym x.holds) (rows_fit ρ ℓ m b l x.the_record x.accepts))) e
 
 module _ (ℓ : Limits) where
   module _ (open_from : ℕ) (most : open_from ≤ 48) (source : List ℕ) (r : List Row) where
     -- ---- demand 2: what is written is accepted, and reads as the record that it was written from
     pub written_back : (lent : ℕ) (w : List ℕ) → write ℓ open_from lent source r ≡ Wrote w → (x : Has ℓ source r w)
-        × Accepts Floats ℓ w x.record_of_law
+        × Accepts Floats ℓ w x.the_record
     written_back lent w =
         by_answer ℓ open_from source r lent (λ a. a ≡ Wrote w
-        → (x : Has ℓ source r w) × Accepts Floats ℓ w x.record_of_law)
+        → (x : Has ℓ source r w) × Accepts Floats ℓ w x.the_record)
         (λ l e. never cc)
         (λ l q e. never cc)
         (λ l v q i e. never cc)
         (λ l v q i j e. never cc)
         (λ l v q i j e. let s : v ≡ w = cc in
         let x = rows_back ℓ open_from most source r w (q ∙ ap {B = Option (List ℕ)} some s) in
-        (x, reads_accepts Floats ℓ w x.record_of_law (subst (λ (z : List ℕ). length z ≤ ℓ.longest) s i) x.read_as))
+        (x, reads_accepts Floats ℓ w x.the_record (subst (λ (z : List ℕ). length z ≤ ℓ.longest) s i) x.read_as))
 
     -- ---- refusal 10 is given exactly when, length set aside, no message within the other ceilings has the record
     pub refused_10 : (lent : ℕ) → length source ≤ ℓ.longest → (write ℓ open_from lent source r ≡ Refused 10 0) ↔
@@ -213,7 +213,7 @@ module _ (ℓ : Limits) where
               message_of = w;
               given_room = λ k l. wrote_when ℓ open_from source r k w i q j l;
               has = x;
-              accepted = reads_accepts Floats ℓ w x.record_of_law j x.read_as;
+              accepted = reads_accepts Floats ℓ w x.the_record j x.read_as;
               none_shorter = λ m h. let p = rows_no_longer ℓ open_from most source r m h in let e = p.1 in
                   let f : p.0 ≡ w = cc in omega (arith, p.2, ap length f);
               needed = λ k l. needed_when ℓ open_from source r k w i q j l;

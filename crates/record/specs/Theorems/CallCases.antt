@@ -24,7 +24,7 @@ answer number count place = record { number = number; count = count; place = pla
 -- a message's entries are as many as its items
 pub entries_length : {ρ : DoubleRule} {ℓ : Limits} {m : List ℕ} {r : List Item} (x : Accepts ρ ℓ m r)
     → length r ≡ length x.entries
-entries_length x = ap length (sym x.reads_as_law) ∙ length-map x.entries (λ (e : Entry Item). e.item)
+entries_length x = ap length (sym x.reads_record) ∙ length-map x.entries (λ (e : Entry Item). e.item)
 
 -- ---- reading
 module _ (ρ : DoubleRule) (ℓ : Limits) (L : Layout) (m t : List ℕ) (a : Report) (t' : List ℕ)

@@ -239,7 +239,7 @@ module _ (ℓ : Limits) (L : Layout) where
               → a ≡ answer 0 (length (rows x.entries)) (length m)
               → read ρ ℓ (lent_rows L t) m ≡ Accept (rows x.entries) (length m) → Holding ρ ℓ L m t a t'
           accepted r x h e q = record {
-            record_of_law = r;
+            the_record = r;
             grammar = y.0;
             short = y.1;
             enough = subst (λ (k : ℕ). k ≤ lent_rows L t) (sym (entries_length x)) h;
@@ -266,7 +266,7 @@ module _ (ℓ : Limits) (L : Layout) where
               claimed =
                   let d = judged_done ρ ℓ m (length m) x.entries x.known x.done in
                   subst (λ (rs : List Row). ClaimAll (content_at m) rs r) (sym held)
-                  (subst (ClaimAll (content_at m) (rows x.entries)) x.reads_as_law
+                  (subst (ClaimAll (content_at m) (rows x.entries)) x.reads_record
                   (own_rows ρ ℓ m g.bytes (length m) x.entries x.known d.1))
 
               past : drop (a.count * L.width) t' ≡ drop (a.count * L.width) t
@@ -324,17 +324,17 @@ module _ (ℓ : Limits) (L : Layout) where
 
       has_of : (m : List ℕ) → Of m → Has ℓ s Rows m
       has_of m x = record {
-        record_of_law = x.record_of_law;
+        the_record = x.the_record;
         claimed = x.claimed;
-        read_as = derived_reads Floats ℓ m x.record_of_law x.grammar;
+        read_as = derived_reads Floats ℓ m x.the_record x.grammar;
       }
 
       of_has : n ≤ lent_rows L t → (m : List ℕ) → Has ℓ s Rows m → Of m
       of_has l m x = record {
         lent = l;
-        record_of_law = x.record_of_law;
+        the_record = x.the_record;
         claimed = x.claimed;
-        grammar = reads_derived Floats ℓ m x.record_of_law x.read_as;
+        grammar = reads_derived Floats ℓ m x.the_record x.read_as;
       }
 
       no_shorter : (w : List ℕ) → Short ≡ some w → (m : List ℕ) → Of m → length w ≤ length m
@@ -577,7 +577,7 @@ module _ (ℓ : Limits) (L : Layout) where
   module _ (fits : ℓ.longest < 2 ^ 63) (keeps : Keeps L) where
     module _ (s t : List ℕ) (n : ℕ) (w : List ℕ) (x : ShortestOf ℓ L s t n w) where
       abbrev r_of : List Item
-      r_of = x.has.record_of_law
+      r_of = x.has.the_record
 
       read_again : (t₂ : List ℕ) (a₂ : Report) (t₂' : List ℕ) → ReadCall Floats ℓ L w t₂ a₂ t₂' → n ≤ lent_rows L t₂
           → (a₂.number ≡ 0) × SameRecord s w (rows_of L n t) (rows_of L a₂.count t₂')
@@ -589,7 +589,7 @@ module _ (ℓ : Limits) (L : Layout) where
             z,
             (same_exactly s w x.has.claimed (rows_of L a₂.count t₂')).1
                 (subst (ClaimAll (content_at w) (rows_of L a₂.count t₂'))
-                (one_reading Floats ℓ w y.record_of_law r_of y.grammar x.has.grammar) y.claimed),
+                (one_reading Floats ℓ w y.the_record r_of y.grammar x.has.grammar) y.claimed),
           )
 
       shorter_none : (m tm : List ℕ) (am : Report) (tm' : List ℕ) → ReadCall Floats ℓ L m tm am tm' → am.number ≡ 0
@@ -600,7 +600,7 @@ module _ (ℓ : Limits) (L : Layout) where
           ((same_exactly s m x.has.claimed (rows_of L am.count tm')).0 e) in
           x.none_shorter m (record {
             lent = x.has.lent;
-            record_of_law = r_of;
+            the_record = r_of;
             claimed = x.has.claimed;
             grammar = subst (Message Floats ℓ m) q y.grammar;
           })
@@ -616,7 +616,7 @@ module _ (ℓ : Limits) (L : Layout) where
           let y = read_holding Floats m t a t' g fits keeps z in
           record {
             lent = omega (arith, y.enough, y.counted, table_rows Floats keeps m t a t' g);
-            record_of_law = y.record_of_law;
+            the_record = y.the_record;
             claimed = y.claimed;
             grammar = y.grammar;
           }
@@ -645,11 +645,11 @@ module _ (ℓ : Limits) (L : Layout) where
       some_has : (w : List ℕ) × RecordOf ℓ L m t' a.count w
       some_has =
           let y = read_holding ρ m t a t' g fits keeps z in
-          let x = message_main ρ ℓ m y.record_of_law y.grammar in (
+          let x = message_main ρ ℓ m y.the_record y.grammar in (
             x.0,
             record {
               lent = omega (arith, y.enough, y.counted, table_rows ρ keeps m t a t' g);
-              record_of_law = y.record_of_law;
+              the_record = y.the_record;
               claimed = y.claimed;
               grammar = x.1;
             },
@@ -721,8 +721,8 @@ module _ (ℓ : Limits) (L : Layout) where
           cc,
       λ e. let x = (written_back open_from most s₁ t₁ n₁ o₁ a₁ o₁' g₁ z₁).0.has in
           let y = (written_back open_from most s₂ t₂ n₂ o₂ a₂ o₂' g₂ z₂).0.has in
-          let q = one_reading Floats ℓ (take a₂.count o₂') y.record_of_law x.record_of_law y.grammar
-          (subst (λ (w : List ℕ). Message Floats ℓ w x.record_of_law) e x.grammar) in
+          let q = one_reading Floats ℓ (take a₂.count o₂') y.the_record x.the_record y.grammar
+          (subst (λ (w : List ℕ). Message Floats ℓ w x.the_record) e x.grammar) in
           (same_exactly s₁ s₂ x.claimed (rows_of L n₂ t₂)).1
           (subst (ClaimAll (content_at s₂) (rows_of L n₂ t₂)) q y.claimed),
     )
@@ -746,5 +746,5 @@ theorem ℓ fits open_from most L keeps = record {
   lengths = λ ρ m t a t' g. of_shortest_length ρ ℓ open_from most L m t a t' g;
   copying = λ s₁ t₁ n₁ o₁ a₁ o₁' g₁ z₁ s₂ t₂ n₂ o₂ a₂ o₂' g₂ z₂.
       copied ℓ L open_from most s₁ t₁ n₁ o₁ a₁ o₁' g₁ z₁ s₂ t₂ n₂ o₂ a₂ o₂' g₂ z₂;
-  skipping = λ s t n m x. skippable Floats ℓ m x.record_of_law x.grammar (content_at s) (rows_of L n t) x.claimed;
+  skipping = λ s t n m x. skippable Floats ℓ m x.the_record x.grammar (content_at s) (rows_of L n t) x.claimed;
 }

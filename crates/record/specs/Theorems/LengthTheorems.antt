@@ -50,7 +50,7 @@ module _ (ρ : DoubleRule) (ℓ : Limits) (open_from : ℕ) (most : open_from �
   unfolding shortest_length
   accepted_length =
       ap (length_judged ℓ open_from) x.done
-      ∙ ap (λ (q : List Item). length_of (spell ℓ open_from q)) x.reads_as_law
+      ∙ ap (λ (q : List Item). length_of (spell ℓ open_from q)) x.reads_record
       ∙ spell_length ℓ open_from most r spelled.0 spelled.1
 
   -- and the rows'
@@ -58,7 +58,7 @@ module _ (ρ : DoubleRule) (ℓ : Limits) (open_from : ℕ) (most : open_from �
   rows_measured =
       let done = (judged_done ρ ℓ m (length m) x.entries x.known x.done).1 in
       claimed_lengths m (own_rows ρ ℓ m bytes (length m) x.entries x.known done).each
-      ∙ ap record_length x.reads_as_law ∙ sym accepted_length
+      ∙ ap record_length x.reads_record ∙ sym accepted_length
 
   -- there is at least one
   pub accepted_positive : 0 < shortest_length ρ ℓ open_from m
@@ -86,7 +86,7 @@ done_accepts ρ ℓ m bytes n es c e = record {
   entries = es;
   known = c;
   done = e ∙ ap (λ (k : ℕ). Done k tt es c) (message_all ρ ℓ m bytes n tt es c (judged_done ρ ℓ m n es c e).1);
-  reads_as_law = refl;
+  reads_record = refl;
 }
 
 -- by the main rule the shortest message is no longer than the one read
@@ -179,17 +179,17 @@ module _ (ρ : DoubleRule) (ℓ : Limits) (open_from : ℕ) (most : open_from �
       go (Refuse x k o) e = length_by_law (Refuse x k o) e
 
   -- an accepted message has the length of its record, which is that by every threshold
-  accepted_says : (z : a.number ≡ 0) → n ≡ record_length (held z).record_of_law
+  accepted_says : (z : a.number ≡ 0) → n ≡ record_length (held z).the_record
   accepted_says z =
       let y = held z in
       let enough = subst (λ (k : ℕ). k ≤ lent_rows L t) (entries_length y.accepts) y.enough in
-      length_by_law _ (rows_suffice ρ ℓ (lent_rows L t) m y.record_of_law y.accepts enough)
-      ∙ accepted_length ρ ℓ base_open_from (omega arith) m g.call.bytes y.record_of_law y.accepts
+      length_by_law _ (rows_suffice ρ ℓ (lent_rows L t) m y.the_record y.accepts enough)
+      ∙ accepted_length ρ ℓ base_open_from (omega arith) m g.call.bytes y.the_record y.accepts
 
   measured : a.number ≡ 0 → n ≡ shortest_length ρ ℓ open_from m
   measured z =
       let y = held z in
-      accepted_says z ∙ sym (accepted_length ρ ℓ open_from most m g.call.bytes y.record_of_law y.accepts)
+      accepted_says z ∙ sym (accepted_length ρ ℓ open_from most m g.call.bytes y.the_record y.accepts)
 
   -- what the writer answers for the rows read
   module _ (z : a.number ≡ 0) (o : List ℕ) (c : Report) (o' : List ℕ)
@@ -199,10 +199,10 @@ module _ (ρ : DoubleRule) (ℓ : Limits) (open_from : ℕ) (most : open_from �
     unfolding shortest_of
     shortest_there =
         let y = held z in
-        let s = spelled ρ ℓ open_from most m g.call.bytes y.record_of_law y.accepts in (
+        let s = spelled ρ ℓ open_from most m g.call.bytes y.the_record y.accepts in (
           s.0,
           rw (all_claimed (content_at m) y.claimed) s.1,
-          spelled_length ℓ open_from most y.record_of_law s.0 s.1 ∙ sym (accepted_says z),
+          spelled_length ℓ open_from most y.the_record s.0 s.1 ∙ sym (accepted_says z),
         )
 
     abbrev Reports : Type 0

@@ -38,7 +38,7 @@ module _ (ℓ : Limits) (open_from : ℕ) (most : open_from ≤ 48) (source : Li
   pub rows_no_longer : (m : List ℕ) → Has ℓ source r m → (w : List ℕ) ×
       (shortest_of ℓ open_from (content_at source) r ≡ some w) × (length w ≤ length m)
   unfolding shortest_of
-  rows_no_longer m x = let p = no_longer ℓ open_from most m x.record_of_law x.read_as in
+  rows_no_longer m x = let p = no_longer ℓ open_from most m x.the_record x.read_as in
       (p.0, rw (all_claimed (content_at source) x.claimed) p.1, p.2)
 
   -- the message written has the record claimed
@@ -50,7 +50,7 @@ module _ (ℓ : Limits) (open_from : ℕ) (most : open_from ≤ 48) (source : Li
           → Has ℓ source r w
       go none q e = absurd (let z : ◌≡◌ {A = ℕ} 0 1 = cc in omega arith)
       go (some is) q e = record {
-        record_of_law = is;
+        the_record = is;
         claimed = (claims_exactly (content_at source) r is).1 q;
         read_as =
             reads_back ℓ open_from most is w e;

@@ -9,7 +9,7 @@ use Rattle.record.specs.Model.Shortest.{spell}
 use Rattle.record.specs.Model.Answers.{shortest_of}
 use Rattle.flow.specs.Flow.{on_some}
 use Rattle.record.specs.Laws.Claimed.{all_claimed}
-use Rattle.record.specs.Model.Same.{SameRow, SameRecord, no_more, same_row_law}
+use Rattle.record.specs.Model.Same.{SameRow, SameRecord, no_more, row_same}
 
 -- ---- a table that holds a record holds the same as another exactly when both claim the same items
 same_claims : (s t : List ℕ) (x y : Row) (i : Item) → SameRow s t x y → Claims (content_at s) x i
@@ -44,17 +44,17 @@ same_exactly s t {r} {is} c q = (
     forward : {r : List Row} {is : List Item} {q : List Row} → ClaimItems (content_at s) r is → SameRecord s t r q
         → ClaimItems (content_at t) q is
     forward no_rows no_more = no_rows
-    forward (a_row {x = x} {i = i} c cs) (same_row_law {y = y} h hs) = a_row (same_claims s t x y i h c) (forward cs hs)
+    forward (a_row {x = x} {i = i} c cs) (row_same {y = y} h hs) = a_row (same_claims s t x y i h c) (forward cs hs)
 
     same_fifths : {r q : List Row} → SameRecord s t r q → afters r ≡ afters q
     same_fifths no_more = refl
-    same_fifths (same_row_law h hs) = ap₂ (λ (n : ℕ) (l : List ℕ). n ∷ l) h.after (same_fifths hs)
+    same_fifths (row_same h hs) = ap₂ (λ (n : ℕ) (l : List ℕ). n ∷ l) h.after (same_fifths hs)
 
     backward : {r : List Row} {is : List Item} {q : List Row} → ClaimItems (content_at s) r is
         → ClaimItems (content_at t) q is → afters r ≡ afters q → SameRecord s t r q
     backward no_rows no_rows e = no_more
     backward (a_row {x = x} {i = i} c cs) (a_row {x = y} d ds) e =
-        same_row_law (claims_same s t x y i (cc) c d) (backward cs ds (cc))
+        row_same (claims_same s t x y i (cc) c d) (backward cs ds (cc))
 
 -- so two tables of the same record have one shortest message: true copies are equal byte for byte
 pub one_message : (ℓ : Limits) (open_from : ℕ) (s t : List ℕ) {r : List Row} {is : List Item}
