@@ -1,6 +1,5 @@
-use Prim.Native.Nat.{◌-◌}
 use borrow.Author.Rules.{rules}
-use Rattle.vectors.proofs.Stores.{Copied, copied_more, copied_full, copied_all}
+use Rattle.vectors.proofs.Stores.{copied_more, copied_full, copied_all}
 use Rattle.vectors.proofs.again.Goals as goal
 
 pub returns-then-bytes-to : goal.returns-then-bytes-to

@@ -1,9 +1,7 @@
-use Prim.Native.Nat.{◌-◌}
 use native.Mathlib.Omega.{arith}
-use lib.ListN.{length}
 use borrow.Author.Rules.{rules}
 use Rattle.vectors.specs.CaseLaws.{stands_says}
-use Rattle.vectors.proofs.Stores.{Gathers, gathers_none, gathers_end, gathers_break, gathers_stuck, gathers_more}
+use Rattle.vectors.proofs.Stores.{gathers_none, gathers_end, gathers_break, gathers_stuck, gathers_more}
 use Rattle.vectors.proofs.groups.Goals as goal
 
 pub loop-bytes-init : goal.loop-bytes-init

@@ -1,6 +1,6 @@
 use native.Mathlib.Omega.{arith}
 use borrow.Author.Rules.{rules}
-use Rattle.vectors.proofs.Stores.{again_room, again_none, Repeats, repeats_none, repeats_more, repeats_full, repeats_all, repeats_never}
+use Rattle.vectors.proofs.Stores.{again_room, again_none, repeats_none, repeats_more, repeats_full, repeats_all, repeats_never}
 use Rattle.vectors.proofs.repeat.Goals as goal
 
 pub returns-then-times-eq0 : goal.returns-then-times-eq0

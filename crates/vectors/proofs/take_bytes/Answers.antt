@@ -1,8 +1,6 @@
-use Prim.Native.Nat.{◌-◌}
 use native.Mathlib.Omega.{arith}
-use lib.ListN.{length}
 use borrow.Author.Rules.{rules}
-use Rattle.vectors.proofs.Stores.{Takes, takes_end, takes_odd, takes_full, takes_more}
+use Rattle.vectors.proofs.Stores.{takes_end, takes_odd, takes_full, takes_more}
 use Rattle.vectors.proofs.take_bytes.Goals as goal
 
 pub overflow_add-here : goal.overflow_add-here
