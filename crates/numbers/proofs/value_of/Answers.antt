@@ -38,7 +38,7 @@ returns-in-Signed c = rw (
       c.in-Signed.is,
       value_signed,
       ← c.signed_32.ensures,
-      ← to_z-of_z w64 c.signed_32.result (sfits_of c.signed_32.type-inv),
+      ← to_z-of_z w64 c.signed_32.result (sfits_of c.signed_32.type_inv),
     )
     c.bits_of.ensures
 
