@@ -1,5 +1,5 @@
 -- What was found stays; where there was nothing, the form holds the value.
-use Rattle.std.proofs.Common.{arith, rules}
+use Rattle.std.proofs.Common.{arith}
 use Rattle.numbers.specs.Answers.{or_else}
 use Rattle.numbers.proofs.Writing.{plain_holds}
 use Rattle.numbers.proofs.or_plain.Goals as goal

@@ -1,5 +1,5 @@
 -- `numbers::store` meets its contract.
-use Rattle.std.proofs.Common.{◌∙◌, arith, length-set, rules}
+use Rattle.std.proofs.Common.{arith}
 use Rattle.numbers.proofs.Writing.{store_none, store_all}
 use Rattle.numbers.proofs.store.Goals as goal
 

@@ -1,9 +1,5 @@
 -- Each arm's bytes are a span of what the arm returns.
-use Rattle.std.proofs.Common.{◌≡◌, ℕ, suc, ◌+◌, ◌-◌, ◌<◌, ◌≤◌, Bool, false, ◌||◌, T, List, [], ◌∷◌, sym, refl, subst, inl, inr, ⊎_elim, zero-le, arith}
-use mir.Facts.{or_yes}
-use mir.Val.{has_key}
-use types.Run.{OneOf, hit}
-use Rattle.flow.specs.Tests.{split, every, every_at}
+use Rattle.std.proofs.Common.{◌≡◌, ℕ, suc, ◌<◌, ◌≤◌, sym, refl, ⊎_elim, zero-le, arith}
 use Rattle.scalar.specs.declared.Sort.TheVariants.{Null, False, True, Int, Long, Double, Date}
 use Rattle.scalar.specs.declared.Lead.{Lead}
 use Rattle.scalar.specs.declared.Lead.TheVariants as lead
@@ -17,34 +13,6 @@ range x i h k = sym (span_lead x i h (omega arith))
 only : (x : Lead) (i : ℕ) {b : ℕ} → (span_at (spans x) i).0 ≡ (span_at (spans x) i).1 → b ≡ (span_at (spans x) i).0
     → x ≡ lead_of b
 only x i e k = sym (span_lead x i (omega arith) (omega arith))
-
-abbrev keys : List (List ℕ)
-keys =
-    (0x40 ∷ 0x45 ∷ 0x47 ∷ 0x50 ∷ []) ∷ (0x5a ∷ []) ∷ (0x51 ∷ []) ∷ (0x4f ∷ []) ∷ (0x43 ∷ []) ∷ (0x48 ∷ []) ∷ (0x4d ∷ [])
-    ∷ (0x54 ∷ []) ∷ (0x46 ∷ []) ∷ (0x4e ∷ []) ∷ (0x44 ∷ [])
-    ∷ (0x4c ∷ 0x59 ∷ []) ∷ (0x49 ∷ []) ∷ []
-
-abbrev None : List (List ℕ) → ℕ → Type 0
-None [] b = Unit {0}
-None (k ∷ ks) b = None ks b × (OneOf k b → ⊥)
-
-abbrev is_key : List (List ℕ) → ℕ → Bool
-is_key [] b = false
-is_key (k ∷ ks) b = has_key k b || is_key ks b
-
-no_key : (ks : List (List ℕ)) (b : ℕ) → None ks b → T (is_key ks b) → ⊥
-no_key [] b n t = t
-no_key (k ∷ ks) b n t =
-    elim (or_yes (has_key k b) (is_key ks b) t) [ inl y ↦ n.1 (hit k b y) | inr y ↦ no_key ks b n.0 y ]
-
-past : (lo hi : ℕ) → T (every (hi - lo) (λ i. is_key keys (lo + i))) → {b : ℕ} → lo ≤ b → None keys b → hi ≤ b
-past lo hi t {b} h n = split b hi
-    (λ l. let e : lo + (b - lo) ≡ b = omega arith in
-    absurd
-    (no_key keys b n
-    (subst (λ (m : ℕ). T (is_key keys m)) e
-    (every_at (hi - lo) (λ i. is_key keys (lo + i)) t (b - lo) (omega arith)))))
-    (λ l. l)
 
 pub returns-in-78 : goal.returns-in-78
 returns-in-78 c = only (lead.Number Null) 0 refl c.in-78.is
@@ -121,7 +89,7 @@ pub returns-in-96-to-111-2 : goal.returns-in-96-to-111-2
 returns-in-96-to-111-2 c = range lead.Object 0 (omega arith) (omega arith)
 
 pub returns-in-128-to-215 : goal.returns-in-128-to-215
-returns-in-128-to-215 c = only (lead.Number Int) 1 refl c.in-128-to-215.in-128-to-215-own.keys1
+returns-in-128-to-215 c = only (lead.Number Int) 1 refl (omega arith)
 
 pub returns-in-128-to-215-2 : goal.returns-in-128-to-215-2
 returns-in-128-to-215-2 c = range (lead.Number Int) 0 (omega arith) (omega arith)

@@ -1,5 +1,5 @@
 -- Each way out has its law in proofs/Writing.antt.
-use Rattle.std.proofs.Common.{◌∷◌, ◌∙◌, arith, length-set, rules}
+use Rattle.std.proofs.Common.{◌∷◌, arith}
 use Rattle.wire.specs.BigEndian.{be}
 use Rattle.numbers.proofs.Writing.{stores_none, stores_nine}
 use Rattle.numbers.proofs.stores.store_nine.Goals as goal
