@@ -1,5 +1,5 @@
-use Rattle.std.proofs.Common.{◌-◌, arith, rules}
-use Rattle.texts.specs.Ascii.{Counting, counting_start, counting_few, counting_more, counting_end, counting_stop}
+use Rattle.std.proofs.Common.{arith}
+use Rattle.texts.specs.Ascii.{counting_start, counting_few, counting_more, counting_end, counting_stop}
 use Rattle.texts.proofs.ascii_eights.Goals as goal
 
 pub loop-n-init : goal.loop-n-init

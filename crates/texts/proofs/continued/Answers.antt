@@ -1,9 +1,7 @@
-use Rattle.std.proofs.Common.{◌-◌, ⊎_elim, arith, rules, leb-true}
+use Rattle.std.proofs.Common.{arith, rules}
 use Rattle.flow.specs.Tests.{within_below, within_above}
-use Rattle.scalar.specs.Scalars.{continued}
-use Rattle.texts.specs.Answers.{extent_at}
 use Rattle.texts.specs.At.{continued_none, continued_ends, continued_out, continued_next}
-use Rattle.texts.proofs.Strings.{Along, plain_start, along_end, along_fault, plain_more}
+use Rattle.texts.proofs.Strings.{plain_start, along_end, along_fault, plain_more}
 use Rattle.texts.proofs.continued.Goals as goal
 use Rattle.texts.proofs.continued.Goals.{then-b-lo-via-then-b-lo, then-b-lo-via-else-b-lo+then-hi-b}
 

@@ -1,8 +1,7 @@
-use Rattle.std.proofs.Common.{◌≡◌, ◌+◌, ◌-◌, length, take, drop, ⊎_elim, arith, rules}
+use Rattle.std.proofs.Common.{◌≡◌, ◌+◌, take, drop, arith, rules}
 use Rattle.scalar.specs.TextUnits.{weights}
 use Rattle.scalar.specs.Decoded.{decoded}
 use Rattle.scalar.specs.StringLengths.{parts, parts_after}
-use Rattle.texts.specs.Answers.{Cutting}
 use Rattle.texts.proofs.Strings.{cutting_start, parting_filled, on_none, on_fault, on_inside, on_place, on_few}
 use Rattle.texts.proofs.Strings.{on_cuts, on_room, on_cut, on_within, on_size, on_end, on_shrinks, on_more}
 use Rattle.texts.proofs.Strings.{on_heads, on_both, on_heads_met}

@@ -1,5 +1,5 @@
 -- The first and the last four or eight bytes are all of them, and ASCII; or all are counted.
-use Rattle.std.proofs.Common.{arith, rules}
+use Rattle.std.proofs.Common.{arith}
 use Rattle.texts.specs.Ascii.{tells_no, tells_last, tells_run}
 use Rattle.texts.proofs.short_ascii.Goals as goal
 

@@ -1,5 +1,5 @@
 -- All the bytes that are counted are ASCII.
-use Rattle.std.proofs.Common.{arith, rules}
+use Rattle.std.proofs.Common.{arith}
 use Rattle.texts.specs.Ascii.{ascii_part}
 use Rattle.texts.proofs.short_text.Goals as goal
 

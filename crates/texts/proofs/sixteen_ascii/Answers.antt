@@ -1,5 +1,5 @@
 -- The first eight bytes and the last.
-use Rattle.std.proofs.Common.{arith, rules}
+use Rattle.std.proofs.Common.{arith}
 use Rattle.texts.specs.Ascii.{tells_no, tells_last}
 use Rattle.texts.proofs.sixteen_ascii.Goals as goal
 

@@ -1,5 +1,5 @@
 -- The first sixteen bytes and the last.
-use Rattle.std.proofs.Common.{arith, rules}
+use Rattle.std.proofs.Common.{arith}
 use Rattle.texts.specs.Ascii.{tells_no, tells_last}
 use Rattle.texts.proofs.words_ascii.Goals as goal
 
