@@ -18,11 +18,11 @@ open-next-requires c = omega (arith, c.loop-kind.invariant.going.inside)
 
 pub loop-kind-smaller-then-left-eq0 : goal.loop-kind-smaller-then-left-eq0
 loop-kind-smaller-then-left-eq0 c = let R = c.loop-kind.invariant in
-    omega (arith, open_further R _ c.if-left-eq0.true c.if-last.false c.«open».ensures)
+    omega (arith, open_further R _ c.if-left-eq0.true c.if-last.false c.open-next.ensures)
 
 pub loop-kind-preserved-then-left-eq0 : goal.loop-kind-preserved-then-left-eq0
 loop-kind-preserved-then-left-eq0 c = let R = c.loop-kind.invariant in
-    copying_open R _ c.if-left-eq0.true c.if-last.false c.«open».ensures
+    copying_open R _ c.if-left-eq0.true c.if-last.false c.open-next.ensures
 
 pub overflow_sub-cap : goal.overflow_sub-cap
 overflow_sub-cap c = c.loop-kind.invariant.within

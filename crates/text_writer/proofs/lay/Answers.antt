@@ -55,11 +55,11 @@ overflow_sub-result c = search (last_behind, rules)
 
 pub shape_of-out : goal.shape_of-out
 shape_of-out c = let R = c.loop-rest.invariant in
-    c.copy.ensures.copies.same ∙ c.put_last_head-h.auto.1.1.0 ∙ R.same
+    c.copy.ensures.copies.same ∙ c.put_last_head-h.auto.out ∙ R.same
 
 pub returns : goal.returns
 returns c = let R = c.loop-rest.invariant in
     let short = c.loop-rest-test.false in
     let head = c.put_last_head-h.ensures in
-    let all = all_copied c.copy.ensures R.units-are _ R.bytes-are in
+    let all = all_copied c.copy.ensures R.units_are _ R.bytes_are in
     laying_last R short _ head.0 _ head.1 _ _ all
