@@ -1,7 +1,5 @@
-use Prim.Native.Nat.{◌-◌}
 use native.Mathlib.Omega.{arith}
-use lib.ListN.{length}
-use Rattle.text_writer.specs.Cursor.{Copying, copying_start, copying_below, copying_end, copying_stop, copying_open, open_further, copying_piece, piece_inside, piece_units}
+use Rattle.text_writer.specs.Cursor.{copying_start, copying_below, copying_end, copying_stop, copying_open, open_further, copying_piece, piece_inside, piece_units}
 use Rattle.text_writer.proofs.copy.Goals as goal
 
 pub loop-kind-init : goal.loop-kind-init

@@ -1,7 +1,7 @@
 use mathlib.Core.Path.{◌∙◌}
 use borrow.Author.Rules.{rules}
 use Rattle.text_writer.specs.Cursor.{all_copied}
-use Rattle.text_writer.specs.Laying.{Laying, laying_start, part_few, part_within, part_shrinks, part_less, part_first, part_room, part_start, part_end, laying_part, last_behind, last_room, last_start, last_end, laying_last}
+use Rattle.text_writer.specs.Laying.{laying_start, part_few, part_within, part_shrinks, part_less, part_first, part_room, part_start, part_end, laying_part, last_behind, last_room, last_start, last_end, laying_last}
 use Rattle.text_writer.proofs.lay.Goals as goal
 
 pub loop-rest-init : goal.loop-rest-init

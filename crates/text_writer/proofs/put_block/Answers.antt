@@ -1,11 +1,8 @@
 use native.Mathlib.Omega.{arith}
-use borrow.Author.Rules.{rules}
 use Rattle.text_writer.proofs.Laying.{stored_next, block_stored}
-use mathlib.Core.Path.{◌≡◌, sym, ap, ◌∙◌}
+use mathlib.Core.Path.{sym, ap, ◌∙◌}
 use mathlib.Core.List.{[]}
-use Prim.Native.Nat.{◌-◌, ◌≤◌}
-use lib.ListN.{length, take}
-use Rattle.flow.specs.Flow.{stored}
+use lib.ListN.{length}
 use Rattle.flow.specs.OverlayLaws.{stored_sets, length_stored}
 use Rattle.text_writer.proofs.put_block.Goals as goal
 
