@@ -1,6 +1,5 @@
 -- Each way out has its law in proofs/Contents.antt.
 use native.Mathlib.Omega.{arith}
-use borrow.Author.Rules.{rules}
 use Rattle.text_writer.proofs.Contents.{content_none, content_over, content_room, content_whole}
 use Rattle.text_writer.proofs.write_content.Goals as goal
 
