@@ -30,7 +30,7 @@ pub object_head-requires : goal.object_head-requires
 object_head-requires c = search (lead_at_by, rules)
 
 pub opening-requires : goal.opening-requires
-opening-requires c = search (lead_at_by, held_left, refl, rules)
+opening-requires c = search (lead_at_by, held_left, rules)
 
 pub returns-in-Number : goal.returns-in-Number
 returns-in-Number c = search (head_number, rules)

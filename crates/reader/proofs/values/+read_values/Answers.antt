@@ -10,7 +10,7 @@ pub loop-group-init : goal.loop-group-init
 loop-group-init t c = search (values_start, rules)
 
 pub passed-requires : goal.passed-requires
-passed-requires t c = omega (arith, c.type_inv, c.loop-group.invariant.reads.ready.at.within)
+passed-requires t c = omega (arith, c.loop-group.invariant.reads.ready.at.within)
 
 pub shape_of-numbers-then-stop : goal.shape_of-numbers-then-stop
 shape_of-numbers-then-stop t c = search (◌∙◌, rules)
@@ -31,7 +31,7 @@ pub returns-in-Refused : goal.returns-in-Refused
 returns-in-Refused t c = search (values_refused, rules)
 
 pub overflow_add-i : goal.overflow_add-i
-overflow_add-i t c = omega (arith, c.type_inv, c.loop-group.invariant.steps, c.loop-group.invariant.reads.ready.at.within)
+overflow_add-i t c = omega (arith, c.loop-group.invariant.steps, c.loop-group.invariant.reads.ready.at.within)
 
 pub loop-group-smaller-in-Leaf : goal.loop-group-smaller-in-Leaf
 loop-group-smaller-in-Leaf t c = let value = c.begin.ensures in
@@ -59,14 +59,10 @@ read_values-requires t c = let value = c.begin.ensures in
     (omega (arith, open-one), ready)
 
 pub shape_of-numbers-in-Refused-read_values : goal.shape_of-numbers-in-Refused-read_values
-shape_of-numbers-in-Refused-read_values t c = c.numbers-in-Holder-1.given
-    ∙ c.numbers-1.given
-    ∙ c.loop-group.invariant.same_numbers
+shape_of-numbers-in-Refused-read_values t c = cc
 
 pub shape_of-bytes-in-Refused-read_values : goal.shape_of-bytes-in-Refused-read_values
-shape_of-bytes-in-Refused-read_values t c = c.bytes-in-Holder-1.given
-    ∙ c.bytes-1.given
-    ∙ c.loop-group.invariant.same_bytes
+shape_of-bytes-in-Refused-read_values t c = cc
 
 pub returns-in-Refused-read_values : goal.returns-in-Refused-read_values
 returns-in-Refused-read_values t c = let value = c.begin.ensures in
@@ -78,7 +74,7 @@ pub store_lent-requires : goal.store_lent-requires
 store_lent-requires t c = λ z. holder_row_read c.in-Holder.is c.in-Done.is _ c.holder_row-row.ensures
 
 pub overflow_add-i-in-Done : goal.overflow_add-i-in-Done
-overflow_add-i-in-Done t c = omega (arith, c.type_inv, c.loop-group.invariant.steps, c.loop-group.invariant.reads.ready.at.within)
+overflow_add-i-in-Done t c = omega (arith, c.loop-group.invariant.steps, c.loop-group.invariant.reads.ready.at.within)
 
 pub loop-group-smaller : goal.loop-group-smaller
 loop-group-smaller t c = let value = c.begin.ensures in
