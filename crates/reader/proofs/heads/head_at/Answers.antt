@@ -2,7 +2,7 @@
 use Rattle.reader.proofs.ValueHeads.{lead_at_by, held_left, head_off, head_high, head_number, head_text}
 use Rattle.reader.proofs.ValueHeads.{head_bytes, head_reference, head_definition, head_none, head_full}
 use Rattle.reader.proofs.ValueHeads.{head_object, head_opening}
-use Rattle.std.proofs.Common.{refl, rules}
+use Rattle.std.proofs.Common.{rules}
 use Rattle.reader.proofs.heads.head_at.Goals as goal
 
 pub returns-then-message-at : goal.returns-then-message-at

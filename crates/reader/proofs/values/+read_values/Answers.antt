@@ -1,7 +1,6 @@
-use Rattle.std.proofs.Common.{ℕ, ◌-◌, ◌<◌, length, ◌∙◌, arith, rules}
-use Rattle.reader.specs.Promises.{group_of}
+use Rattle.std.proofs.Common.{◌∙◌, arith, rules}
 use Rattle.reader.proofs.Containers.{stores_row_same, holder_row_read}
-use Rattle.reader.proofs.ReadValues.{ReadingValues, values_start, values_stop, values_refused}
+use Rattle.reader.proofs.ReadValues.{values_start, values_stop, values_refused}
 use Rattle.reader.proofs.ReadValues.{leaf_forward, values_leaf}
 use Rattle.reader.proofs.ReadValues.{inner_open, inner_ready, inner_forward, values_inner, values_inner_refused}
 use Rattle.reader.proofs.values.+read_values.Goals as goal
