@@ -1,13 +1,13 @@
 -- What write_content's contract asks at each way out.
 use mathlib.Core.Path.{◌≡◌, refl, sym, ◌∙◌, ap, subst}
 use mathlib.Core.List.{List}
-use mathlib.Core.Option.{none, some}
-use Prim.Native.Nat.{ℕ, ◌+◌, ◌^◌, ◌≤◌, ◌<◌}
+use mathlib.Core.Option.{some}
+use Prim.Native.Nat.{ℕ, ◌^◌, ◌≤◌, ◌<◌}
 use native.Mathlib.Omega.{arith}
 use lib.ListN.{length}
 use lib.Seq.{take-length}
 use Rattle.flow.specs.Steps.{Answer}
-use Rattle.flow.specs.Flow.{Done, Fault, stored, reported}
+use Rattle.flow.specs.Flow.{Done, Fault, reported}
 use Rattle.flow.specs.OverlayLaws.{stored_out}
 use Rattle.scalar.specs.declared.Encoding.{Encoding}
 use Rattle.scalar.specs.Scalars.{units, fitting, string_at}

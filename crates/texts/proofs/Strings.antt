@@ -41,7 +41,7 @@ use Rattle.texts.specs.Answers.{extent_at, told_extent, shifted, text_at, Passes
 use Rattle.texts.specs.Answers.{Over, WithinSays, WithinMet, CutMet, last_form}
 use Rattle.texts.specs.Answers.{head_form, prefixed, chunked, head_by, head_at, HeadSays, HeadMet, with_content}
 use Rattle.texts.specs.Answers.{chunk_by, chunk_at, ChunkSays, ChunkMet, Joining, Parting, Cutting, HeadsMet}
-use Rattle.texts.specs.Answers.{StringIs, PassedSays, PassedMet, StringHas, shortest_of, PassedLength}
+use Rattle.texts.specs.Answers.{PassedSays, PassedMet, StringHas, shortest_of, PassedLength}
 use Rattle.texts.specs.At.{Opens, basic, below_half, supplementary, opens_units, Halves, HighHalf}
 use Rattle.texts.specs.At.{continued_size, characters_none, characters_ends, characters_other, characters_half}
 use Rattle.texts.specs.At.{characters_low, characters_alone, characters_fault, characters_next}

@@ -1,7 +1,7 @@
 -- Texts and byte strings at a place of a whole message, by what stands there: how many bytes are read, or which
 -- refusal.
 use Rattle.std.specs.Prelude.{◌≡◌, ℕ, zero, suc, ◌+◌, ◌-◌, ◌<◌, ◌≤◌, Bool, true, false, cond, List, [], ◌∷◌, ◌++◌, length, take, drop, slice_index, slice_index_or, refl}
-use Rattle.std.proofs.Common.{sym, ◌∙◌, ap, subst, add-zero, add-one, arith, length-append, length-take, length-drop, drop_of_length-le, drop-cons, drop-drop, get_or-drop}
+use Rattle.std.proofs.Common.{sym, ◌∙◌, ap, subst, add-zero, add-one, arith, length-take, length-drop, drop_of_length-le, drop-cons, drop-drop, get_or-drop}
 use Rattle.std.proofs.Math.Option.{Option, none, some}
 use Rattle.flow.specs.Tests.{by_test, by_cases, split, pick_true, pick_false, pick_either, within_yes}
 use Rattle.flow.specs.Tests.{within_below, within_above, within_is, bytes_drop}
@@ -21,7 +21,7 @@ use Rattle.scalar.specs.declared.CharLead.TheVariants.{Basic, Supplementary, Hal
 use Rattle.texts.specs.declared.HeadForm.{HeadForm}
 use Rattle.texts.specs.declared.HeadForm.TheVariants.{Starts, NoHead}
 use Rattle.scalar.specs.Scalars.{value, Form, form_at, inside, bytes_of, number_from, part_head, last_heads}
-use Rattle.scalar.specs.Scalars.{char_lead, paired, total, units, ranged, continued, pair_of, pair_then, character}
+use Rattle.scalar.specs.Scalars.{char_lead, paired, total, units, ranged, continued, pair_of, character}
 use Rattle.scalar.specs.Scalars.{characters, octets, body, chunk, chunks, string_at, by_second}
 use Rattle.scalar.specs.RuleLaws.{value_plain}
 use Rattle.scalar.specs.FormLaws.{head_codes, part_form, last_forms, part_head_law, last_heads_law, form_none, form_either}

@@ -1,10 +1,10 @@
 -- Laws for the proofs of the functions on groups: stores one by one, the digits of a line, the bytes of a group and their repeats.
-use mathlib.Core.{Path.{◌≡◌, refl, sym, ◌∙◌, ap, subst}, Bool.{Bool, true, false, not, ◌&&◌}, List.{List, [], ◌∷◌, ◌++◌}, Logic.{inl, inr}}
+use mathlib.Core.{Path.{◌≡◌, refl, sym, ◌∙◌, ap, subst}, Bool.{Bool, true, false, ◌&&◌}, List.{List, [], ◌∷◌, ◌++◌}, Logic.{inl, inr}}
 use Prim.Native.Nat.{ℕ, zero, suc, ◌+◌, ◌-◌, ◌*◌, ◌/◌, ◌%◌, ◌^◌, ◌≤◌, ◌<◌, max}
 use native.Mathlib.{Numerals.add-one, Nat.{zero-mul, suc-mul}, Omega.arith}
 use lib.{Dec.{ltb, leb, eqb}, ListN.{length, take, drop, get_or, set, length-set, length-append, length-take, drop_of_length-le}}
 use lib.Seq.{sets, slice, sets-eq, length-sets, set_out, take-set-le, slice-cons, length-slice, drop-cons, take_at, drop_at, length-take-le}
-use borrow.Author.Tests.{lt-ltb, le-ltb, le-leb, lt-leb, eq-eqb, leb-true, leb-false, eqb-true, eqb-false, not-true, not-false}
+use borrow.Author.Tests.{lt-ltb, le-ltb, le-leb, lt-leb, eq-eqb, leb-true, leb-false, eqb-true, eqb-false}
 use Rattle.flow.specs.{Flow.pick, Tests.{pick_true, pick_false, split, by_cases}}
 use Rattle.vectors.specs.declared.{Scanned.{Scanned, TheVariants.{Number, NoNumber}}, Step.{Step, TheVariants.{On, Stuck}}}
 use Rattle.vectors.specs.{Cases.{digit_at, worth, Digits, DecimalMet, TimesMet}, CaseLaws.{true_false, both_true, stands_says}, GroupLaws.{stands_within, group_on}}
@@ -88,11 +88,11 @@ repeats_none l from size t z h k = record { some = z; wide = h; same = refl; lev
 module _ {l₀ : List ℕ} {from size t : ℕ} {l : List ℕ} {left here : ℕ} (w : Repeats l₀ from size t l left here) where
   -- what the answer of `again` says of the room
   module _ {b : Bool} (e : b ≡ leb (here + (size - from)) (length l)) where
-    pub again_room : not b ≡ false → here + (size - from) ≤ length l
-    again_room h = leb-true (here + (size - from)) (length l) (sym e ∙ not-false b h)
+    pub again_room : b ≡ true → here + (size - from) ≤ length l
+    again_room h = leb-true (here + (size - from)) (length l) (sym e ∙ h)
 
-    pub again_none : not b ≡ true → length l < here + (size - from)
-    again_none h = leb-false (here + (size - from)) (length l) (sym e ∙ not-true b h)
+    pub again_none : b ≡ false → length l < here + (size - from)
+    again_none h = leb-false (here + (size - from)) (length l) (sym e ∙ h)
 
   -- one of them taken from those that are left
   one_less : 0 < left → (left ≡ suc (left - 1)) × (left * (size - from) ≡ (left - 1) * (size - from) + (size - from))

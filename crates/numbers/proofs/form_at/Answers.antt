@@ -1,5 +1,4 @@
 -- Each arm's callee goes over the forms of its kind.
-use Rattle.std.proofs.Common.{rules}
 use Rattle.scalar.specs.FormLaws.{forms_null, forms_false, forms_true}
 use Rattle.numbers.proofs.form_at.Goals as goal
 

@@ -1,5 +1,4 @@
 -- The forms are those of ints.
-use Rattle.std.proofs.Common.{rules}
 use Rattle.scalar.specs.FormLaws.{forms_int}
 use Rattle.numbers.proofs.spell_int.Goals as goal
 

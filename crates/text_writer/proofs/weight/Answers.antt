@@ -1,7 +1,6 @@
 -- `weight` meets its contract.
 use mathlib.Core.Path.{sym}
 use native.Mathlib.Omega.{arith}
-use borrow.Author.Rules.{rules}
 use Rattle.scalar.specs.TextUnits.{light, single_low, single_high, double}
 use Rattle.text_writer.proofs.weight.Goals as goal
 

@@ -1,5 +1,5 @@
 -- By the units: heads of one, two and three bytes, and none.
-use Rattle.std.proofs.Common.{arith, rules}
+use Rattle.std.proofs.Common.{arith}
 use Rattle.scalar.specs.TextShort.{last_length, short_few}
 use Rattle.scalar.specs.StringLengths.{last_none}
 use Rattle.texts.proofs.last_head_size.Goals as goal

@@ -1,7 +1,6 @@
 -- `again` meets its contract. The measure is what is left to store.
 use Prim.Native.Nat.{◌-◌}
-use borrow.Author.Rules.{rules}
-use Rattle.vectors.proofs.Stores.{Copied, copied_more, copied_full, copied_all}
+use Rattle.vectors.proofs.Stores.{Copied}
 use Rattle.vectors.proofs.again.Given as goal
 
 abbrev pub invariant-loop-back : goal.invariant-loop-back

@@ -1,8 +1,5 @@
-use mathlib.Core.Path.{◌≡◌}
-use Prim.Native.Nat.{◌-◌}
-use lib.ListN.{length}
 use borrow.Author.Rules.{rules}
-use Rattle.vectors.proofs.Laws.{Between, filled_more, all_filled}
+use Rattle.vectors.proofs.Laws.{filled_more, all_filled}
 use Rattle.vectors.proofs.fill.Goals as goal
 
 pub loop-i-preserved : goal.loop-i-preserved

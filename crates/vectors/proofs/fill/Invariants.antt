@@ -2,8 +2,7 @@
 use mathlib.Core.Path.{◌≡◌}
 use Prim.Native.Nat.{◌-◌}
 use lib.ListN.{length}
-use borrow.Author.Rules.{rules}
-use Rattle.vectors.proofs.Laws.{Between, filled_more, all_filled}
+use Rattle.vectors.proofs.Laws.{Between}
 use Rattle.vectors.proofs.fill.Given as goal
 
 abbrev pub invariant-loop-i : goal.invariant-loop-i

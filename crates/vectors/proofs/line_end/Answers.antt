@@ -1,7 +1,5 @@
-use Prim.Native.Nat.{◌-◌, ◌≤◌, max}
-use lib.ListN.{length}
 use borrow.Author.Rules.{rules}
-use Rattle.vectors.proofs.Laws.{NoEnd, no_end_more, end_found, end_past}
+use Rattle.vectors.proofs.Laws.{no_end_more, end_found, end_past}
 use Rattle.vectors.proofs.line_end.Goals as goal
 
 pub returns-then-input-here-eq10 : goal.returns-then-input-here-eq10

@@ -1,8 +1,7 @@
 -- `line_end` meets its contract. The invariant: no newline was passed. The measure is what is left of the input.
 use Prim.Native.Nat.{◌-◌, ◌≤◌, max}
 use lib.ListN.{length}
-use borrow.Author.Rules.{rules}
-use Rattle.vectors.proofs.Laws.{NoEnd, no_end_more, end_found, end_past}
+use Rattle.vectors.proofs.Laws.{NoEnd}
 use Rattle.vectors.proofs.line_end.Given as goal
 
 abbrev pub invariant-loop-here : goal.invariant-loop-here

@@ -1,7 +1,5 @@
 -- `repeat` meets its contract. The measure is how often the bytes are still to be stored.
-use native.Mathlib.Omega.{arith}
-use borrow.Author.Rules.{rules}
-use Rattle.vectors.proofs.Stores.{again_room, again_none, Repeats, repeats_none, repeats_more, repeats_full, repeats_all, repeats_never}
+use Rattle.vectors.proofs.Stores.{Repeats}
 use Rattle.vectors.proofs.repeat.Given as goal
 
 abbrev pub invariant-loop-left : goal.invariant-loop-left

@@ -2,9 +2,7 @@
 use mathlib.Core.Path.{◌≡◌}
 use Prim.Native.Nat.{◌-◌}
 use lib.ListN.{length, drop}
-use borrow.Author.Rules.{rules}
 use Rattle.vectors.specs.Cases.{sum_from}
-use Rattle.vectors.proofs.Laws.{sum_more, sum_done}
 use Rattle.vectors.proofs.sum.Given as goal
 
 abbrev pub invariant-loop-i : goal.invariant-loop-i

@@ -1,6 +1,5 @@
 -- `times` meets its contract.
 use native.Mathlib.Omega.{arith}
-use borrow.Author.Rules.{rules}
 use Rattle.vectors.specs.CaseLaws.{stands_says}
 use Rattle.vectors.proofs.Laws.{times_told, times_once}
 use Rattle.vectors.proofs.times.Goals as goal

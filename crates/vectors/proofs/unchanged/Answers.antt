@@ -1,7 +1,5 @@
-use Prim.Native.Nat.{◌-◌, ◌≤◌}
-use lib.ListN.{length}
 use borrow.Author.Rules.{rules}
-use Rattle.vectors.proofs.Laws.{Between, unchanged_more, all_filled, not_filled}
+use Rattle.vectors.proofs.Laws.{unchanged_more, all_filled, not_filled}
 use Rattle.vectors.proofs.unchanged.Goals as goal
 
 pub returns-then-bytes-i : goal.returns-then-bytes-i

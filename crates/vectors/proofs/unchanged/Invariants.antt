@@ -1,8 +1,7 @@
 -- `unchanged` meets its contract. The invariant: the bytes passed are filled. The measure is what is left of them.
 use Prim.Native.Nat.{◌-◌, ◌≤◌}
 use lib.ListN.{length}
-use borrow.Author.Rules.{rules}
-use Rattle.vectors.proofs.Laws.{Between, unchanged_more, all_filled, not_filled}
+use Rattle.vectors.proofs.Laws.{Between}
 use Rattle.vectors.proofs.unchanged.Given as goal
 
 abbrev pub invariant-loop-i : goal.invariant-loop-i

@@ -1,5 +1,4 @@
 -- The table has the entries in the order of the bytes.
-use Rattle.std.proofs.Common.{rules}
 use Rattle.scalar.specs.ChartLaws.{entries}
 use Rattle.numbers.proofs.chart.entry.Goals as goal
 

@@ -1,5 +1,5 @@
 -- An entry's last digit is how many bytes follow.
-use Rattle.std.proofs.Common.{ℕ, ◌%◌, ap, ◌∙◌, rules}
+use Rattle.std.proofs.Common.{ℕ, ◌%◌, ap, ◌∙◌}
 use Rattle.scalar.specs.ChartLaws.{entry_parts}
 use Rattle.numbers.proofs.chart.following.Goals as goal
 

@@ -1,5 +1,5 @@
 -- A form by its first byte; the others are read as any number.
-use Rattle.std.proofs.Common.{arith, rules}
+use Rattle.std.proofs.Common.{arith}
 use Rattle.scalar.specs.declared.Sort.TheVariants.{Double}
 use Rattle.scalar.specs.FormLaws.{forms_double}
 use Rattle.numbers.proofs.Reading.{begins}

@@ -1,5 +1,5 @@
 -- The only form of each kind.
-use Rattle.std.proofs.Common.{ap, ◌∙◌, rules}
+use Rattle.std.proofs.Common.{ap, ◌∙◌}
 use Rattle.scalar.specs.Scalars.{forms_of}
 use Rattle.scalar.specs.FormLaws.{forms_null, forms_false, forms_true}
 use Rattle.numbers.proofs.direct.pass_single.Goals as goal

@@ -1,5 +1,5 @@
 -- `doubles::narrow_magnitude` meets its contract.
-use Rattle.std.proofs.Common.{sym, arith, rules}
+use Rattle.std.proofs.Common.{sym, arith}
 use Rattle.scalar.specs.DoubleLaws.{narrow_top, narrow_normal, narrow_high, narrow_low, narrow_none, narrow_low_lt}
 use Rattle.numbers.proofs.doubles.narrow_magnitude.Goals as goal
 

@@ -1,5 +1,5 @@
 -- `doubles::narrowed` meets its contract.
-use Rattle.std.proofs.Common.{arith, rules}
+use Rattle.std.proofs.Common.{arith}
 use Rattle.scalar.specs.RuleLaws.{narrowed_is}
 use Rattle.numbers.proofs.doubles.narrowed.Goals as goal
 

@@ -1,5 +1,5 @@
 -- `doubles::whole_byte` meets its contract.
-use Rattle.std.proofs.Common.{sym, ap, ◌∙◌, arith, w8, w16, rules}
+use Rattle.std.proofs.Common.{sym, ap, ◌∙◌, arith, w8, w16}
 use mir.ValLaws.{to_z_pos}
 use Rattle.scalar.specs.DoubleLaws.{lowered}
 use Rattle.scalar.specs.Scalars.{whole}

@@ -1,5 +1,5 @@
 -- `doubles::whole_size` meets its contract.
-use Rattle.std.proofs.Common.{sym, arith, rules}
+use Rattle.std.proofs.Common.{sym, arith}
 use Rattle.scalar.specs.DoubleLaws.{size_in, size_high, size_low, size_lt}
 use Rattle.numbers.proofs.doubles.whole_size.Goals as goal
 

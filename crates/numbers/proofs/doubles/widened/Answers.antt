@@ -1,5 +1,5 @@
 -- `doubles::widened` meets its contract.
-use Rattle.std.proofs.Common.{◌%◌, ◌^◌, sym, arith, rules}
+use Rattle.std.proofs.Common.{◌%◌, ◌^◌, sym, arith}
 use Rattle.scalar.specs.DoubleLaws.{widened_top, widened_normal, widened_zero, widened_low, scaled_lt}
 use Rattle.numbers.proofs.doubles.widened.Goals as goal
 
