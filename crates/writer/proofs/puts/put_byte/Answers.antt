@@ -6,6 +6,6 @@ use Rattle.writer.proofs.puts.put_byte.Goals.{then-size-out, else-size-out}
 
 pub returns : goal.returns
 returns c = elim c.if-size-out.branch [
-    then-size-out w ↦ search (puts_in, rules)
+  | then-size-out w ↦ search (puts_in, rules)
   | else-size-out w ↦ search (puts_out, rules)
-  ]
+]

@@ -1,5 +1,5 @@
 -- Each way out has its law in proofs/TypeLaws.antt.
-use borrow.Author.Tests.{not-true, not-false}
+use borrow.Author.Tests.{not-false}
 use borrow.Author.Rules.{rules}
 use Rattle.writer.specs.Promises.{has_type}
 use Rattle.writer.proofs.TypeLaws.{type_none, type_past, type_refused, type_done}

@@ -7,12 +7,12 @@ use Rattle.writer.proofs.values.begin_row.Goals.{then-row-lt-LIST-via-then-row-l
 
 pub put_leaf-requires : goal.put_leaf-requires
 put_leaf-requires c = (
-      search rules,
-      elim c.then-row-lt-LIST.branch [
-        then-row-lt-LIST-via-then-row-lt-LIST w ↦ search (no_holder_low, rules)
-      | then-row-lt-LIST-via-else-row-lt-LIST+then-row-gt-OBJECT w ↦ search (no_holder_high, rules)
-      ],
-    )
+  search rules,
+  elim c.then-row-lt-LIST.branch [
+    | then-row-lt-LIST-via-then-row-lt-LIST w ↦ search (no_holder_low, rules)
+    | then-row-lt-LIST-via-else-row-lt-LIST+then-row-gt-OBJECT w ↦ search (no_holder_high, rules)
+  ],
+)
 
 pub overflow_add-next : goal.overflow_add-next
 overflow_add-next c = omega (arith, c.requires.1, c.type_inv)
@@ -22,9 +22,9 @@ returns-in-NoRecord c = search (row_no_leaf, rules)
 
 pub returns-in-Done : goal.returns-in-Done
 returns-in-Done c = elim c.then-row-lt-LIST.branch [
-    then-row-lt-LIST-via-then-row-lt-LIST w ↦ search (row_leaf, no_holder_low, rules)
+  | then-row-lt-LIST-via-then-row-lt-LIST w ↦ search (row_leaf, no_holder_low, rules)
   | then-row-lt-LIST-via-else-row-lt-LIST+then-row-gt-OBJECT w ↦ search (row_leaf, no_holder_high, rules)
-  ]
+]
 
 pub returns-then-scope-eq0 : goal.returns-then-scope-eq0
 returns-then-scope-eq0 c = search (row_full, rules)
