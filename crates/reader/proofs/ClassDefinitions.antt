@@ -1,6 +1,5 @@
 -- What the contracts on class definitions ask at each way out of the code.
-use Rattle.std.proofs.Common.{◌≡◌, ℕ, suc, ◌+◌, ◌^◌, ◌<◌, ◌≤◌, List, [], ◌∷◌, ◌++◌, length, get_or, take, set, sym, refl, ap, ◌∙◌, subst, inl, inr, ⊎_elim, append-nil, add-one, arith, length-append, length-set, length-take-le, get_or-set_other, get_or-set_same, take-suc-set, w64, Fits, eq-eqb}
-use lib.Seq.{take-set-le}
+use Rattle.std.proofs.Common.{◌≡◌, ℕ, suc, ◌+◌, ◌^◌, ◌<◌, ◌≤◌, List, [], ◌∷◌, ◌++◌, length, get_or, sym, refl, ap, ◌∙◌, subst, inl, inr, ⊎_elim, append-nil, arith, length-append, w64, Fits, eq-eqb}
 use Rattle.scalar.specs.Scalars.{Floats}
 use Rattle.flow.specs.Flow.{Done, One, byte_at}
 use Rattle.scalar.specs.declared.Lead.TheVariants as lead

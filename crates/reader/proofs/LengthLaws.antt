@@ -1,6 +1,5 @@
 -- 2026-06: what the contracts of `lengths` ask, and the sum of rows' lengths.
-use Rattle.std.proofs.Common.{◌≡◌, ℕ, zero, suc, ◌+◌, ◌%◌, ◌^◌, ◌<◌, ◌≤◌, Bool, true, false, ◌&&◌, eqb, List, [], ◌∷◌, map, length, get_or, set, sym, refl, ap, ◌∙◌, subst, arith, w64, Fits, le-ltb, lt-ltb, eqb-true}
-use Rattle.flow.specs.Flow.{pick}
+use Rattle.std.proofs.Common.{◌≡◌, ℕ, zero, suc, ◌+◌, ◌%◌, ◌^◌, ◌<◌, ◌≤◌, Bool, true, false, ◌&&◌, List, [], ◌∷◌, map, length, get_or, set, sym, refl, ap, ◌∙◌, subst, arith, w64, Fits, le-ltb, lt-ltb, eqb-true}
 use Rattle.flow.specs.Tests.{split, by_cases, pick_false}
 use Rattle.scalar.specs.declared.Encoding.{Encoding}
 use Rattle.scalar.specs.declared.Encoding.TheVariants.{Utf8, Binary}
@@ -12,7 +11,7 @@ use Rattle.texts.specs.Answers.{StringHas, shortest_of, PassedLength}
 use Rattle.record.specs.Model.Rows.{Row, row}
 use Rattle.record.specs.Model.Claims.{is_text_kind}
 use Rattle.record.specs.Model.Terms.{at_five_f, first_in_thousandths, row_in_thousandths}
-use Rattle.record.specs.ForReader.ReadingAt.{from, numbered}
+use Rattle.record.specs.ForReader.ReadingAt.{numbered}
 use Rattle.record.specs.Laws.RowLengths.{row_length, length_under, list_length, object_length, few_length, more_length}
 use Rattle.record.specs.Laws.RowLengths.{number_row_length, list_row_length, typed_list_row_length, map_row_length}
 use Rattle.record.specs.Laws.RowLengths.{typed_map_row_length, object_row_length, reference_row_length}

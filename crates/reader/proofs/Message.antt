@@ -8,7 +8,7 @@ use Rattle.record.specs.Model.Items.{Known, start}
 use Rattle.record.specs.Model.Reading.{Opening, value_from}
 use Rattle.record.specs.Model.Rows.{Row}
 use Rattle.record.specs.Model.Answers.{ReadResult, Accept, Refuse, read, base, as_numbers, as_bytes, read_numbers}
-use Rattle.record.specs.Model.Answers.{filled, lent_rows, base_open_from, length_answered, shortest_length}
+use Rattle.record.specs.Model.Answers.{filled, lent_rows, base_open_from, length_answered}
 use Rattle.record.specs.Model.Calls.{ReadCall, MeasuredCall}
 use Rattle.record.specs.ForReader.ReadingAt.{ReadingAt, ReadTo, RefusedAt, run, on, on_same, numbered, numbered_length}
 use Rattle.record.specs.ForReader.ReadLoops.{rest, rest_step, rest_stop}
