@@ -7,7 +7,7 @@ use Rattle.scalar.specs.declared.Lead.TheVariants as lead
 use Rattle.scalar.specs.declared.Encoding.TheVariants.{Utf8}
 use Rattle.texts.specs.declared.StringPassed.{StringPassed}
 use Rattle.texts.specs.declared.StringPassed.TheVariants.{Content, Refused}
-use Rattle.scalar.specs.ChartLaws.{definition_byte}
+use Rattle.scalar.proofs.ChartLaws.{definition_byte}
 use Rattle.scalar.specs.Answers.{sized, measured_at}
 use Rattle.texts.specs.Answers.{PassedMet}
 use Rattle.record.specs.Model.Items.{Known, Definition, defined}

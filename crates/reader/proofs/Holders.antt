@@ -10,7 +10,7 @@ use Rattle.numbers.specs.declared.NumberPassed.{NumberPassed}
 use Rattle.numbers.specs.declared.NumberPassed.TheVariants as number
 use Rattle.scalar.specs.declared.Lead.{Lead}
 use Rattle.scalar.specs.declared.Lead.TheVariants as lead
-use Rattle.scalar.specs.ChartLaws.{list_byte, typed_list_byte, object_byte}
+use Rattle.scalar.proofs.ChartLaws.{list_byte, typed_list_byte, object_byte}
 use Rattle.scalar.specs.Answers.{number_at}
 use Rattle.numbers.specs.Answers.{passed}
 use Rattle.record.specs.declared.Group.TheVariants.{Fields}

@@ -15,7 +15,7 @@ use Rattle.scalar.specs.declared.Lead.TheVariants as lead
 use Rattle.scalar.specs.Answers.{number_at}
 use Rattle.numbers.specs.Answers.{passed}
 use Rattle.scalar.specs.Scalars.{sort_kind}
-use Rattle.scalar.specs.NumberTheorems.{within_message}
+use Rattle.scalar.proofs.NumberTheorems.{within_message}
 use Rattle.scalar.specs.Answers.{sized, measured_at}
 use Rattle.texts.specs.Answers.{PassedMet, StringHas}
 use Rattle.record.specs.Model.Items.{Known}

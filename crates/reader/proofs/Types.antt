@@ -12,8 +12,8 @@ use Rattle.scalar.specs.Chart.{lead_of, kind_of}
 use Rattle.scalar.specs.Answers.{number_at}
 use Rattle.scalar.specs.Chart.{entry}
 use Rattle.numbers.specs.Answers.{passed}
-use Rattle.scalar.specs.ChartLaws.{kind_is, kind_of_text, entry_parts}
-use Rattle.scalar.specs.ByChart.{text_told, text_there}
+use Rattle.scalar.proofs.ChartLaws.{kind_is, kind_of_text, entry_parts}
+use Rattle.scalar.proofs.ByChart.{text_told, text_there}
 use Rattle.texts.specs.Answers.{PassedMet}
 use Rattle.record.specs.Model.Items.{typed}
 use Rattle.record.specs.Model.Rows.{row}

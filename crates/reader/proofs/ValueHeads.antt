@@ -9,8 +9,8 @@ use Rattle.scalar.specs.declared.Sort.TheVariants.{Int, Long}
 use Rattle.scalar.specs.declared.Lead.{Lead}
 use Rattle.scalar.specs.declared.Lead.TheVariants as lead
 use Rattle.scalar.specs.Chart.{lead_of}
-use Rattle.scalar.specs.ChartLaws.{int_lead, long_lead, text_lead, definition_lead}
-use Rattle.scalar.specs.ScalarLaws.{is_scalar, close_shut, reserved_shut}
+use Rattle.scalar.proofs.ChartLaws.{int_lead, long_lead, text_lead, definition_lead}
+use Rattle.scalar.proofs.ScalarLaws.{is_scalar, close_shut, reserved_shut}
 use Rattle.scalar.specs.contracts.Lead.{the_type}
 use Rattle.record.specs.Model.Items.{Known}
 use Rattle.record.specs.Model.Reading.{ValueHead, leaf}

@@ -14,7 +14,7 @@ use Rattle.scalar.specs.declared.Sort.TheVariants as sort
 use Rattle.scalar.specs.declared.Encoding.TheVariants.{Utf8, Binary}
 use Rattle.scalar.specs.Scalars.{shortest, forms_of, units, string_at, Scalar, Num, Str, shortest_scalar, shortest_int}
 use Rattle.scalar.specs.Scalars.{sort_kind}
-use Rattle.scalar.specs.ScalarLaws.{number_shortest, string_shortest}
+use Rattle.scalar.proofs.ScalarLaws.{number_shortest, string_shortest}
 use Rattle.record.specs.Model.Items.{Value, Leaf, UntypedList, TypedList, UntypedMap, TypedMap, Object, Reference, Item}
 use Rattle.record.specs.Model.Items.{Val, Definition, ClassName, FieldName, TypeName, TypeNumber}
 use Rattle.record.specs.Model.Rows.{Row, item_row}

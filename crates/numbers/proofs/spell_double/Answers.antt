@@ -1,6 +1,6 @@
 -- Past k of the forms, the next one is tried.
 use Rattle.std.proofs.Common.{◌∙◌, rules}
-use Rattle.scalar.specs.FormLaws.{double_forms, forms_double}
+use Rattle.scalar.proofs.FormLaws.{double_forms, forms_double}
 use Rattle.numbers.proofs.Writing.{first_found, not_found, added_second, Past}
 use Rattle.numbers.proofs.spell_double.Goals as goal
 

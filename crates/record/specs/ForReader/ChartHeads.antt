@@ -9,7 +9,7 @@ use Rattle.scalar.specs.declared.Sort.TheVariants as sort
 use Rattle.scalar.specs.declared.Encoding.TheVariants.{Utf8, Binary}
 use Rattle.scalar.specs.Scalars.{Scalar, Num, Str}
 use Rattle.scalar.specs.Chart.{ranges, range_of, lead_of, kind_of}
-use Rattle.scalar.specs.ScalarLaws.{lead_for}
+use Rattle.scalar.proofs.ScalarLaws.{lead_for}
 use Rattle.record.specs.Model.Items.{Leaf, Val}
 use Rattle.record.specs.Model.Rows.{item_row}
 use Rattle.record.specs.Model.Reading.{ValueHead, leaf, few, few_of_type, few_fields, counted, counted_typed_head}

@@ -14,8 +14,8 @@ use Rattle.scalar.specs.declared.Encoding.{Encoding}
 use Rattle.scalar.specs.declared.Encoding.TheVariants.{Utf8}
 use Rattle.scalar.specs.Scalars.{forms_of, number_from, string_from, string_at, is_text, int_from, text_from}
 use Rattle.scalar.specs.Answers.{number_at}
-use Rattle.scalar.specs.NumberAt.{number_lifts}
-use Rattle.scalar.specs.TextLaws.{string_lifts}
+use Rattle.scalar.proofs.NumberAt.{number_lifts}
+use Rattle.scalar.proofs.TextLaws.{string_lifts}
 use Rattle.scalar.specs.Answers.{Sizes, sized, sizes, measured_at}
 use Rattle.record.specs.Model.Items.{Item, TypeName, TypeNumber, Known, typed, Limits}
 use Rattle.record.specs.Model.Reading.{Reader, Opening, int, count, name, type_from}

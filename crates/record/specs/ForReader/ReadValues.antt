@@ -18,10 +18,10 @@ use Rattle.scalar.specs.declared.Lead.{Lead}
 use Rattle.scalar.specs.declared.Lead.TheVariants as lead
 use Rattle.scalar.specs.Scalars.{forms_of, number_from, sort_kind, string_from, string_at, Scalar, Num, Str, scalar_from}
 use Rattle.scalar.specs.Chart.{lead_of}
-use Rattle.scalar.specs.ByChart.{scalar_by, scalar_by_law}
+use Rattle.scalar.proofs.ByChart.{scalar_by, scalar_by_law}
 use Rattle.scalar.specs.Answers.{number_at}
 use Rattle.scalar.specs.Answers.{Sizes, sized, sizes, measured_at}
-use Rattle.scalar.specs.ScalarLaws.{is_scalar, scalar_shut}
+use Rattle.scalar.proofs.ScalarLaws.{is_scalar, scalar_shut}
 use Rattle.scalar.specs.Scalars.{Floats}
 use Rattle.record.specs.declared.Group.{Group}
 use Rattle.record.specs.declared.Group.TheVariants.{Counted, Fields, Open, Pairs}

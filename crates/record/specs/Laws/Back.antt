@@ -11,7 +11,7 @@ use Rattle.flow.specs.Tests.{by_test, tests, and_left, and_right}
 use Rattle.flow.specs.Grammar.{Phrase, Many, finished, another, Ended, ended, Preceded, alone, first}
 use Rattle.scalar.specs.Grammar.{Spelt, Int, Text}
 use Rattle.scalar.specs.Scalars.{shortest_scalar, shortest_int, shortest_text}
-use Rattle.scalar.specs.ScalarLaws.{Is, int_is, text_is, scalar_is}
+use Rattle.scalar.proofs.ScalarLaws.{Is, int_is, text_is, scalar_is}
 use Rattle.scalar.specs.Scalars.{Floats}
 use Rattle.record.specs.Model.Items.{Value, Leaf, UntypedList, TypedList, UntypedMap, TypedMap, Object, Reference}
 use Rattle.record.specs.Model.Items.{Item, Val, Definition, ClassName, FieldName, TypeName, TypeNumber, Known}

@@ -8,7 +8,7 @@ use Rattle.scalar.specs.declared.Encoding.{Encoding}
 use Rattle.scalar.specs.declared.Encoding.TheVariants.{Utf8, Binary}
 use Rattle.scalar.specs.Scalars.{total, string_at, shortest_string, shortest_scalar, Num, Str}
 use Rattle.scalar.specs.Answers.{length_of, content_read, item_form}
-use Rattle.scalar.specs.AnswerLaws.{item_done}
+use Rattle.scalar.proofs.AnswerLaws.{item_done}
 use Rattle.record.specs.Model.Items.{Leaf, UntypedList, TypedList, UntypedMap, TypedMap, Object, Reference, Item}
 use Rattle.record.specs.Model.Items.{Val, Definition, ClassName, FieldName, TypeName, TypeNumber}
 use Rattle.record.specs.Model.Rows.{Row, item_row}

@@ -17,8 +17,8 @@ use Rattle.flow.specs.Laws.{pass_makes, skip_makes, Leads, leads_byte, Led, Make
 use Rattle.flow.specs.Laws.{preceded_by_makes}
 use Rattle.scalar.specs.Scalars.{Scalar, is_text, scalar_from, int_from, text_from}
 use Rattle.scalar.specs.Grammar.{Int}
-use Rattle.scalar.specs.ScalarLaws.{is_scalar, scalar_makes, int_makes, text_makes, scalar_owned, text_first, int_first}
-use Rattle.scalar.specs.ScalarLaws.{scalar_shut}
+use Rattle.scalar.proofs.ScalarLaws.{is_scalar, scalar_makes, int_makes, text_makes, scalar_owned, text_first, int_first}
+use Rattle.scalar.proofs.ScalarLaws.{scalar_shut}
 use Rattle.scalar.specs.Scalars.{DoubleRule}
 use Rattle.record.specs.Model.Items.{Leaf, UntypedList, TypedList, UntypedMap, TypedMap, Object, Reference, Item}
 use Rattle.record.specs.Model.Items.{Val, Definition, ClassName, FieldName, TypeName, TypeNumber, Known, opened}

@@ -7,8 +7,8 @@ use Rattle.flow.specs.Laws.{Parsed, byte_reads, leads_byte}
 use Rattle.scalar.specs.Grammar.{SpeltUnder}
 use Rattle.scalar.specs.Scalars as scalars
 use Rattle.scalar.specs.Grammar as scalar-grammar
-use Rattle.scalar.specs.NumberLaws.{number_some}
-use Rattle.scalar.specs.TextLaws.{string_some}
+use Rattle.scalar.proofs.NumberLaws.{number_some}
+use Rattle.scalar.proofs.TextLaws.{string_some}
 use Rattle.scalar.specs.Scalars.{DoubleRule}
 use Rattle.record.specs.Model.Items.{Item, FieldName, Known, start, Limits}
 use Rattle.record.specs.Model.Reading.{value_from}

@@ -10,7 +10,7 @@ use Rattle.flow.specs.Steps.{renamed, top}
 use Rattle.flow.specs.Retellings as tell
 use Rattle.flow.specs.Retellings.{retold}
 use Rattle.scalar.specs.Scalars.{Floats, Thousandths, Scalar, Num, Str, is_text, scalar_from, int_from, text_from}
-use Rattle.scalar.specs.UnderRules.{scalar_in_thousandths, int_lifts, text_lifts, scalar_lifts, scalar_in_thousandths_law}
+use Rattle.scalar.proofs.UnderRules.{scalar_in_thousandths, int_lifts, text_lifts, scalar_lifts, scalar_in_thousandths_law}
 use Rattle.record.specs.Model.Items.{Value, Leaf, UntypedList, TypedList, UntypedMap, TypedMap, Object, Reference}
 use Rattle.record.specs.Model.Items.{Item, Val, Definition, ClassName, FieldName, TypeName, TypeNumber}
 use Rattle.record.specs.Model.Items.{Known, start, opened, typed, defined, Limits}

@@ -11,8 +11,8 @@ use Rattle.std.proofs.Math.ListN.{length}
 use Rattle.flow.specs.Tests.{by_test, tests}
 use Rattle.scalar.specs.Scalars.{total, shortest_scalar, shortest_int, shortest_text}
 use Rattle.scalar.specs.Answers.{length_of}
-use Rattle.scalar.specs.AnswerLaws.{length_some}
-use Rattle.scalar.specs.ScalarLaws.{small_count}
+use Rattle.scalar.proofs.AnswerLaws.{length_some}
+use Rattle.scalar.proofs.ScalarLaws.{small_count}
 use Rattle.record.specs.Model.Items.{Value, Leaf, UntypedList, TypedList, UntypedMap, TypedMap, Object, Reference}
 use Rattle.record.specs.Model.Items.{Item, Val, Definition, ClassName, FieldName, TypeName, TypeNumber}
 use Rattle.record.specs.Model.Items.{Known, start, opened, typed, Limits}

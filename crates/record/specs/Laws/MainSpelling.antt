@@ -3,7 +3,7 @@
 use Rattle.std.specs.Prelude.{Bool, true, false, List, ℕ, zero, suc}
 use Rattle.flow.specs.Grammar.{Phrase, Many, finished, another, Ended, ended, Preceded, alone, first}
 use Rattle.scalar.specs.Scalars.{DoubleRule, Floats}
-use Rattle.scalar.specs.UnderRules.{spelled_main}
+use Rattle.scalar.proofs.UnderRules.{spelled_main}
 use Rattle.record.specs.Model.Items.{Item, Known, start, Limits}
 use Rattle.record.specs.Model.Grammar.{PairForm, a_pair, PlainForm, a_leaf, a_few_typed, a_counted_typed}
 use Rattle.record.specs.Model.Grammar.{an_open_typed, a_few, a_counted, an_open, a_typed_map, a_map, a_few_object}

@@ -10,7 +10,7 @@ use Rattle.flow.specs.Grammar.{Phrase, Many, finished, another, Ended, ended, Pr
 use Rattle.flow.specs.Tests.{bytes_append}
 use Rattle.flow.specs.Steps.{before}
 use Rattle.flow.specs.Laws.{Parsed, byte_reads, leads_byte}
-use Rattle.scalar.specs.ScalarLaws.{scalar_bytes, int_bytes, text_bytes}
+use Rattle.scalar.proofs.ScalarLaws.{scalar_bytes, int_bytes, text_bytes}
 use Rattle.scalar.specs.Scalars.{DoubleRule}
 use Rattle.record.specs.Model.Items.{Item, FieldName, Known, start, Limits}
 use Rattle.record.specs.Model.Reading.{value_from, message}

@@ -11,7 +11,7 @@ use Rattle.flow.specs.Flow.{mapped, headed, bind, many, until, until_end, preced
 use Rattle.flow.specs.Laws.{Parsed, Quiet, quiet_is}
 use Rattle.scalar.specs.Scalars.{is_text, scalar_from, int_from, text_from}
 use Rattle.scalar.specs.Grammar.{SpeltUnder, Int, Text}
-use Rattle.scalar.specs.ScalarLaws.{scalar_scans, int_scans, text_scans}
+use Rattle.scalar.proofs.ScalarLaws.{scalar_scans, int_scans, text_scans}
 use Rattle.scalar.specs.Scalars.{DoubleRule}
 use Rattle.record.specs.Model.Items.{typed, Leaf, UntypedList, TypedList, UntypedMap, TypedMap, Object, Reference, Value}
 use Rattle.record.specs.Model.Items.{Item, Val, Definition, ClassName, FieldName, TypeName, TypeNumber, Known}

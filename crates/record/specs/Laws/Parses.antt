@@ -16,7 +16,7 @@ use Rattle.flow.specs.Laws.{byte_reads, quietly, binds_quiet, preceded_by_reads}
 use Rattle.flow.specs.Laws as Laws
 use Rattle.scalar.specs.Scalars.{is_text, scalar_from, int_from, text_from}
 use Rattle.scalar.specs.Grammar.{SpeltUnder, Int, Text}
-use Rattle.scalar.specs.ScalarLaws.{scalar_scans, int_scans, text_scans}
+use Rattle.scalar.proofs.ScalarLaws.{scalar_scans, int_scans, text_scans}
 use Rattle.scalar.specs.Scalars.{DoubleRule}
 use Rattle.record.specs.Model.Items.{Leaf, UntypedList, TypedList, UntypedMap, TypedMap, Object, Reference, Item}
 use Rattle.record.specs.Model.Items.{Val, Definition, ClassName, FieldName, TypeName, TypeNumber, Known, opened}

@@ -10,7 +10,7 @@ use Rattle.flow.specs.Refusals as tell
 use Rattle.flow.specs.Refusals.{Told, give_tells, fail_tells, asking_tells, changing_tells, cond_tells, mapped_tells}
 use Rattle.flow.specs.Refusals.{headed_tells, bind_tells, byte_tells, many_tells, end_tells, preceded_by_tells}
 use Rattle.scalar.specs.Scalars.{is_text}
-use Rattle.scalar.specs.Refusals as scalar
+use Rattle.scalar.proofs.RefusalLaws as scalar
 use Rattle.scalar.specs.Scalars.{DoubleRule}
 use Rattle.record.specs.Model.Items.{Leaf, UntypedList, TypedList, UntypedMap, Reference, Object, Item, Val}
 use Rattle.record.specs.Model.Items.{Definition, ClassName, FieldName, TypeName, TypeNumber, Known, start}

@@ -15,8 +15,8 @@ use Rattle.scalar.specs.Scalars.{DoubleRule, Floats, Thousandths, forms_of, sort
 use Rattle.scalar.specs.Scalars.{string_at}
 use Rattle.scalar.specs.Answers.{number_at, length_of, length_read, number_length_at, Sizes, sized, sizes, measured_at}
 use Rattle.scalar.specs.Answers.{item_form}
-use Rattle.scalar.specs.AnswerLaws.{length_none, length_some, measured_fault, measured_done, item_done}
-use Rattle.scalar.specs.NumberLaws.{IsNumber, shortest_is, EachForm, number_fact}
+use Rattle.scalar.proofs.AnswerLaws.{length_none, length_some, measured_fault, measured_done, item_done}
+use Rattle.scalar.proofs.NumberLaws.{IsNumber, shortest_is, EachForm, number_fact}
 use Rattle.record.specs.Model.Kinds.{null_kind, false_kind, true_kind, int_kind, long_kind, double_kind}
 use Rattle.record.specs.Model.Kinds.{text_kind, bytes_kind, list_kind, typed_list_kind, map_kind, typed_map_kind}
 use Rattle.record.specs.Model.Kinds.{object_kind, reference_kind, class_kind, class_name_kind, field_name_kind}

@@ -13,7 +13,7 @@ use Rattle.flow.specs.Tests.{by_test, pass, tests}
 use Rattle.flow.specs.Grammar.{Phrase, Many, finished, another, Ended, ended, Preceded, alone, first}
 use Rattle.scalar.specs.Grammar.{Int, Text}
 use Rattle.scalar.specs.Scalars.{shortest_scalar, shortest_int, shortest_text}
-use Rattle.scalar.specs.ScalarLaws.{scalar_short, int_short, int_some, small_count, text_short}
+use Rattle.scalar.proofs.ScalarLaws.{scalar_short, int_short, int_some, small_count, text_short}
 use Rattle.scalar.specs.Scalars.{Floats}
 use Rattle.record.specs.Model.Items.{Value, UntypedList, TypedList, UntypedMap, TypedMap, Object, Reference, Item}
 use Rattle.record.specs.Model.Items.{Val, Definition, ClassName, FieldName, TypeName, TypeNumber, Known, opened}

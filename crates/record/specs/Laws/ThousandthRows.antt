@@ -11,7 +11,7 @@ use Rattle.flow.specs.Tests.{pick_false, pick_through}
 use Rattle.flow.specs.Retellings.{retold}
 use Rattle.scalar.specs.declared.Encoding.TheVariants.{Utf8, Binary}
 use Rattle.scalar.specs.Scalars.{Floats, Thousandths, Num, Str}
-use Rattle.scalar.specs.UnderRules.{in_thousandths_is}
+use Rattle.scalar.proofs.UnderRules.{in_thousandths_is}
 use Rattle.record.specs.Model.Items.{Leaf, UntypedList, TypedList, UntypedMap, TypedMap, Object, Reference}
 use Rattle.record.specs.Model.Items.{Item, Val, Definition, ClassName, FieldName, TypeName, TypeNumber}
 use Rattle.record.specs.Model.Items.{Known, start, Limits}

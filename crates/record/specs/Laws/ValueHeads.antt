@@ -6,7 +6,7 @@ use Rattle.flow.specs.Tests.{skip, pick_true, pick_false, pick_either, within_is
 use Rattle.flow.specs.Tests.{within_above, every, every_at}
 use Rattle.flow.specs.Flow.{pick, within, One}
 use Rattle.scalar.specs.Chart.{ranges, range_of, lead_of, kind_of}
-use Rattle.scalar.specs.ScalarLaws.{is_scalar}
+use Rattle.scalar.proofs.ScalarLaws.{is_scalar}
 use Rattle.scalar.specs.Scalars.{DoubleRule}
 use Rattle.record.specs.Model.Items.{Limits}
 use Rattle.record.specs.Model.Reading.{Opening, plain_from}

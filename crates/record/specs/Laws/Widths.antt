@@ -9,9 +9,9 @@ use Rattle.scalar.specs.declared.Sort.TheVariants as sort
 use Rattle.scalar.specs.declared.Encoding.TheVariants.{Utf8, Binary}
 use Rattle.scalar.specs.Scalars.{Scalar, units, sort_kind}
 use Rattle.scalar.specs.Grammar.{SpeltUnder, a_number, a_string, Text}
-use Rattle.scalar.specs.NumberLaws.{number_some}
-use Rattle.scalar.specs.TextLaws.{string_some}
-use Rattle.scalar.specs.Bits.{number_bits, content_length, units_few}
+use Rattle.scalar.proofs.NumberLaws.{number_some}
+use Rattle.scalar.proofs.TextLaws.{string_some}
+use Rattle.scalar.proofs.Bits.{number_bits, content_length, units_few}
 use Rattle.scalar.specs.Scalars.{DoubleRule}
 use Rattle.record.specs.Model.Items.{Leaf, Item, Val, FieldName, Known, start, opened, typed, defined, Limits}
 use Rattle.record.specs.Model.Rows.{row, item_row, rows_from, rows}

@@ -12,7 +12,7 @@ use Rattle.scalar.specs.declared.Encoding.TheVariants.{Utf8, Binary}
 use Rattle.scalar.specs.Scalars.{string_from, string_at, Num, Str}
 use Rattle.scalar.specs.Answers.{content_read}
 use Rattle.scalar.specs.Grammar.{String, a_string}
-use Rattle.scalar.specs.TextLaws.{string_makes}
+use Rattle.scalar.proofs.TextLaws.{string_makes}
 use Rattle.scalar.specs.Scalars.{DoubleRule, Floats}
 use Rattle.record.specs.Model.Items.{Leaf, UntypedList, TypedList, UntypedMap, TypedMap, Object, Reference, Item}
 use Rattle.record.specs.Model.Items.{Val, Definition, ClassName, FieldName, TypeName, TypeNumber, Known, start}

@@ -1,7 +1,7 @@
 -- `doubles::scaled` meets its contract.
 use Rattle.std.proofs.Common.{◌<◌, arith, rules}
 use lib.Count.{count_leading_zeros}
-use Rattle.scalar.specs.DoubleLaws.{lz_lt, moved, shifted, scaled_is}
+use Rattle.scalar.proofs.DoubleLaws.{lz_lt, moved, shifted, scaled_is}
 use Rattle.numbers.proofs.doubles.scaled.Goals as goal
 
 few : (c : tie.Start) → count_leading_zeros 32 c.args.m < 32

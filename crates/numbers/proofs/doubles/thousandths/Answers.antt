@@ -1,7 +1,7 @@
 -- `doubles::thousandths` meets its contract.
 use Rattle.std.proofs.Common.{ap, ◌∙◌, arith, w32, w64, rules}
 use mir.ValLaws.{to_z-Fits, to_z-of_z}
-use Rattle.scalar.specs.DoubleLaws.{lowered}
+use Rattle.scalar.proofs.DoubleLaws.{lowered}
 use Rattle.scalar.specs.Scalars.{thousandths}
 use Rattle.numbers.proofs.doubles.thousandths.Goals as goal
 

@@ -1,7 +1,7 @@
 -- `doubles::whole_pair` meets its contract.
 use Rattle.std.proofs.Common.{ap, ◌∙◌, arith, w16, w32, rules}
 use mir.ValLaws.{to_z-Fits, to_z-of_z}
-use Rattle.scalar.specs.DoubleLaws.{lowered}
+use Rattle.scalar.proofs.DoubleLaws.{lowered}
 use Rattle.scalar.specs.Scalars.{whole}
 use Rattle.numbers.proofs.doubles.whole_pair.Goals as goal
 

@@ -2,7 +2,7 @@
 use Rattle.std.proofs.Common.{◌≡◌, true, pos, negsuc, ◌-ℤ◌, nat_abs, sym, ap, ◌∙◌, arith, w64, to_z, of_z}
 use lib.Signed.{lt_z, mag}
 use mir.ValLaws.{to_z-of_z}
-use Rattle.scalar.specs.Signed.{flip, neg_bits, pos_view}
+use Rattle.scalar.proofs.Signed.{flip, neg_bits, pos_view}
 use Rattle.numbers.proofs.signed.bits_of.Goals as goal
 
 same : (c : tie.Start) → to_z w64 (of_z w64 c.args.v) ≡ c.args.v

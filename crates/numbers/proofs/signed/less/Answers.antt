@@ -1,7 +1,7 @@
 -- `signed::less` meets its contract.
 use Rattle.std.proofs.Common.{◌≡◌, pos, ◌-ℤ◌, arith, w64, SFits, to_z, rules}
 use mir.ValLaws.{to_z-of_z, to_z_pos}
-use Rattle.scalar.specs.Signed.{minus_fits}
+use Rattle.scalar.proofs.Signed.{minus_fits}
 use Rattle.numbers.proofs.signed.less.Goals as goal
 
 fits : (c : tie.Start) → SFits w64 (pos c.args.u -ℤ pos c.args.k)

@@ -1,7 +1,7 @@
 -- `signed::milliseconds` meets its contract.
 use Rattle.std.proofs.Common.{◌≡◌, pos, ◌*ℤ◌, w32, w64, SFits, to_z, of_z, rules}
 use mir.ValLaws.{to_z-of_z}
-use Rattle.scalar.specs.Signed.{fits_32, widen_fits, mul_fits}
+use Rattle.scalar.proofs.Signed.{fits_32, widen_fits, mul_fits}
 use Rattle.numbers.proofs.signed.milliseconds.Goals as goal
 
 fits : (c : tie.Start) → SFits w32 (to_z w32 c.args.n)

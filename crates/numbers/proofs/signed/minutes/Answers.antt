@@ -2,7 +2,7 @@
 use Rattle.std.proofs.Common.{◌≡◌, pos, arith, w64, SFits, to_z, of_z, rules}
 use lib.Signed.{quot_z}
 use mir.ValLaws.{to_z-of_z, to_z-Fits}
-use Rattle.scalar.specs.Signed.{quot_fits}
+use Rattle.scalar.proofs.Signed.{quot_fits}
 use Rattle.numbers.proofs.signed.minutes.Goals as goal
 
 fits : (c : tie.Start) → SFits w64 (to_z w64 c.args.v)

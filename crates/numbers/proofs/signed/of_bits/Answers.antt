@@ -1,7 +1,7 @@
 -- `signed::of_bits` meets its contract.
 use Rattle.std.proofs.Common.{◌≡◌, ◌-◌, negsuc, ◌-ℤ◌, arith, w64, to_z, rules}
 use mir.ValLaws.{to_z-of_z, to_z_pos}
-use Rattle.scalar.specs.Signed.{unflip, upper}
+use Rattle.scalar.proofs.Signed.{unflip, upper}
 use Rattle.numbers.proofs.signed.of_bits.Goals as goal
 
 is-neg : (c : tie.Else1) → negsuc 0 -ℤ to_z w64 (18446744073709551615 - c.before.args.n) ≡ negsuc (18446744073709551615 - c.before.args.n)

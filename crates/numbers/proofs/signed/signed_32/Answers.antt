@@ -1,7 +1,7 @@
 -- `signed::signed_32` meets its contract.
 use Rattle.std.proofs.Common.{◌≡◌, pos, ◌-ℤ◌, arith, w32, w64, SFits, to_z, rules}
 use mir.ValLaws.{to_z-of_z, to_z_pos}
-use Rattle.scalar.specs.Signed.{low_32, less_32, fits_32, widen_fits}
+use Rattle.scalar.proofs.Signed.{low_32, less_32, fits_32, widen_fits}
 use Rattle.numbers.proofs.signed.signed_32.Goals as goal
 
 is-neg : (c : tie.Else1) → to_z w64 c.before.args.n -ℤ pos 4294967296 ≡ to_z w32 c.before.args.n

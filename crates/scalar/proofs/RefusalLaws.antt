@@ -23,7 +23,7 @@ use Rattle.scalar.specs.Scalars.{last_heads}
 use Rattle.scalar.specs.Scalars.{char_lead, paired, ranged, continued, chained, pair_of, pair_then}
 use Rattle.scalar.specs.Scalars.{character, characters, octets, body, chunk, chunks, string_from}
 use Rattle.scalar.specs.Scalars.{Scalar, Num, Str, begins, or_string, or_number, scalar_from, int_from, text_from}
-use Rattle.scalar.specs.NumberLaws.{begun_under}
+use Rattle.scalar.proofs.NumberLaws.{begun_under}
 
 -- of the reader that there is, if there is one
 data TellsIf {C I : Type 0} (P : ℕ → ℕ → Type 0) (end bound : ℕ) : Option (Read C I (List ℕ)) → Type 0 where

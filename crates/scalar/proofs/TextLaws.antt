@@ -25,11 +25,11 @@ use Rattle.scalar.specs.Grammar.{Number, here, held, Continued, no_more, follows
 use Rattle.scalar.specs.Grammar.{Char, one_byte, one_unit, below_halves, two_units}
 use Rattle.scalar.specs.Grammar.{IsHigh, IsLow, Sent, as_it_is, as_a_pair, Body, empty, with_char}
 use Rattle.scalar.specs.Grammar.{String, last_chunk, chunk_before}
-use Rattle.scalar.specs.NumberLaws.{proper, clear, number_apart, number_scans, NumberLed, number_makes}
-use Rattle.scalar.specs.NumberLaws.{number_bytes, number_some}
-use Rattle.scalar.specs.NumberAt.{number_lifts}
-use Rattle.scalar.specs.CharLeads.{says}
-use Rattle.scalar.specs.TextUnits.{body_bytes}
+use Rattle.scalar.proofs.NumberLaws.{proper, clear, number_apart, number_scans, NumberLed, number_makes}
+use Rattle.scalar.proofs.NumberLaws.{number_bytes, number_some}
+use Rattle.scalar.proofs.NumberAt.{number_lifts}
+use Rattle.scalar.proofs.CharLeads.{says}
+use Rattle.scalar.proofs.TextUnits.{body_bytes}
 
 -- ---- heads: no first byte is of two of them, and all are bytes
 pub heads_proper : (k : Encoding) → T (proper (last_heads k)) × T (proper (part_head k ∷ []))

@@ -20,17 +20,17 @@ use Rattle.scalar.specs.Scalars.{last_heads, string_from, shortest_string, Scala
 use Rattle.scalar.specs.Scalars.{is_text, scalar_from, int_from, text_from, shortest_scalar, shortest_int}
 use Rattle.scalar.specs.Scalars.{shortest_text}
 use Rattle.scalar.specs.Chart.{ranges, range_of, lead_of, kind_of}
-use Rattle.scalar.specs.Grammar.{held, NumberUnder, Number, here, later, String, last_chunk, chunk_before}
+use Rattle.scalar.specs.Grammar.{held, NumberUnder, here, later, String, last_chunk, chunk_before}
 use Rattle.scalar.specs.Grammar.{SpeltUnder, Spelt}
 use Rattle.scalar.specs.Grammar.{a_number, a_string, Int, Text}
-use Rattle.scalar.specs.ChartLaws.{kind_is}
-use Rattle.scalar.specs.ByChart.{scalar_by, kind_shut, scalar_by_law, text_told}
+use Rattle.scalar.proofs.ChartLaws.{kind_is}
+use Rattle.scalar.proofs.ByChart.{scalar_by, kind_shut, scalar_by_law, text_told}
 use Rattle.scalar.specs.Guesses.{guess}
-use Rattle.scalar.specs.NumberLaws.{LedUnder, number_bytes, number_some, number_scans, number_makes, NumberLed}
-use Rattle.scalar.specs.NumberLaws.{shortest_is, IsNumber}
-use Rattle.scalar.specs.Sorts.{properly, none_shorter, int_ranges}
-use Rattle.scalar.specs.TextLaws.{string_bytes, string_scans, string_makes, StringLed}
-use Rattle.scalar.specs.TextShort.{string_short, string_is, IsString}
+use Rattle.scalar.proofs.NumberLaws.{LedUnder, number_bytes, number_some, number_scans, number_makes, NumberLed}
+use Rattle.scalar.proofs.NumberLaws.{shortest_is, IsNumber}
+use Rattle.scalar.proofs.Sorts.{properly, none_shorter, int_ranges}
+use Rattle.scalar.proofs.TextLaws.{string_bytes, string_scans, string_makes, StringLed}
+use Rattle.scalar.proofs.TextShort.{string_short, string_is, IsString}
 
 -- the byte opens a scalar
 abbrev pub is_scalar : ℕ → Bool

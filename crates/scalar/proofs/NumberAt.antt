@@ -1,5 +1,5 @@
 -- A value at a place of a whole message, by its first byte and by what is left of the message.
-use Rattle.std.specs.Prelude.{◌≡◌, refl, List, [], ◌∷◌, ℕ, zero, suc, ◌+◌, ◌*◌, ◌≤◌, ◌<◌, min, length, take, drop, get_or}
+use Rattle.std.specs.Prelude.{◌≡◌, refl, List, [], ◌∷◌, ℕ, zero, suc, ◌+◌, ◌*◌, ◌≤◌, ◌<◌, length, take, drop, get_or}
 use Rattle.std.proofs.Common.{sym, ◌∙◌, ap, add-zero, arith, length-drop, drop_of_length-le, drop-cons}
 use Rattle.std.proofs.Math.Nat.{min-eq_left, min-eq_right}
 use Rattle.flow.specs.Flow.{Outcome, Done, Fault, One, byte_at}
@@ -13,7 +13,7 @@ use Rattle.scalar.specs.declared.Begun.TheVariants.{Starts, NoForm}
 use Rattle.scalar.specs.Scalars.{value, DoubleRule, Floats, value_under, Form, forms_of, form_at, bytes_of}
 use Rattle.scalar.specs.Scalars.{number_under}
 use Rattle.scalar.specs.Scalars.{number_from}
-use Rattle.scalar.specs.NumberLaws.{begun_under, number_by}
+use Rattle.scalar.proofs.NumberLaws.{begun_under, number_by}
 use Rattle.scalar.specs.Answers.{number_at}
 
 -- ---- the bytes after the first: all there, or the message ends

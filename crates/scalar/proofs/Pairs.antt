@@ -10,7 +10,7 @@ use Rattle.scalar.specs.declared.Encoding.TheVariants.{Utf8}
 use Rattle.scalar.specs.declared.CharLead.TheVariants.{Supplementary}
 use Rattle.scalar.specs.Scalars.{char_lead, paired}
 use Rattle.scalar.specs.Grammar.{no_more, follows, Char, two_units, Half, IsHigh, IsLow}
-use Rattle.scalar.specs.CharLeads.{says}
+use Rattle.scalar.proofs.CharLeads.{says}
 
 -- a pair of halves, ed d x and ed y z, whose four bytes are w
 pub record Pair (w : List ℕ) : Type 0 where

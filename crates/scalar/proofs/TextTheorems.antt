@@ -1,6 +1,6 @@
 -- The laws of texts and byte strings by name, for both kinds.
 use Rattle.std.specs.Prelude.{◌≡◌, List, [], ◌∷◌, ◌++◌, ℕ, ◌+◌, ◌≤◌, ◌<◌, min, length, take, drop}
-use Rattle.std.proofs.Common.{◌∙◌, ap, subst, append_assoc, arith, length-drop, length-take, length-take-le, take-add}
+use Rattle.std.proofs.Common.{◌∙◌, ap, subst, append_assoc, arith, length-drop, length-take-le, take-add}
 use Rattle.std.proofs.Math.Option.{some}
 use Rattle.std.proofs.Math.Seq.{drop-append_seam}
 use Rattle.flow.specs.Flow.{Bytes, Entry, Done, One}
@@ -8,11 +8,11 @@ use Rattle.flow.specs.Steps.{Answer}
 use Rattle.flow.specs.Tests.{bytes_drop}
 use Rattle.flow.specs.Laws.{Parsed, takes, quietly, leads_byte}
 use Rattle.scalar.specs.declared.Encoding.{Encoding}
-use Rattle.scalar.specs.NumberTheorems.{no_entries}
+use Rattle.scalar.proofs.NumberTheorems.{no_entries}
 use Rattle.scalar.specs.Scalars.{string_from, string_at, shortest_string}
 use Rattle.scalar.specs.Grammar.{String}
-use Rattle.scalar.specs.TextLaws.{string_scans, string_makes, string_some}
-use Rattle.scalar.specs.TextShort.{string_short, string_is, IsString}
+use Rattle.scalar.proofs.TextLaws.{string_scans, string_makes, string_some}
+use Rattle.scalar.proofs.TextShort.{string_short, string_is, IsString}
 
 -- ---- reading and the grammar
 -- what is read is a string of the grammar, and lies within the message

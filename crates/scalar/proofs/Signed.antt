@@ -1,10 +1,10 @@
 -- Numbers with a sign, in two's complement: what the definitions say in ℤ, said in ℕ.
-use Rattle.std.specs.Prelude.{◌≡◌, refl, true, false, not, cond, ℕ, zero, suc, ◌+◌, ◌-◌, ◌*◌, ◌/◌, ◌^◌, ◌%◌, ◌≤◌, ◌<◌, T, ltb, ℤ, pos, negsuc, neg_ℤ, ◌-ℤ◌, ◌*ℤ◌}
+use Rattle.std.specs.Prelude.{◌≡◌, refl, true, false, ℕ, zero, suc, ◌+◌, ◌-◌, ◌*◌, ◌/◌, ◌^◌, ◌%◌, ◌≤◌, ◌<◌, ltb, ℤ, pos, negsuc, neg_ℤ, ◌-ℤ◌, ◌*ℤ◌}
 use Rattle.std.proofs.Common.{sym, ap, subst, arith, ltb→lt, nltb→le, ltb-true}
 use Rattle.std.proofs.Math.IntN.{sub_ℕ}
 use Rattle.std.specs.Int.Signed.{mag, lt_z, quot_z}
 use Rattle.std.specs.Int.{w32, w64}
-use mir.Val.{SFits, of_z, to_z, bits}
+use mir.Val.{SFits, of_z, to_z}
 use mir.ValLaws.{to_z-of_z, to_z-neg, to_z_pos}
 use Rattle.flow.specs.Tests.{by_test, split}
 

@@ -8,15 +8,15 @@ use Rattle.scalar.specs.declared.Sort.{Sort}
 use Rattle.scalar.specs.declared.Sort.TheVariants.{Null, False, True, Int, Long, Double, Date}
 use Rattle.scalar.specs.declared.Rule.TheVariants.{Offset, Signed}
 use Rattle.scalar.specs.declared.Encoding.{Encoding}
-use Rattle.scalar.specs.Signed.{minus_fits, fits_32, widen_fits, mul_fits}
-use Rattle.scalar.specs.DoubleLaws.{whole_lt, widened_lt}
+use Rattle.scalar.proofs.Signed.{minus_fits, fits_32, widen_fits, mul_fits}
+use Rattle.scalar.proofs.DoubleLaws.{whole_lt, widened_lt}
 use Rattle.scalar.specs.Scalars.{value, DoubleRule, Floats, Thousandths, forms_of, units}
 use Rattle.scalar.specs.Grammar.{NumberUnder, follows, Char, one_byte, one_unit, below_halves, two_units}
 use Rattle.scalar.specs.Grammar.{String, last_chunk, chunk_before}
-use Rattle.scalar.specs.Thousandths.{thousandths_lt}
-use Rattle.scalar.specs.NumberLaws.{EachUnder, EachForm, number_fact}
-use Rattle.scalar.specs.TextUnits.{weight_few, units_append, Content, no_chars, more_chars}
-use Rattle.scalar.specs.TextUnits.{body_content, body_units, body_length}
+use Rattle.scalar.proofs.Thousandths.{thousandths_lt}
+use Rattle.scalar.proofs.NumberLaws.{EachUnder, EachForm, number_fact}
+use Rattle.scalar.proofs.TextUnits.{weight_few, units_append, Content, no_chars, more_chars}
+use Rattle.scalar.proofs.TextUnits.{body_content, body_units, body_length}
 
 offset_bits : (k u : ℕ) → u < 2 ^ 63 → k < 2 ^ 63 → value (Offset k) u < 2 ^ 64
 unfolding value

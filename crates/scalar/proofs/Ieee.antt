@@ -14,7 +14,7 @@ use Rattle.std.specs.Float.Ieee.Fits.{down_pos}
 use Rattle.std.specs.Int.Signed.{mag}
 use Rattle.flow.specs.Tests.{by_cases, split}
 use Rattle.scalar.specs.Scalars.{scaled, whole, magnitude, widened}
-use Rattle.scalar.specs.DoubleLaws.{powers, by_magnitude}
+use Rattle.scalar.proofs.DoubleLaws.{powers, by_magnitude}
 
 -- ---- an integer's float is no NaN
 

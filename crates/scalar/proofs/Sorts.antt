@@ -1,7 +1,6 @@
 -- The forms of each kind of value: their first bytes lie apart, and each value that a form holds is found again.
-use Rattle.std.specs.Prelude.{◌≡◌, refl, Bool, true, false, ◌&&◌, List, [], ◌∷◌, ℕ, zero, suc, ◌+◌, ◌-◌, ◌/◌, ◌^◌, ◌%◌, ◌≤◌, ◌<◌, T, ltb, leb, eqb, length, ℤ, pos, negsuc, ◌-ℤ◌}
-use Rattle.std.proofs.Common.{sym, ◌∙◌, ap, arith, lt-ltb, le-ltb, ltb-true, le-leb, leb-true, eq-eqb, SFits, of_z}
-use Rattle.std.proofs.Math.Option.{none}
+use Rattle.std.specs.Prelude.{◌≡◌, refl, Bool, true, false, ◌&&◌, List, ℕ, zero, suc, ◌+◌, ◌-◌, ◌/◌, ◌^◌, ◌%◌, ◌≤◌, ◌<◌, T, ltb, leb, eqb, length, ℤ, pos, negsuc, ◌-ℤ◌}
+use Rattle.std.proofs.Common.{sym, ◌∙◌, arith, lt-ltb, le-ltb, ltb-true, le-leb, leb-true, eq-eqb, SFits, of_z}
 use Rattle.std.specs.Int.{w64}
 use Rattle.flow.specs.Tests.{split}
 use Rattle.wire.specs.BigEndian.{high, wider}
@@ -10,12 +9,12 @@ use Rattle.scalar.specs.declared.Sort.{Sort}
 use Rattle.scalar.specs.declared.Sort.TheVariants.{Null, False, True, Int, Long, Double, Date}
 use Rattle.scalar.specs.declared.Rule.TheVariants.{Exactly, Plain, Offset, Signed, Minutes}
 use Rattle.scalar.specs.declared.Rule.TheVariants.{WholeByte, WholePair, Float}
-use Rattle.scalar.specs.Signed.{minus_bits, signed_back, minutes_back}
-use Rattle.scalar.specs.DoubleLaws.{byte_back, pair_back, float_back}
-use Rattle.scalar.specs.Scalars.{value, Form, form, compact, forms_of, fits, shortest}
+use Rattle.scalar.proofs.Signed.{minus_bits, signed_back, minutes_back}
+use Rattle.scalar.proofs.DoubleLaws.{byte_back, pair_back, float_back}
+use Rattle.scalar.specs.Scalars.{value, Form, form, compact, forms_of, fits}
 use Rattle.scalar.specs.Grammar.{Number}
 use Rattle.scalar.specs.Guesses.{guess}
-use Rattle.scalar.specs.NumberLaws.{size, proper, Sane, Sanes, Shorter, number_short}
+use Rattle.scalar.proofs.NumberLaws.{proper, Sane, Sanes, Shorter, number_short}
 
 pub properly : (s : Sort) → T (proper (forms_of s))
 unfolding forms_of

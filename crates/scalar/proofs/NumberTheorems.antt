@@ -1,7 +1,7 @@
 -- The laws of single values by name, for every kind: null, false, true, int, long, double, date.
-use Rattle.std.specs.Prelude.{◌≡◌, refl, List, [], ◌∷◌, ◌++◌, ℕ, ◌+◌, ◌-◌, ◌≤◌, ◌<◌, min, length, take, drop}
-use Rattle.std.proofs.Common.{◌∙◌, ap, subst, arith, length-drop, length-take, length-take-le}
-use Rattle.std.proofs.Math.Option.{none, some}
+use Rattle.std.specs.Prelude.{◌≡◌, refl, List, [], ◌∷◌, ◌++◌, ℕ, ◌+◌, ◌≤◌, ◌<◌, min, length, take, drop}
+use Rattle.std.proofs.Common.{◌∙◌, ap, subst, arith, length-drop, length-take-le}
+use Rattle.std.proofs.Math.Option.{some}
 use Rattle.std.proofs.Math.Seq.{drop-append_seam}
 use Rattle.flow.specs.Flow.{Bytes, Entry, Done, One, items, byte_at}
 use Rattle.flow.specs.Steps.{Answer}
@@ -11,9 +11,9 @@ use Rattle.scalar.specs.declared.Sort.{Sort}
 use Rattle.scalar.specs.Scalars.{Floats, forms_of, number_from, shortest}
 use Rattle.scalar.specs.Grammar.{Number}
 use Rattle.scalar.specs.Answers.{number_at}
-use Rattle.scalar.specs.NumberLaws.{number_scans, number_makes, NumberLed, number_some, shortest_is}
-use Rattle.scalar.specs.NumberLaws.{IsNumber, Shorter}
-use Rattle.scalar.specs.Sorts.{properly, none_shorter}
+use Rattle.scalar.proofs.NumberLaws.{number_scans, number_makes, NumberLed, number_some, shortest_is}
+use Rattle.scalar.proofs.NumberLaws.{IsNumber, Shorter}
+use Rattle.scalar.proofs.Sorts.{properly, none_shorter}
 
 -- ---- reading and the grammar
 -- what is read is a form of the value, and lies within the message

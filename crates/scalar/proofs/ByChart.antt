@@ -1,5 +1,5 @@
 -- What is read agrees with the chart of first bytes.
-use Rattle.std.specs.Prelude.{◌≡◌, Bool, not, ◌&&◌, List, [], ◌∷◌, ℕ, suc, ◌+◌, ◌≤◌, ◌<◌, T, eqb, leb}
+use Rattle.std.specs.Prelude.{◌≡◌, Bool, not, ◌&&◌, List, [], ◌∷◌, ℕ, suc, ◌+◌, ◌≤◌, T, eqb, leb}
 use Rattle.std.proofs.Math.Path.{refl, sym, ap}
 use Rattle.std.proofs.Common.{◌∙◌, le_trans, eqb→eq, leb→le}
 use Rattle.std.proofs.Math.Bool.{true, false}
@@ -15,7 +15,7 @@ use Rattle.scalar.specs.declared.Lead.TheVariants as lead
 use Rattle.scalar.specs.Scalars.{DoubleRule, Form, forms_of, number_under, part_head, last_heads, string_from, Scalar}
 use Rattle.scalar.specs.Scalars.{Num, Str, begins, is_text, scalar_from}
 use Rattle.scalar.specs.Chart.{Range, ranges, range_of, lead_of, kind_of}
-use Rattle.scalar.specs.ChartLaws.{kind_is}
+use Rattle.scalar.proofs.ChartLaws.{kind_is}
 
 -- a scalar by what its first byte opens
 module _ {C I : Type 0} (ρ : DoubleRule) where

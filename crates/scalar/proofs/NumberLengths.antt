@@ -14,11 +14,11 @@ use Rattle.flow.specs.Tests.{split}
 use Rattle.flow.specs.Steps.{Answer}
 use Rattle.scalar.specs.declared.Sort.{Sort}
 use Rattle.scalar.specs.declared.Rule.TheVariants.{Signed, WholeByte, WholePair, Float}
-use Rattle.scalar.specs.Signed.{minus_bits, low_32, high_32}
+use Rattle.scalar.proofs.Signed.{minus_bits, low_32, high_32}
 use Rattle.scalar.specs.Scalars.{value, scaled, whole, widened}
 use Rattle.scalar.specs.Guesses.{whole_guess, guess}
-use Rattle.scalar.specs.RuleLaws.{whole_guess_from_zero, whole_guess_below_zero}
-use Rattle.scalar.specs.DoubleLaws.{powers, by_magnitude, byte_back, pair_back, float_back}
+use Rattle.scalar.proofs.RuleLaws.{whole_guess_from_zero, whole_guess_below_zero}
+use Rattle.scalar.proofs.DoubleLaws.{powers, by_magnitude, byte_back, pair_back, float_back}
 use Rattle.scalar.specs.Answers.{number_at, length_read, number_length_at}
 
 -- the length by what was read

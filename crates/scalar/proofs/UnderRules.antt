@@ -9,7 +9,7 @@ use Prim.Native.Nat.{ℕ, ◌+◌, ◌-◌, ◌^◌, ◌≤◌, ◌<◌}
 use native.Mathlib.Omega.{arith}
 use Rattle.std.proofs.Math.Dec.{T, eqb}
 use mir.{Syntax.w32, Val.to_z}
-use borrow.Author.Tests.{le-leb, lt-leb, eq-eqb, ne_eqb, eqb-true}
+use borrow.Author.Tests.{le-leb, eq-eqb, eqb-true}
 use Rattle.flow.specs.Flow.{pick, Outcome, Done, Fault, mapped}
 use Rattle.flow.specs.Steps.{renamed}
 use Rattle.flow.specs.Lifts.{Lifts, lifted, fail_lifts, map_lifts}
@@ -17,7 +17,7 @@ use Rattle.flow.specs.Tests.{pick_true, pick_false, pick_either, by_cases, split
 use Rattle.wire.specs.BigEndian.{joined}
 use Rattle.wire.specs.Laws.{high_below}
 use Rattle.scalar.specs.declared.{Sort.Sort, Rule.Rule, Begun.Begun, Lead.Lead}
-use Rattle.scalar.specs.declared.Begun.TheVariants.{Starts, NoForm}
+use Rattle.scalar.specs.declared.Begun.TheVariants.{Starts}
 use Rattle.scalar.specs.declared.Encoding.TheVariants.{Utf8, Binary}
 use Rattle.scalar.specs.declared.Lead.TheVariants as lead
 use Rattle.scalar.specs.declared.Sort.TheVariants.{Null, False, True, Int, Long, Double, Date}
@@ -29,12 +29,12 @@ use Rattle.scalar.specs.Scalars.{sort_kind, string_from, int_from, text_from, Sc
 use Rattle.scalar.specs.Grammar.{HeldUnder, held, NumberUnder, Number, here, later, SpeltUnder, Spelt}
 use Rattle.scalar.specs.Grammar.{a_number, a_string}
 use Rattle.scalar.specs.Chart.{lead_of}
-use Rattle.scalar.specs.ByChart.{scalar_by, scalar_by_law}
-use Rattle.scalar.specs.NumberLaws.{begun_under, form_here, form_skip, held_by}
-use Rattle.scalar.specs.RuleLaws.{value_plain}
-use Rattle.scalar.specs.Bits.{number_bits}
-use Rattle.scalar.specs.NumberAt.{bytes_there, bytes_cut, under_lifts, number_lifts}
-use Rattle.scalar.specs.TextLaws.{string_lifts}
+use Rattle.scalar.proofs.ByChart.{scalar_by, scalar_by_law}
+use Rattle.scalar.proofs.NumberLaws.{begun_under, form_here, form_skip, held_by}
+use Rattle.scalar.proofs.RuleLaws.{value_plain}
+use Rattle.scalar.proofs.Bits.{number_bits}
+use Rattle.scalar.proofs.NumberAt.{bytes_there, bytes_cut, under_lifts, number_lifts}
+use Rattle.scalar.proofs.TextLaws.{string_lifts}
 
 -- ---- forms that both rules read alike
 -- any rule but that of 5f

@@ -1,7 +1,7 @@
 -- 2026-11: whole thousandths as doubles.
 use lib.Ieee.{nan}
 use lib.Ieee.{inf}
-use Rattle.std.specs.Prelude.{◌≡◌, Bool, false, not, ℕ, ◌<◌, ◌≤◌, ◌^◌, T, Float, ℤ, pos, negsuc}
+use Rattle.std.specs.Prelude.{◌≡◌, Bool, false, not, ℕ, ◌<◌, ◌^◌, T, Float, ℤ, pos, negsuc}
 use Rattle.std.proofs.Math.Path.{refl}
 use Rattle.std.proofs.Common.{subst, arith, le→leb, lt→ltb, leb→le, ltb→lt}
 use Rattle.std.specs.Float.{fin, Format, binary64}
@@ -13,7 +13,7 @@ use Rattle.std.specs.Float.Ieee.Fits.{mul-fits}
 use Rattle.std.specs.Int.Signed.{mag}
 use mir.ValLaws.{top-pow}
 use Rattle.scalar.specs.Scalars.{thousandth, thousandths}
-use Rattle.scalar.specs.Ieee.{round_no_nan}
+use Rattle.scalar.proofs.Ieee.{round_no_nan}
 
 -- 'the f64 nearest to 0.001'
 pub nearest_thousandth : of_bits binary64 thousandth ≡ round binary64 false 1 1000

@@ -6,7 +6,7 @@ use Rattle.flow.specs.Flow.{pick, within}
 use Rattle.scalar.specs.declared.CharLead.{CharLead}
 use Rattle.scalar.specs.declared.CharLead.TheVariants.{Basic, Supplementary, Halved, NoChar}
 use Rattle.scalar.specs.Scalars.{char_lead}
-use Rattle.scalar.specs.Rows.{Row, row, chosen}
+use Rattle.scalar.proofs.Rows.{Row, row, chosen}
 
 -- what follows a first byte lies from 80 to bf, and no first byte does. A supplementary character's first two bytes
 -- hold the numbers from 10 to 10f, so that its code point lies from 10000 to 10ffff
