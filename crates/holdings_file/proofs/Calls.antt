@@ -19,7 +19,7 @@ use Rattle.holdings.specs.Answers.{list_after, Addition, listing_to_extend, adde
 use Rattle.holdings.specs.Answers.{Batch, batch_listed, batch_report, batch_file, batch_numbers, ListCall, AddCall}
 use Rattle.holdings.specs.Answers.{AddAllCall}
 use Rattle.holdings.specs.Terms.{Messages, Enough}
-use Rattle.holdings.specs.FileLaws.{listing_listed}
+use Rattle.holdings.proofs.FileLaws.{listing_listed}
 use Rattle.holdings_file.specs.declared.HoldingsAnswer.{HoldingsAnswer}
 use Rattle.holdings_file.specs.declared.HoldingsAnswer.TheVariants.{Accepted, Refused, TooFew}
 use Rattle.holdings_file.specs.declared.files.Checked.{Checked}

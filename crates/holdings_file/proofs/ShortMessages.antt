@@ -40,7 +40,7 @@ use Rattle.writer.specs.declared.WriteAnswer.TheVariants as writing
 use Rattle.writer.specs.Answers as writer
 use Rattle.holdings.specs.Files.{versions, reads_by, is_message, is_held, fault_by, fault_of}
 use Rattle.holdings.specs.Terms.{Messages, Enough}
-use Rattle.holdings.specs.AdditionLaws.{shortest_is}
+use Rattle.holdings.proofs.AdditionLaws.{shortest_is}
 use Rattle.holdings_file.specs.Promises.{newest_rules, work_numbers, RowsOf, ShortIn, Shortened}
 use Rattle.holdings_file.specs.Index.{ShortenMet, FaultAloneMet}
 use Rattle.holdings_file.proofs.MemoryParts.{lent_kept, rows_within, rows_enough, rows_again, index_kept}

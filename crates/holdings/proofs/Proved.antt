@@ -2,9 +2,9 @@
 use Rattle.std.specs.Prelude.{refl}
 use Rattle.flow.specs.Flow.{items}
 use Rattle.holdings.specs.Files.{versions}
-use Rattle.holdings.specs.FileLaws.{versions_sound}
-use Rattle.holdings.specs.AdditionLaws.{shortest_accepts, shortest_least}
-use Rattle.holdings.specs.FaultLaws.{faulty_at}
+use Rattle.holdings.proofs.FileLaws.{versions_sound}
+use Rattle.holdings.proofs.AdditionLaws.{shortest_accepts, shortest_least}
+use Rattle.holdings.proofs.FaultLaws.{faulty_at}
 use Rattle.holdings.specs.Theorems.{OfCalls, Theorem, NeverBeyond}
 pub mod ListCalls
 pub mod AddCalls

@@ -13,12 +13,13 @@ use Rattle.holdings.specs.Answers.{file_after, Batch, additions, batch_listed, b
 use Rattle.holdings.specs.Answers.{batch_numbers, AddAllCall}
 use Rattle.holdings.specs.Terms.{ByFile, ByAddition, Messages, Contains, ShortensTo, ShortestOfOne, SoundVersions}
 use Rattle.holdings.specs.Terms.{Enough, Extends}
-use Rattle.holdings.specs.EntryLaws.{Entries, elem_more}
-use Rattle.holdings.specs.BatchLaws.{Ended, All, AtCut, AtRefused, Added, additions_added}
-use Rattle.holdings.specs.NumberLaws.{extend_numbered, addition_numbered, not_accepted}
+use Rattle.holdings.specs.EntryLaws.{Entries}
+use Rattle.holdings.proofs.EntryLaws.{elem_more}
+use Rattle.holdings.proofs.BatchLaws.{Ended, All, AtCut, AtRefused, Added, additions_added}
+use Rattle.holdings.proofs.NumberLaws.{extend_numbered, addition_numbered, not_accepted}
 use Rattle.holdings.specs.Theorems.{Grown, RecordTaken, RecordRefused, AfterAll, OfAddAll}
-use Rattle.holdings.specs.Proved.ListCalls.{memory, with_enough, with_little}
-use Rattle.holdings.specs.Proved.AddCalls.{grown_by, found_once}
+use Rattle.holdings.proofs.Proved.ListCalls.{memory, with_enough, with_little}
+use Rattle.holdings.proofs.Proved.AddCalls.{grown_by, found_once}
 
 -- ---- numbers laid over a list, as many as it has room for
 abbrev one : ℕ → List ℕ

@@ -17,9 +17,10 @@ use Rattle.holdings.specs.Files.{Rules, Versions, header_size, Listing, Lists, F
 use Rattle.holdings.specs.Answers.{Result, Accept, Refuse, answer, with_working, placements, ListLayout, listed_to}
 use Rattle.holdings.specs.Answers.{list_result, list_report, list_after, ListCall}
 use Rattle.holdings.specs.Terms.{Messages, ByFile, Enough, SoundLayout}
-use Rattle.holdings.specs.EntryLaws.{wholes, lists_accepted}
-use Rattle.holdings.specs.FileLaws.{listed_distinct, listing_within, stands, length_placements}
-use Rattle.holdings.specs.NumberLaws.{listing_numbered}
+use Rattle.holdings.specs.EntryLaws.{wholes}
+use Rattle.holdings.proofs.EntryLaws.{lists_accepted}
+use Rattle.holdings.proofs.FileLaws.{listed_distinct, listing_within, stands, length_placements}
+use Rattle.holdings.proofs.NumberLaws.{listing_numbered}
 use Rattle.holdings.specs.Theorems.{AllListed, OfList}
 
 -- ---- working memory

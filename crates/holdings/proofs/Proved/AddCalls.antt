@@ -22,16 +22,17 @@ use Rattle.holdings.specs.Answers.{Addition, listing_to_extend, appended, additi
 use Rattle.holdings.specs.Answers.{AddCall}
 use Rattle.holdings.specs.Terms.{ByAddition, Messages, Distinct, FoundOnce, ShortensTo, SoundVersions, Enough}
 use Rattle.holdings.specs.Terms.{StandsAt, Extends}
-use Rattle.holdings.specs.EntryLaws.{wholes, number_first, number_found, elem_inside, elem_more}
-use Rattle.holdings.specs.FileLaws.{listing_used, stands, placements_more}
-use Rattle.holdings.specs.AdditionLaws.{extend_listing, Extendable, New, Old, extendable, extend_distinct}
-use Rattle.holdings.specs.AdditionLaws.{AcceptedAddition, addition_checks, addition_accepted, accepted_addition}
-use Rattle.holdings.specs.AdditionLaws.{new_held, addition_held, new_to, with_new, at_most_one, addition_lists}
-use Rattle.holdings.specs.AdditionLaws.{addition_extends, addition_found, extend_same, CrowdedAddition}
-use Rattle.holdings.specs.AdditionLaws.{addition_crowded}
-use Rattle.holdings.specs.NumberLaws.{addition_numbered, not_accepted}
+use Rattle.holdings.specs.EntryLaws.{wholes}
+use Rattle.holdings.proofs.EntryLaws.{number_first, number_found, elem_inside, elem_more}
+use Rattle.holdings.proofs.FileLaws.{listing_used, stands, placements_more}
+use Rattle.holdings.proofs.AdditionLaws.{extend_listing, Extendable, New, Old, extendable, extend_distinct}
+use Rattle.holdings.proofs.AdditionLaws.{AcceptedAddition, addition_checks, addition_accepted, accepted_addition}
+use Rattle.holdings.proofs.AdditionLaws.{new_held, addition_held, new_to, with_new, at_most_one, addition_lists}
+use Rattle.holdings.proofs.AdditionLaws.{addition_extends, addition_found, extend_same, CrowdedAddition}
+use Rattle.holdings.proofs.AdditionLaws.{addition_crowded}
+use Rattle.holdings.proofs.NumberLaws.{addition_numbered, not_accepted}
 use Rattle.holdings.specs.Theorems.{EntryKept, Grown, After, OfAdd}
-use Rattle.holdings.specs.Proved.ListCalls.{memory, with_enough, with_little, list_accepts}
+use Rattle.holdings.proofs.Proved.ListCalls.{memory, with_enough, with_little, list_accepts}
 
 -- ---- files that grow
 -- the entries that a message is listed among

@@ -9,12 +9,12 @@ use Rattle.holdings.specs.Answers.{Result, Accept, Refuse, answer, Addition, lis
 use Rattle.holdings.specs.Answers.{file_after, Batch, additions, batch_listed, batch_report, batch_file, AddCall}
 use Rattle.holdings.specs.Answers.{AddAllCall}
 use Rattle.holdings.specs.Terms.{Messages, SoundVersions, Enough}
-use Rattle.holdings.specs.EntryLaws.{entries_append, entries_one}
-use Rattle.holdings.specs.AdditionLaws.{addition_faulty, addition_accepted, with_new, addition_extends}
-use Rattle.holdings.specs.NumberLaws.{addition_numbered, not_accepted}
-use Rattle.holdings.specs.BatchLaws.{additions_refused, additions_taken}
+use Rattle.holdings.proofs.EntryLaws.{entries_append, entries_one}
+use Rattle.holdings.proofs.AdditionLaws.{addition_faulty, addition_accepted, with_new, addition_extends}
+use Rattle.holdings.proofs.NumberLaws.{addition_numbered, not_accepted}
+use Rattle.holdings.proofs.BatchLaws.{additions_refused, additions_taken}
 use Rattle.holdings.specs.Theorems.{OneByOne}
-use Rattle.holdings.specs.Proved.ListCalls.{memory, with_enough, with_little}
+use Rattle.holdings.proofs.Proved.ListCalls.{memory, with_enough, with_little}
 
 module _ (vs : Versions) (sound : SoundVersions vs) (file : List ℕ) (used : ℕ) (m rest work bytes : List ℕ)
     (small : length m < 2 ^ 32) (one : Report) (file₁ : List ℕ) (g : AddCall vs file used m work bytes one file₁)

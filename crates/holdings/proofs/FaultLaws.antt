@@ -15,9 +15,10 @@ use Rattle.holdings.specs.Files.{Rules, Versions, rules_of, mark, mark_size, ver
 use Rattle.holdings.specs.Files.{message_size, entry_size, entries_in, Listing, Lists, Faulty, fault_of, lists_from}
 use Rattle.holdings.specs.Files.{version_in, lists_by, listing_of, listing}
 use Rattle.holdings.specs.Terms.{Messages, HeaderFaulty, Beyond, Unmarked, Unversioned, entry_fault, EntryFaulty}
-use Rattle.holdings.specs.EntryLaws.{Entries, same_is, same_self, wholes, wholes_append, entries_none}
-use Rattle.holdings.specs.EntryLaws.{entries_whole, EntryFirst, entries_first, entries_append, lists_more}
-use Rattle.holdings.specs.FileLaws.{Listed, version_known, within_listing, entries_next}
+use Rattle.holdings.specs.EntryLaws.{Entries, wholes}
+use Rattle.holdings.proofs.EntryLaws.{same_is, same_self, wholes_append, entries_none}
+use Rattle.holdings.proofs.EntryLaws.{entries_whole, EntryFirst, entries_first, entries_append, lists_more}
+use Rattle.holdings.proofs.FileLaws.{Listed, version_known, within_listing, entries_next}
 
 -- ---- the first entry alone
 drop_take : (k n : ℕ) (s : List ℕ) → k ≤ length s → drop k (take (k + n) s) ≡ take n (drop k s)

@@ -9,13 +9,13 @@ use Rattle.record.specs.Laws.Answering.{never}
 use Rattle.holdings.specs.Files.{Rules, Versions, header_size, length_size, entries_in, Listing, Lists, Faulty}
 use Rattle.holdings.specs.Answers.{listing_to_extend, AddAllCall}
 use Rattle.holdings.specs.Terms.{Messages, Contains, Distinct, ShortestOfOne, SoundVersions, Enough}
-use Rattle.holdings.specs.EntryLaws.{elem_inside}
-use Rattle.holdings.specs.FileLaws.{size_of, entries_size}
-use Rattle.holdings.specs.AdditionLaws.{Extendable, New, Old, extendable}
-use Rattle.holdings.specs.NumberLaws.{extend_numbered}
+use Rattle.holdings.proofs.EntryLaws.{elem_inside}
+use Rattle.holdings.proofs.FileLaws.{size_of, entries_size}
+use Rattle.holdings.proofs.AdditionLaws.{Extendable, New, Old, extendable}
+use Rattle.holdings.proofs.NumberLaws.{extend_numbered}
 use Rattle.holdings.specs.Theorems.{AfterAll, OfAddAll, OneOf, AnyOrder}
-use Rattle.holdings.specs.Proved.ListCalls.{memory}
-use Rattle.holdings.specs.Proved.AddAllCalls.{of_add_all}
+use Rattle.holdings.proofs.Proved.ListCalls.{memory}
+use Rattle.holdings.proofs.Proved.AddAllCalls.{of_add_all}
 
 -- ---- different messages that are all among others take up no more bytes
 abbrev without : Messages → ℕ → Messages

@@ -11,9 +11,10 @@ use Rattle.holdings.specs.Files.{Rules, Versions, Lists}
 use Rattle.holdings.specs.Answers.{Result, Accept, Refuse, Addition, listing_to_extend, addition, Batch, stopped}
 use Rattle.holdings.specs.Answers.{took, additions}
 use Rattle.holdings.specs.Terms.{Messages, Contains, SoundVersions, ShortensTo, ShortestOfOne, Extends}
-use Rattle.holdings.specs.EntryLaws.{Entries, elem_more}
-use Rattle.holdings.specs.AdditionLaws.{extend_within, AcceptedAddition, addition_accepted, new_to, with_new}
-use Rattle.holdings.specs.AdditionLaws.{at_most_one, addition_extends, addition_found}
+use Rattle.holdings.specs.EntryLaws.{Entries}
+use Rattle.holdings.proofs.EntryLaws.{elem_more}
+use Rattle.holdings.proofs.AdditionLaws.{extend_within, AcceptedAddition, addition_accepted, new_to, with_new}
+use Rattle.holdings.proofs.AdditionLaws.{at_most_one, addition_extends, addition_found}
 
 -- ---- each step
 module _ (vs : Versions) (file : List ℕ) (used : ℕ) where

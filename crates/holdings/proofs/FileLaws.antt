@@ -17,9 +17,10 @@ use Rattle.holdings.specs.Files.{header_size, length_size, header, entry_of, ent
 use Rattle.holdings.specs.Files.{fault_of, lists_from, version_in, lists_by, listing_of, listing}
 use Rattle.holdings.specs.Answers.{Placement, placement, placements, as_pairs, as_pair_bytes}
 use Rattle.holdings.specs.Terms.{Messages, Distinct, SoundRules, SoundVersions, SoundLayout, StandsAt}
-use Rattle.holdings.specs.EntryLaws.{Entries, same_is, same_self, wholes, wholes_append, distinct_none}
-use Rattle.holdings.specs.EntryLaws.{entries_none, entries_empty, EntryFirst, entries_first, entries_append}
-use Rattle.holdings.specs.EntryLaws.{entries_one, lists_are, lists_more, lists_distinct}
+use Rattle.holdings.specs.EntryLaws.{Entries, wholes}
+use Rattle.holdings.proofs.EntryLaws.{same_is, same_self, wholes_append, distinct_none}
+use Rattle.holdings.proofs.EntryLaws.{entries_none, entries_empty, EntryFirst, entries_first, entries_append}
+use Rattle.holdings.proofs.EntryLaws.{entries_one, lists_are, lists_more, lists_distinct}
 
 -- ---- versions
 pub versions_sound : SoundVersions versions

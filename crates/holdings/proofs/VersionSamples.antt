@@ -20,7 +20,7 @@ use Rattle.holdings.specs.Files.{entries_in, fault_of, listing_of, listing}
 use Rattle.holdings.specs.Answers.{Result, Accept, Refuse, answer, listed_to, list_report, Addition, addition}
 use Rattle.holdings.specs.Answers.{add_report, additions}
 use Rattle.holdings.specs.Terms.{SoundRules, SoundVersions}
-use Rattle.holdings.specs.Samples.{adds, adds_all, keeps, Hold}
+use Rattle.holdings.proofs.Samples.{adds, adds_all, keeps, Hold}
 
 -- ---- tables of versions
 -- 01's limits, but for the longest message and the containers open at once

@@ -12,10 +12,11 @@ use Rattle.holdings.specs.Files.{Rules, Versions, rules_of, mark, mark_size, ver
 use Rattle.holdings.specs.Files.{entry_of, message_size, entry_size, entries_in, Lists, number_of, lists_from}
 use Rattle.holdings.specs.Files.{listing_of}
 use Rattle.holdings.specs.Terms.{Messages, Distinct, ShortensTo, SoundVersions, laid_out, IsFile}
-use Rattle.holdings.specs.EntryLaws.{number_found, elem_more, wholes, entries_none, entries_empty, entries_first}
-use Rattle.holdings.specs.EntryLaws.{entries_append, entries_one, no_fault, lists_one, lists_accepted}
-use Rattle.holdings.specs.FileLaws.{Listed, listing_listed, listed_listing, listed_distinct}
-use Rattle.holdings.specs.AdditionLaws.{shortest_spelled}
+use Rattle.holdings.specs.EntryLaws.{wholes}
+use Rattle.holdings.proofs.EntryLaws.{number_found, elem_more, entries_none, entries_empty, entries_first}
+use Rattle.holdings.proofs.EntryLaws.{entries_append, entries_one, no_fault, lists_one, lists_accepted}
+use Rattle.holdings.proofs.FileLaws.{Listed, listing_listed, listed_listing, listed_distinct}
+use Rattle.holdings.proofs.AdditionLaws.{shortest_spelled}
 
 -- ---- bytes are those of the number that they make
 byte_at_law : (s : List ℕ) (j : ℕ) → Bytes s → get_or s j 0 < 256

@@ -20,9 +20,9 @@ use Rattle.holdings.specs.Files.{Lists, Faulty, number_of, is_held, fault_of, li
 use Rattle.holdings.specs.Answers.{Result, Accept, Refuse, Addition, begun, listing_to_extend, appended, added_short}
 use Rattle.holdings.specs.Answers.{added_read, added_listed, addition}
 use Rattle.holdings.specs.Terms.{Messages, Distinct, SoundRules, SoundVersions, ShortensTo, Extends}
-use Rattle.holdings.specs.EntryLaws.{number_within, number_found, number_last, distinct_none, Faultless, no_fault}
-use Rattle.holdings.specs.FileLaws.{newest_sound, Listed, listed_distinct, listed_sound, listed_more, listed_new}
-use Rattle.holdings.specs.FileLaws.{listing_within, within_listing, listing_used, stored_front}
+use Rattle.holdings.proofs.EntryLaws.{number_within, number_found, number_last, distinct_none, Faultless, no_fault}
+use Rattle.holdings.proofs.FileLaws.{newest_sound, Listed, listed_distinct, listed_sound, listed_more, listed_new}
+use Rattle.holdings.proofs.FileLaws.{listing_within, within_listing, listing_used, stored_front}
 
 -- ---- the shortest message of a record
 bounded : (R : Rules) (o : Option (List ℕ)) (w : List ℕ)

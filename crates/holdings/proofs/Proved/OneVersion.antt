@@ -15,13 +15,13 @@ use Rattle.holdings.specs.Answers.{Result, Accept, Refuse, Addition, listing_to_
 use Rattle.holdings.specs.Answers.{added_read, added_listed, addition, add_result, add_report, file_after, AddCall}
 use Rattle.holdings.specs.Answers.{AddAllCall}
 use Rattle.holdings.specs.Terms.{Messages, SoundVersions, Enough}
-use Rattle.holdings.specs.EntryLaws.{entries_bytes}
-use Rattle.holdings.specs.FileLaws.{newest_sound, only_version}
-use Rattle.holdings.specs.AdditionLaws.{shortest_some, Extendable, New, Old, extendable}
-use Rattle.holdings.specs.NumberLaws.{extend_numbered, reads_numbered}
+use Rattle.holdings.proofs.EntryLaws.{entries_bytes}
+use Rattle.holdings.proofs.FileLaws.{newest_sound, only_version}
+use Rattle.holdings.proofs.AdditionLaws.{shortest_some, Extendable, New, Old, extendable}
+use Rattle.holdings.proofs.NumberLaws.{extend_numbered, reads_numbered}
 use Rattle.holdings.specs.Theorems.{RecordRefused, OfAddAll, OneVersion}
-use Rattle.holdings.specs.Proved.ListCalls.{memory, with_enough, with_little}
-use Rattle.holdings.specs.Proved.AddAllCalls.{of_add_all}
+use Rattle.holdings.proofs.Proved.ListCalls.{memory, with_enough, with_little}
+use Rattle.holdings.proofs.Proved.AddAllCalls.{of_add_all}
 
 module _ (vs : Versions) (sound : SoundVersions vs) (single : vs.older ≡ []) where
   -- the file's rules are the newest
