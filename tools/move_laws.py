@@ -50,7 +50,6 @@ MOVED = {
         "UnderRules": "",
     },
     "record": {
-        "ForReader": "",
         "ForReader.ChartHeads": "",
         "ForReader.ReadDefinitions": "names_left below plain",
         "ForReader.ReadLengths": "",
@@ -60,7 +59,6 @@ MOVED = {
         "ForReader.ReadValues": "heading",
         "ForReader.ReadingAt": "marks from numbered ReadingAt ReadTo RefusedAt reading_of run front on through topped",
         "ForReader.Retelling": "HeldRows",
-        "ForWriter": "",
         "ForWriter.BareItems": "NoneIn",
         "ForWriter.RowItems": "",
         "ForWriter.WritingAt": "claimed_by plainly row_at claim_at claimed_from claimed At End WritingAt WrittenTo NoMessage"
@@ -70,7 +68,6 @@ MOVED = {
         "ForWriter.WrittenMessages": "",
         "ForWriter.WrittenNames": "names_left",
         "ForWriter.WrittenValues": "below",
-        "Laws": "",
         "Laws.Answering": "",
         "Laws.Back": "",
         "Laws.Bounds": "",
@@ -93,7 +90,7 @@ MOVED = {
         "Laws.Refusals": "",
         "Laws.RowLaws": "row_of",
         "Laws.RowLengths": "list_length object_length number_length row_length length_under few_length more_length",
-        "Laws.Short": "Spells Covers Short list_spells",
+        "Laws.Short": "Spells Short at_most both_put then_spells bytes_spell code_spells map_spells few_spells list_spells",
         "Laws.Spans": "",
         "Laws.TableLaws": "Sound All",
         "Laws.Takes": "Taken none_taken taken Series Takes anything Drops",

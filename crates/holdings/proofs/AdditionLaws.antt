@@ -12,9 +12,9 @@ use Rattle.scalar.specs.Scalars.{Floats}
 use Rattle.record.specs.Model.Items.{Item, Known}
 use Rattle.record.specs.Model.Shortest.{spell}
 use Rattle.record.specs.Model.Terms.{Accepts}
-use Rattle.record.specs.Laws.Answering.{never, reads_accepts}
-use Rattle.record.specs.Theorems.ItemTheorems.{no_longer, reads_back}
-use Rattle.record.specs.Theorems.RowTheorems.{judged_done, own_reads}
+use Rattle.record.proofs.Laws.Answering.{never, reads_accepts}
+use Rattle.record.proofs.Theorems.ItemTheorems.{no_longer, reads_back}
+use Rattle.record.proofs.Theorems.RowTheorems.{judged_done, own_reads}
 use Rattle.holdings.specs.Files.{Rules, Versions, reads_by, shortest_by, header_size, header, entry_of, Listing}
 use Rattle.holdings.specs.Files.{Lists, Faulty, number_of, is_held, fault_of, listing}
 use Rattle.holdings.specs.Answers.{Result, Accept, Refuse, Addition, begun, listing_to_extend, appended, added_short}

@@ -6,7 +6,7 @@ use Rattle.std.proofs.Math.Option.{none, some}
 use Rattle.std.proofs.Math.ListN.{get_elem?}
 use Rattle.flow.specs.RefusalNumbers.{cut_entry}
 use Rattle.flow.specs.Flow.{stored}
-use Rattle.record.specs.Laws.Answering.{never}
+use Rattle.record.proofs.Laws.Answering.{never}
 use Rattle.holdings.specs.Files.{Rules, Versions, Lists}
 use Rattle.holdings.specs.Answers.{Result, Accept, Refuse, Addition, listing_to_extend, addition, Batch, stopped}
 use Rattle.holdings.specs.Answers.{took, additions}

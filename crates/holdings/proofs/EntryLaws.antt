@@ -12,7 +12,7 @@ use Rattle.flow.specs.Tests.{bytes_drop}
 use Rattle.flow.specs.Flow.{pick, Bytes, same_list, Entry, Outcome, Done, Fault, One, items}
 use Rattle.wire.specs.BigEndian.{joined}
 use Rattle.record.specs.Model.Items.{Item, Known}
-use Rattle.record.specs.Laws.Answering.{never}
+use Rattle.record.proofs.Laws.Answering.{never}
 use Rattle.holdings.specs.Files.{Rules, reads_by, shortest_by, length_size, entry_of, message_size, entry_size}
 use Rattle.holdings.specs.Files.{entries_up_to, entries_in, Listing, Lists, Faulty, number_of, is_held, is_message}
 use Rattle.holdings.specs.Files.{fault_by, fault_of, lists_from}
@@ -114,6 +114,7 @@ distinct_more ms m d n i j x e f = go (elem_last ms m x i e) (elem_last ms m x j
     go (inr h) (inl k) = apart j k.0 k.1 h.1
     go (inr h) (inr k) = omega (arith, h.0, k.0)
 
+-- ---- the entries that bytes consist of
 pub wholes_append : (xs ys : Messages) → wholes (xs ++ ys) ≡ wholes xs ++ wholes ys
 wholes_append [] ys = refl
 wholes_append (x ∷ xs) ys = ap {B = Entries} (λ l. some x ∷ l) (wholes_append xs ys)

@@ -10,7 +10,7 @@ use Rattle.flow.specs.RefusalNumbers.{wrong_mark, unknown_version, cut_entry}
 use Rattle.flow.specs.Tests.{pick_either}
 use Rattle.flow.specs.Flow.{same_list}
 use Rattle.wire.specs.BigEndian.{joined}
-use Rattle.record.specs.Laws.Answering.{never}
+use Rattle.record.proofs.Laws.Answering.{never}
 use Rattle.holdings.specs.Files.{Rules, Versions, rules_of, mark, mark_size, version_size, header_size, length_size}
 use Rattle.holdings.specs.Files.{message_size, entry_size, entries_in, Listing, Lists, Faulty, fault_of, lists_from}
 use Rattle.holdings.specs.Files.{version_in, lists_by, listing_of, listing}

@@ -11,7 +11,7 @@ use Rattle.flow.specs.Tests.{pick_true, pick_false, pick_either}
 use Rattle.flow.specs.OverlayLaws.{stored_in}
 use Rattle.flow.specs.Flow.{same_list, stored}
 use Rattle.wire.specs.BigEndian.{joined}
-use Rattle.record.specs.Laws.Answering.{never}
+use Rattle.record.proofs.Laws.Answering.{never}
 use Rattle.holdings.specs.Files.{Rules, Versions, versions, newest_version, rules_of, mark, mark_size, version_size}
 use Rattle.holdings.specs.Files.{header_size, length_size, header, entry_of, entry_size, entries_in, Listing, Lists}
 use Rattle.holdings.specs.Files.{fault_of, lists_from, version_in, lists_by, listing_of, listing}

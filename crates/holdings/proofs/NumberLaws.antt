@@ -14,8 +14,8 @@ use Rattle.flow.specs.Flow.{same_list, Outcome, Done, Fault, One, items}
 use Rattle.scalar.specs.Scalars.{Floats}
 use Rattle.record.specs.Model.Items.{Item, Known}
 use Rattle.record.specs.Model.Answers.{judged}
-use Rattle.record.specs.Laws.Answering.{never}
-use Rattle.record.specs.Laws.Refusals.{message_numbered}
+use Rattle.record.proofs.Laws.Answering.{never}
+use Rattle.record.proofs.Laws.Refusals.{message_numbered}
 use Rattle.holdings.specs.Files.{Rules, Versions, reads_by, shortest_by, header_size, length_size, entries_in, Listing}
 use Rattle.holdings.specs.Files.{Lists, Faulty, is_held, is_message, fault_by, fault_of, mark, mark_size, lists_from}
 use Rattle.holdings.specs.Files.{version_in, lists_by, listing_of, listing}

@@ -14,7 +14,7 @@ use Rattle.record.specs.Model.Reading.{type_from, head_of, plain_by, plain_from,
 use Rattle.record.specs.Model.Claims.{content_at}
 use Rattle.record.specs.Model.Shortest.{object_code, put_type, put_definition, put_plain_by, put_value, spell}
 use Rattle.record.specs.Model.Answers.{base, base_open_from, judged}
-use Rattle.record.specs.Laws.Answering.{never}
+use Rattle.record.proofs.Laws.Answering.{never}
 use Rattle.holdings.specs.Files.{Rules, Versions, versions, rules_of, shortest_by, mark, length_size, entry_of}
 use Rattle.holdings.specs.Files.{entries_in, fault_of, listing_of, listing}
 use Rattle.holdings.specs.Answers.{Result, Accept, Refuse, answer, listed_to, list_report, Addition, addition}

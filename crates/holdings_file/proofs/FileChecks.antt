@@ -15,7 +15,7 @@ use Rattle.flow.specs.Tests.{split, pick_true, pick_false, bytes_all, bytes_take
 use Rattle.flow.specs.Flow.{same_list}
 use Rattle.wire.specs.BigEndian.{joined}
 use Rattle.wire.specs.Laws.{joined_below}
-use Rattle.record.specs.Laws.Answering.{never}
+use Rattle.record.proofs.Laws.Answering.{never}
 use Rattle.holdings.specs.Files.{versions, rules_of, mark, mark_size, version_size, header_size, length_size, message_size}
 use Rattle.holdings.specs.Files.{entry_size, entries_in, Faulty, number_of, fault_of, lists_from, lists_by, listing_of}
 use Rattle.holdings.specs.Terms.{Messages}

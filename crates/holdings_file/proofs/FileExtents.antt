@@ -12,7 +12,7 @@ use Rattle.flow.specs.OverlayLaws.{stored_sets, stored_out, stored_seam, length_
 use Rattle.flow.specs.RefusalNumbers.{no_room}
 use Rattle.flow.specs.Flow.{items, stored, put}
 use Rattle.wire.specs.BigEndian.{joined, be}
-use Rattle.record.specs.Laws.Answering.{never}
+use Rattle.record.proofs.Laws.Answering.{never}
 use Rattle.holdings.specs.Files.{versions, mark, mark_size, version_size, header_size, length_size, header, newest_version}
 use Rattle.holdings.specs.Files.{entry_of, Rules, reads_by, entries_in, Lists, number_of}
 use Rattle.holdings.specs.Answers.{Result, Accept, Refuse, Addition, begun, listing_to_extend, appended, with_room}

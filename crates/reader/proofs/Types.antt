@@ -19,8 +19,8 @@ use Rattle.record.specs.Model.Items.{typed}
 use Rattle.record.specs.Model.Rows.{row}
 use Rattle.record.specs.Model.Answers.{base}
 use Rattle.record.specs.ForReader.ReadingAt.{ReadTo}
-use Rattle.record.specs.ForReader.ReadParts.{type_end, type_full, type_spelled, type_name_lost, type_numbered, type_ungiven}
-use Rattle.record.specs.ForReader.ReadParts.{type_number_lost}
+use Rattle.record.proofs.ForReader.ReadParts.{type_end, type_full, type_spelled, type_name_lost, type_numbered, type_ungiven}
+use Rattle.record.proofs.ForReader.ReadParts.{type_number_lost}
 use Rattle.reader.specs.declared.heads.TypeItem.TheVariants.{Named, Numbered}
 use Rattle.reader.specs.declared.heads.TypeRead.TheVariants as type-read
 use Rattle.reader.specs.Promises.{PlaceIn, LeadAt, NoName, TypeReadMet}

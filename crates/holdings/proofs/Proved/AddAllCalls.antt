@@ -6,7 +6,7 @@ use Rattle.std.proofs.Math.ListN.{get_elem?}
 use Rattle.flow.specs.RefusalNumbers.{no_room}
 use Rattle.flow.specs.OverlayLaws.{stored_sets, stored_before, stored_behind, length_put, length_overlay}
 use Rattle.flow.specs.Flow.{Report, put, overlay}
-use Rattle.record.specs.Laws.Answering.{never}
+use Rattle.record.proofs.Laws.Answering.{never}
 use Rattle.holdings.specs.Files.{Rules, Versions, entries_in, Listing, Lists, Faulty}
 use Rattle.holdings.specs.Answers.{Result, Accept, Refuse, answer, listing_to_extend, addition, add_report}
 use Rattle.holdings.specs.Answers.{file_after, Batch, additions, batch_listed, batch_result, batch_report, batch_file}

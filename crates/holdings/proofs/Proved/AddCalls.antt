@@ -12,10 +12,10 @@ use Rattle.record.specs.Model.Items.{Item, Known}
 use Rattle.record.specs.Model.Rows.{rows}
 use Rattle.record.specs.Model.Claims.{content_at}
 use Rattle.record.specs.Model.Same.{SameRecord}
-use Rattle.record.specs.Laws.Answering.{never}
-use Rattle.record.specs.Laws.Claimed.{all_claimed}
-use Rattle.record.specs.Theorems.RowTheorems.{own_rows, judged_done}
-use Rattle.record.specs.Theorems.SameTheorems.{same_exactly}
+use Rattle.record.proofs.Laws.Answering.{never}
+use Rattle.record.proofs.Laws.Claimed.{all_claimed}
+use Rattle.record.proofs.Theorems.RowTheorems.{own_rows, judged_done}
+use Rattle.record.proofs.Theorems.SameTheorems.{same_exactly}
 use Rattle.holdings.specs.Files.{Rules, Versions, reads_by, shortest_by, header_size, entries_in, Lists, number_of}
 use Rattle.holdings.specs.Answers.{Result, Accept, Refuse, answer, Placement, placements, list_report, list_after}
 use Rattle.holdings.specs.Answers.{Addition, listing_to_extend, appended, addition, add_result, add_report, file_after}

@@ -5,7 +5,7 @@ use Rattle.std.proofs.Math.Option.{Option, some}
 use Rattle.std.proofs.Math.ListN.{get_elem?}
 use Rattle.flow.specs.Tests.{split}
 use Rattle.flow.specs.Flow.{Report}
-use Rattle.record.specs.Laws.Answering.{never}
+use Rattle.record.proofs.Laws.Answering.{never}
 use Rattle.holdings.specs.Files.{Rules, Versions, header_size, length_size, entries_in, Listing, Lists, Faulty}
 use Rattle.holdings.specs.Answers.{listing_to_extend, AddAllCall}
 use Rattle.holdings.specs.Terms.{Messages, Contains, Distinct, ShortestOfOne, SoundVersions, Enough}

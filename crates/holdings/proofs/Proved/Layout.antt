@@ -7,7 +7,7 @@ use Rattle.flow.specs.Tests.{split, bytes_take, bytes_drop}
 use Rattle.flow.specs.Flow.{Bytes, items}
 use Rattle.wire.specs.BigEndian.{joined, be}
 use Rattle.wire.specs.Laws.{joined_snoc, joined_below}
-use Rattle.record.specs.Laws.Answering.{never}
+use Rattle.record.proofs.Laws.Answering.{never}
 use Rattle.holdings.specs.Files.{Rules, Versions, rules_of, mark, mark_size, version_size, header_size, length_size}
 use Rattle.holdings.specs.Files.{entry_of, message_size, entry_size, entries_in, Lists, number_of, lists_from}
 use Rattle.holdings.specs.Files.{listing_of}

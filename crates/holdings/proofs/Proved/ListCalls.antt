@@ -12,7 +12,7 @@ use Rattle.flow.specs.Tests.{by_cases, pick_true, pick_false, pick_either}
 use Rattle.flow.specs.OverlayLaws.{flat, overlay_flat, overlay_past, length_overlay}
 use Rattle.flow.specs.Flow.{Report, overlay}
 use Rattle.record.specs.Model.Answers.{as_numbers, lent_rows}
-use Rattle.record.specs.Laws.Answering.{never}
+use Rattle.record.proofs.Laws.Answering.{never}
 use Rattle.holdings.specs.Files.{Rules, Versions, header_size, Listing, Lists, Faulty, listing}
 use Rattle.holdings.specs.Answers.{Result, Accept, Refuse, answer, with_working, placements, ListLayout, listed_to}
 use Rattle.holdings.specs.Answers.{list_result, list_report, list_after, ListCall}

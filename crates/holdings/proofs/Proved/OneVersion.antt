@@ -8,7 +8,7 @@ use Rattle.flow.specs.Tests.{pick_either}
 use Rattle.flow.specs.Flow.{Bytes, Outcome, Done, Fault, One, items, Report}
 use Rattle.wire.specs.BigEndian.{joined}
 use Rattle.record.specs.Model.Items.{Item, Known}
-use Rattle.record.specs.Laws.Answering.{never}
+use Rattle.record.proofs.Laws.Answering.{never}
 use Rattle.holdings.specs.Files.{Rules, Versions, reads_by, shortest_by, mark_size, version_size, Listing, Lists}
 use Rattle.holdings.specs.Files.{Faulty}
 use Rattle.holdings.specs.Answers.{Result, Accept, Refuse, Addition, listing_to_extend, appended, added_short}

@@ -1,6 +1,6 @@
 use Rattle.std.proofs.Common.{◌-◌, arith, rules}
 use Rattle.record.specs.Model.Answers.{as_numbers}
-use Rattle.record.specs.Laws.TableLaws.{numbers_keep}
+use Rattle.record.proofs.Laws.TableLaws.{numbers_keep}
 use Rattle.reader.proofs.ThousandthLaws.{Retelling, retelling_start, retelling_next, retelling_end}
 use Rattle.reader.proofs.thousandths.retell_numbers.Goals as goal
 

@@ -1,7 +1,7 @@
 -- Each way out has its law in proofs/HolderLaws.antt.
 use mathlib.Core.Logic.{⊎_elim}
 use borrow.Author.Rules.{rules}
-use Rattle.record.specs.Laws.KnownArray.{kept_opened}
+use Rattle.record.proofs.Laws.KnownArray.{kept_opened}
 use Rattle.writer.proofs.HolderLaws.{has_type_law, no_second, held_lost, ready_opened, object_held, list_or_map_held}
 use Rattle.writer.proofs.holders.put_holder.Goals as goal
 
