@@ -61,11 +61,11 @@ MOVED = {
         "ForReader.Retelling": "HeldRows",
         "ForWriter.BareItems": "NoneIn",
         "ForWriter.RowItems": "",
-        "ForWriter.WritingAt": "claimed_by plainly row_at claim_at claimed_from claimed At End WritingAt WrittenTo NoMessage"
+        "ForWriter.WritingAt": "holding claimed_by plainly row_at claim_at claimed_from claimed At End WritingAt WrittenTo NoMessage"
         " writing_of walk behind on_written",
         "ForWriter.WrittenContents": "left done",
         "ForWriter.WrittenItems": "ended",
-        "ForWriter.WrittenMessages": "",
+        "ForWriter.WrittenMessages": "Rights Wrong",
         "ForWriter.WrittenNames": "names_left",
         "ForWriter.WrittenValues": "below",
         "Laws.Answering": "",
@@ -131,7 +131,7 @@ MOVED = {
 RENAMED = {("scalar", "Refusals"): "RefusalLaws"}
 
 USE = re.compile(
-    r"^(?P<lead>\s*(?:ghost )?use )Rattle\.(?P<crate>\w+)\.specs\.(?P<path>[\w.]+?)"
+    r"^(?P<lead>\s*(?:ghost )?use )Rattle\.(?P<crate>\w+)\.(?P<in>specs|proofs)\.(?P<path>[\w.]+?)"
     r"(?:\.\{(?P<names>[^{}]*)\}| as (?P<alias>\w+))?(?P<end>;?)$"
 )
 
@@ -143,6 +143,8 @@ def rewritten(path, text, said):
     for line in text.split("\n"):
         it = USE.match(line)
         crate, module = (it["crate"], it["path"]) if it else ("", "")
+        if it and it["in"] == "proofs":
+            module = {law: old for (c, old), law in RENAMED.items() if c == crate}.get(module, module)
         law = RENAMED.get((crate, module), module)
         if module not in MOVED.get(crate, {}) or not os.path.isfile(f"crates/{crate}/proofs/{law.replace('.', '/')}.antt"):
             out.append(line)
@@ -154,7 +156,7 @@ def rewritten(path, text, said):
         else:
             alias = it["alias"] or module.split(".")[-1]
             named = sorted(set(re.findall(r"(?<![\w.])" + alias + r"\.([^\s(){}.;,]+)", text.replace(line, ""))))
-        kinds = {part: [n for n in named if (n.split(" as ")[0] in stays) == (part == "specs")] for part in ("specs", "proofs")}
+        kinds = {to: [n for n in named if (n.split(" as ")[0] in stays) == (to == "specs")] for to in ("specs", "proofs")}
         if kinds["proofs"] and part == "src":
             said.append(f"{path}: a contract names laws: {crate} {module}: {', '.join(kinds['proofs'])}")
         if it["names"] is None:
@@ -163,7 +165,7 @@ def rewritten(path, text, said):
                 out.append(line)
             else:
                 to = "specs" if kinds["specs"] else "proofs"
-                out.append(line.replace(paths["specs"], paths[to]))
+                out.append(line.replace(paths[it["in"]], paths[to]))
             continue
         for to in ("specs", "proofs"):
             if kinds[to]:

@@ -2,5 +2,6 @@ pub mod BareItems
 pub mod WritingAt
 pub mod WrittenContents
 pub mod WrittenItems
+pub mod WrittenMessages
 pub mod WrittenNames
 pub mod WrittenValues

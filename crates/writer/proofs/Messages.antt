@@ -27,7 +27,8 @@ use Rattle.record.specs.ForWriter.WritingAt.{WritingAt, WrittenTo, NoMessage, wa
 use Rattle.record.proofs.ForWriter.WritingAt.{claimed_few}
 use Rattle.record.specs.ForWriter.WrittenContents.{left}
 use Rattle.record.proofs.ForWriter.WrittenContents.{one_value}
-use Rattle.record.proofs.ForWriter.WrittenMessages.{Rights, whole_written, whole_short, whole_stuck, whole_wrong}
+use Rattle.record.specs.ForWriter.WrittenMessages.{Rights}
+use Rattle.record.proofs.ForWriter.WrittenMessages.{whole_written, whole_short, whole_stuck, whole_wrong}
 use Rattle.record.specs.Laws.KnownArray.{known_in, known_size}
 use Rattle.record.specs.Model.Claims.{content_at}
 use Rattle.writer.specs.declared.puts.Put.{Put}

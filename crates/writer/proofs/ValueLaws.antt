@@ -29,7 +29,7 @@ use Rattle.record.specs.Laws.Claimed.{item_at}
 use Rattle.record.proofs.Laws.Claimed.{claims_back}
 use Rattle.record.proofs.Laws.Takes.{value_drops}
 use Rattle.record.specs.ForWriter.WritingAt.{row_at, At, WritingAt, WrittenTo, NoMessage, walk, behind}
-use Rattle.record.proofs.ForWriter.WritingAt.{holding}
+use Rattle.record.specs.ForWriter.WritingAt.{holding}
 use Rattle.record.proofs.ForWriter.WritingAt.{behind_none, behind_behind}
 use Rattle.record.proofs.ForWriter.WritingAt.{walk_within}
 use Rattle.record.specs.ForWriter.WrittenItems.{ended}
@@ -40,7 +40,7 @@ use Rattle.record.proofs.ForWriter.WrittenContents.{left_stuck}
 use Rattle.record.specs.ForWriter.WrittenValues.{below}
 use Rattle.record.proofs.ForWriter.WrittenValues.{below_none, below_some, written_span}
 use Rattle.record.specs.ForWriter.BareItems.{NoneIn}
-use Rattle.record.proofs.ForWriter.WrittenMessages.{Rights, Wrong}
+use Rattle.record.specs.ForWriter.WrittenMessages.{Rights, Wrong}
 use Rattle.record.specs.Laws.KnownArray.{known_in, references_slot}
 use Rattle.record.specs.declared.Row as code
 use Rattle.writer.specs.declared.puts.Put.{Put}

@@ -29,14 +29,14 @@ use Rattle.record.specs.Laws.RowLaws.{row_of}
 use Rattle.record.specs.Laws.Claimed.{item_at}
 use Rattle.record.specs.Laws.Takes.{Drops}
 use Rattle.record.specs.ForWriter.WritingAt.{claimed, row_at, At, End, WritingAt, WrittenTo, NoMessage, walk}
-use Rattle.record.proofs.ForWriter.WritingAt.{holding}
+use Rattle.record.specs.ForWriter.WritingAt.{holding}
 use Rattle.record.specs.ForWriter.WritingAt.{behind}
 use Rattle.record.specs.ForWriter.WrittenItems.{ended}
 use Rattle.record.specs.ForWriter.WrittenContents.{left}
 use Rattle.record.specs.ForWriter.WrittenNames.{names_left}
 use Rattle.record.specs.ForWriter.WrittenValues.{below}
 use Rattle.record.specs.ForWriter.BareItems.{NoneIn}
-use Rattle.record.proofs.ForWriter.WrittenMessages.{Rights, Wrong}
+use Rattle.record.specs.ForWriter.WrittenMessages.{Rights, Wrong}
 use Rattle.record.specs.Laws.KnownArray.{known_in, Kept, references_slot}
 use Rattle.record.specs.declared.Row as code
 use Rattle.record.specs.Model.Claims.{content_at}

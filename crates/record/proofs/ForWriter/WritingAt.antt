@@ -29,17 +29,7 @@ use Rattle.record.proofs.Laws.Claimed.{claims_back}
 use Rattle.record.specs.Laws.Takes.{Taken, none_taken, taken, Drops}
 use Rattle.record.proofs.Laws.Takes.{bytes_takes}
 use Rattle.record.specs.Model.Claims.{ContentMap}
-use Rattle.record.specs.ForWriter.WritingAt.{claimed_by, plainly, row_at, claim_at, claimed_from, claimed, At, End, WritingAt, WrittenTo, NoMessage, writing_of, walk, behind, on_written}
-
--- a list, map or object
-abbrev pub holding : Value → Bool
-holding (Leaf x) = false
-holding (UntypedList n) = true
-holding (TypedList n t) = true
-holding (UntypedMap n) = true
-holding (TypedMap n t) = true
-holding (Object j n) = true
-holding (Reference j) = false
+use Rattle.record.specs.ForWriter.WritingAt.{holding, claimed_by, plainly, row_at, claim_at, claimed_from, claimed, At, End, WritingAt, WrittenTo, NoMessage, writing_of, walk, behind, on_written}
 
 -- ---- the items that rows claim, up to the first row that claims none
 module _ (contents : ContentMap) where

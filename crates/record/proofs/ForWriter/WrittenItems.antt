@@ -14,7 +14,8 @@ use Rattle.record.specs.Model.Shortest.{object_code, put_container, put_type, pu
 use Rattle.record.specs.Model.Shortest.{code_then, put_plain}
 use Rattle.record.specs.Laws.Takes.{Drops}
 use Rattle.record.specs.ForWriter.WritingAt.{At, End, WritingAt, WrittenTo, NoMessage, walk}
-use Rattle.record.proofs.ForWriter.WritingAt.{holding, at_within}
+use Rattle.record.specs.ForWriter.WritingAt.{holding}
+use Rattle.record.proofs.ForWriter.WritingAt.{at_within}
 use Rattle.record.specs.ForWriter.WritingAt.{behind, on_written}
 use Rattle.record.proofs.ForWriter.WritingAt.{behind_behind, walk_then, walk_bytes, walk_none}
 use Rattle.record.proofs.ForWriter.WritingAt.{walk_if, walk_unless, walk_if_none, walk_item, walk_other, walk_over}

@@ -1,5 +1,5 @@
 -- The shortest message of the record that rows claim, by what is written of a value at the first item.
-use Rattle.std.specs.Prelude.{◌≡◌, ℕ, suc, ◌+◌, ◌-◌, ◌≤◌, ◌<◌, true, drop}
+use Rattle.std.specs.Prelude.{◌≡◌, ℕ, suc, ◌+◌, ◌-◌, ◌≤◌, ◌<◌, drop}
 use Rattle.std.proofs.Math.Path.{refl}
 use Rattle.std.proofs.Common.{sym, ap, subst, ◌∙◌, zero-add, arith, length-append, length-drop, drop-drop}
 use mathlib.Core.List.{List, [], ◌∷◌}
@@ -17,8 +17,8 @@ use Rattle.record.specs.Laws.Claimed.{item_at, items_of, ended}
 use Rattle.record.proofs.Laws.Claimed.{ended_right}
 use Rattle.flow.specs.Tests.{same_eq}
 use Rattle.flow.specs.Flow.{same_list}
-use Rattle.record.specs.ForWriter.WritingAt.{At, claimed, row_at}
-use Rattle.record.proofs.ForWriter.WritingAt.{holding, claimed_all, claimed_short}
+use Rattle.record.specs.ForWriter.WritingAt.{claimed}
+use Rattle.record.proofs.ForWriter.WritingAt.{claimed_all, claimed_short}
 use Rattle.record.specs.ForWriter.WritingAt.{WritingAt, WrittenTo, NoMessage, writing_of}
 use Rattle.record.proofs.ForWriter.WritingAt.{claimed_full, ends_at}
 use Rattle.record.specs.ForWriter.WritingAt.{walk}
@@ -26,6 +26,7 @@ use Rattle.record.proofs.ForWriter.WritingAt.{walk_within}
 use Rattle.record.specs.Laws.Takes.{Taken, taken}
 use Rattle.record.proofs.Laws.Takes.{value_takes}
 use Rattle.record.specs.Model.Claims.{ContentMap}
+use Rattle.record.specs.ForWriter.WrittenMessages.{Rights, Wrong}
 
 -- as many items as rows
 record_length_law : (contents : ContentMap) (r : List Row) (is : List Item) → items_of contents r ≡ some is
@@ -60,17 +61,6 @@ module _ (is : List Item) where
   complete_none NoRecord h = refl
 
 -- ---- the fifth numbers of lists, maps and objects
--- those from `from` up to p are right; one is not
-abbrev pub Rights : List Row → List Item → ℕ → ℕ → Type 0
-Rights r is from p = (j : ℕ) → from ≤ j → j < p → (v : Value) → At is j (Val v) → holding v ≡ true
-    → (row_at r j).after ≡ j + span (Val v) (drop (suc j) is)
-
-pub record Wrong (r : List Row) (is : List Item) : Type 0 where
-  pub row : ℕ
-  pub value : Value
-  pub stands : At is row (Val value)
-  pub other : (row_at r row).after ≡ row + span (Val value) (drop (suc row) is) → ⊥
-
 -- what stands after the item j
 rest_of : (is : List Item) (j : ℕ) (v : Value) (js : List Item) → drop j is ≡ Val v ∷ js → js ≡ drop (suc j) is
 rest_of is j v js a = let e : j + 1 ≡ suc j = omega arith in sym (sym (ap (λ (m : ℕ). drop m is) e)

@@ -2,18 +2,29 @@
 -- written from an item on. The laws, one for each combinator of the spelling, are in proofs/ForWriter/WritingAt.antt.
 use Rattle.std.proofs.Math.Path.{◌≡◌}
 use Rattle.std.specs.Prelude.{Bool, get_or, eqb}
-use Rattle.std.proofs.Math.Bool.{true}
+use Rattle.std.proofs.Math.Bool.{true, false}
 use mathlib.Core.List.{List, [], ◌∷◌, ◌++◌}
 use Rattle.std.proofs.Math.Option.{Option, none, some}
 use Prim.Native.Nat.{ℕ, suc, ◌+◌, ◌-◌}
 use Rattle.std.proofs.Math.ListN.{length, drop}
 use Rattle.flow.specs.Flow.{pick, within}
 use Rattle.record.specs.Model.Kinds.{list_kind, reference_kind, class_kind}
+use Rattle.record.specs.Model.Items.{Value, Leaf, UntypedList, TypedList, UntypedMap, TypedMap, Object, Reference}
 use Rattle.record.specs.Model.Items.{Item, Known}
 use Rattle.record.specs.Model.Rows.{Row, row}
 use Rattle.record.specs.Model.Shortest.{Spelling, Spelled, NoRecord, Put}
 use Rattle.record.specs.Laws.Claimed.{item_at}
 use Rattle.record.specs.Model.Claims.{ContentMap}
+
+-- a list, map or object
+abbrev pub holding : Value → Bool
+holding (Leaf x) = false
+holding (UntypedList n) = true
+holding (TypedList n t) = true
+holding (UntypedMap n) = true
+holding (TypedMap n t) = true
+holding (Object j n) = true
+holding (Reference j) = false
 
 -- ---- the items that rows claim, up to the first row that claims none
 abbrev pub claimed_by : Option Item → List Item → List Item
