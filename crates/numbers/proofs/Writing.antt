@@ -16,16 +16,17 @@ use Rattle.scalar.specs.declared.Written.{Written}
 use Rattle.scalar.specs.declared.Written.TheVariants.{Stored, NoRoom, NoSuchForm}
 use Rattle.numbers.specs.declared.Spelling.{Spelling}
 use Rattle.numbers.specs.declared.Spelling.TheVariants as answer
-use Rattle.scalar.specs.DoubleLaws.{powers}
+use Rattle.scalar.proofs.DoubleLaws.{powers}
 use Rattle.scalar.specs.Scalars.{value, Form, form, forms_of, spelling, fits, shortest}
 use Rattle.scalar.specs.Guesses.{guess}
-use Rattle.scalar.specs.RuleLaws.{value_plain, guess_plain}
-use Rattle.scalar.specs.FormLaws.{forms_null, forms_false, forms_true, forms_int, forms_long, forms_double, forms_date}
-use Rattle.scalar.specs.FormLaws.{shortest_none, shortest_first}
-use Rattle.scalar.specs.NumberLaws.{tried, EachForm, IsNumber, number_fact, shortest_is}
+use Rattle.scalar.proofs.RuleLaws.{value_plain, guess_plain}
+use Rattle.scalar.proofs.FormLaws.{forms_null, forms_false, forms_true, forms_int, forms_long, forms_double, forms_date}
+use Rattle.scalar.proofs.FormLaws.{shortest_none, shortest_first}
+use Rattle.scalar.specs.NumberLaws.{tried}
+use Rattle.scalar.proofs.NumberLaws.{EachForm, IsNumber, number_fact, shortest_is}
 use Rattle.numbers.specs.Answers.{Takes, Good, spelled, or_else, present, Writes}
 use Rattle.scalar.specs.Answers.{report, report_of, output_of}
-use Rattle.scalar.specs.AnswerLaws.{report_none, report_stored, report_over, output_none, output_some}
+use Rattle.scalar.proofs.AnswerLaws.{report_none, report_stored, report_over, output_none, output_some}
 
 -- ---- one form
 -- what stands before the k lowest bytes is the quotient

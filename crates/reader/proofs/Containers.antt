@@ -21,9 +21,10 @@ use Rattle.reader.specs.declared.values.Beginning.TheVariants as beginning
 use Rattle.reader.specs.declared.values.ValuesRead.{ValuesRead}
 use Rattle.reader.specs.declared.values.ValuesRead.TheVariants as values-read
 use Rattle.record.specs.Model.Answers.{base}
-use Rattle.record.specs.Laws.KnownArray.{one_reference, references_more, types_same, known_opened, kept_opened}
-use Rattle.record.specs.Laws.KnownArray.{one_type}
-use Rattle.record.specs.Laws.KnownArray.{references_same, known_typed, kept_typed, Kept, types_slot}
+use Rattle.record.proofs.Laws.KnownArray.{one_reference, references_more, types_same, known_opened, kept_opened}
+use Rattle.record.proofs.Laws.KnownArray.{one_type}
+use Rattle.record.specs.Laws.KnownArray.{Kept, types_slot}
+use Rattle.record.proofs.Laws.KnownArray.{references_same, known_typed, kept_typed}
 use Rattle.record.specs.Laws.KnownArray.{references_slot}
 use Rattle.reader.specs.declared.Spot.{Spot}
 use Rattle.reader.specs.Promises.{group_of, group_numbers, StoresRow, StoresRows, type_of, type_rows, type_tag}

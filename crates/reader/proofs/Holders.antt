@@ -10,7 +10,7 @@ use Rattle.numbers.specs.declared.NumberPassed.{NumberPassed}
 use Rattle.numbers.specs.declared.NumberPassed.TheVariants as number
 use Rattle.scalar.specs.declared.Lead.{Lead}
 use Rattle.scalar.specs.declared.Lead.TheVariants as lead
-use Rattle.scalar.specs.ChartLaws.{list_byte, typed_list_byte, object_byte}
+use Rattle.scalar.proofs.ChartLaws.{list_byte, typed_list_byte, object_byte}
 use Rattle.scalar.specs.Answers.{number_at}
 use Rattle.numbers.specs.Answers.{passed}
 use Rattle.record.specs.declared.Group.TheVariants.{Fields}
@@ -20,17 +20,20 @@ use Rattle.record.specs.Model.Reading.{ValueHead, few, few_of_type, few_fields, 
 use Rattle.record.specs.Model.Reading.{open_typed_head, object}
 use Rattle.record.specs.Model.Reading.{head_of}
 use Rattle.record.specs.Model.Answers.{base}
-use Rattle.record.specs.ForReader.ReadingAt.{ReadingAt, ReadTo, RefusedAt, run, front, topped, front_none}
+use Rattle.record.specs.ForReader.ReadingAt.{ReadingAt, ReadTo, RefusedAt, run, front, topped}
+use Rattle.record.proofs.ForReader.ReadingAt.{front_none}
 use Rattle.record.specs.ForReader.ReadLoops.{rest}
-use Rattle.record.specs.ForReader.ChartHeads.{form_by}
-use Rattle.record.specs.ForReader.ReadValues.{heading, has_type, form_few, form_open, form_map, form_counted}
-use Rattle.record.specs.ForReader.ReadValues.{form_counted_negative}
-use Rattle.record.specs.ForReader.ReadValues.{form_counted_lost, form_few_object, form_few_object_ungiven, form_object}
-use Rattle.record.specs.ForReader.ReadValues.{form_object_ungiven, form_object_lost, form_type_lost, form_few_typed}
-use Rattle.record.specs.ForReader.ReadValues.{form_open_typed}
-use Rattle.record.specs.ForReader.ReadValues.{form_typed_map, form_counted_typed, form_counted_typed_negative}
-use Rattle.record.specs.ForReader.ReadValues.{form_counted_typed_lost}
-use Rattle.record.specs.ForReader.ReadDefinitions.{below, below_some}
+use Rattle.record.proofs.ForReader.ChartHeads.{form_by}
+use Rattle.record.specs.ForReader.ReadValues.{heading}
+use Rattle.record.proofs.ForReader.ReadValues.{has_type, form_few, form_open, form_map, form_counted}
+use Rattle.record.proofs.ForReader.ReadValues.{form_counted_negative}
+use Rattle.record.proofs.ForReader.ReadValues.{form_counted_lost, form_few_object, form_few_object_ungiven, form_object}
+use Rattle.record.proofs.ForReader.ReadValues.{form_object_ungiven, form_object_lost, form_type_lost, form_few_typed}
+use Rattle.record.proofs.ForReader.ReadValues.{form_open_typed}
+use Rattle.record.proofs.ForReader.ReadValues.{form_typed_map, form_counted_typed, form_counted_typed_negative}
+use Rattle.record.proofs.ForReader.ReadValues.{form_counted_typed_lost}
+use Rattle.record.specs.ForReader.ReadDefinitions.{below}
+use Rattle.record.proofs.ForReader.ReadDefinitions.{below_some}
 use Rattle.reader.specs.declared.heads.TypeItem.{TypeItem}
 use Rattle.reader.specs.declared.heads.TypeItem.TheVariants.{Untyped}
 use Rattle.reader.specs.declared.heads.GroupNumbers.{GroupNumbers}

@@ -10,10 +10,12 @@ use Rattle.record.specs.Model.Rows.{Row}
 use Rattle.record.specs.Model.Answers.{ReadResult, Accept, Refuse, read, base, as_numbers, as_bytes, read_numbers}
 use Rattle.record.specs.Model.Answers.{filled, lent_rows, base_open_from, length_answered}
 use Rattle.record.specs.Model.Calls.{ReadCall, MeasuredCall}
-use Rattle.record.specs.ForReader.ReadingAt.{ReadingAt, ReadTo, RefusedAt, run, on, on_same, numbered, numbered_length}
-use Rattle.record.specs.ForReader.ReadLoops.{rest, rest_step, rest_stop}
-use Rattle.record.specs.ForReader.ReadMessages.{read_empty, read_long, read_lost, read_over, read_small, read_got}
-use Rattle.record.specs.ForReader.ReadLengths.{length_read_law, length_refused}
+use Rattle.record.specs.ForReader.ReadingAt.{ReadingAt, ReadTo, RefusedAt, run, on, numbered}
+use Rattle.record.proofs.ForReader.ReadingAt.{on_same, numbered_length}
+use Rattle.record.specs.ForReader.ReadLoops.{rest}
+use Rattle.record.proofs.ForReader.ReadLoops.{rest_step, rest_stop}
+use Rattle.record.proofs.ForReader.ReadMessages.{read_empty, read_long, read_lost, read_over, read_small, read_got}
+use Rattle.record.proofs.ForReader.ReadLengths.{length_read_law, length_refused}
 use Rattle.reader.specs.declared.Spot.{Spot}
 use Rattle.reader.specs.declared.values.ValuesRead.{ValuesRead}
 use Rattle.reader.specs.declared.values.ValuesRead.TheVariants as values-read

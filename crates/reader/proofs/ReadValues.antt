@@ -7,12 +7,14 @@ use Rattle.record.specs.Model.Items.{Known}
 use Rattle.record.specs.Model.Reading.{value_from}
 use Rattle.record.specs.Model.Rows.{Row, row, item_row}
 use Rattle.record.specs.Model.Answers.{base}
-use Rattle.record.specs.ForReader.ReadingAt.{ReadingAt, ReadTo, RefusedAt, run, front, on, topped, front_none}
-use Rattle.record.specs.ForReader.ReadingAt.{front_front, from_item}
-use Rattle.record.specs.ForReader.ReadLoops.{rest, stops, past, parts, Room, room_first, room_next, past_within}
-use Rattle.record.specs.ForReader.ReadLoops.{rest_stop, rest_step}
+use Rattle.record.specs.ForReader.ReadingAt.{ReadingAt, ReadTo, RefusedAt, run, front, on, topped}
+use Rattle.record.proofs.ForReader.ReadingAt.{front_none}
+use Rattle.record.proofs.ForReader.ReadingAt.{front_front, from_item}
+use Rattle.record.specs.ForReader.ReadLoops.{rest, stops, past, parts}
+use Rattle.record.proofs.ForReader.ReadLoops.{Room, room_first, room_next, past_within}
+use Rattle.record.proofs.ForReader.ReadLoops.{rest_stop, rest_step}
 use Rattle.record.specs.ForReader.ReadValues.{heading}
-use Rattle.record.specs.ForReader.ReadDefinitions.{value_plain}
+use Rattle.record.proofs.ForReader.ReadDefinitions.{value_plain}
 use Rattle.scalar.specs.declared.Lead.TheVariants as lead
 use Rattle.reader.specs.declared.Spot.{Spot}
 use Rattle.reader.specs.declared.heads.TypeItem.{TypeItem}

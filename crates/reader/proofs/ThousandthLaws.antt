@@ -11,11 +11,12 @@ use Rattle.record.specs.Model.Rows.{Row, row}
 use Rattle.record.specs.Model.Answers.{Layout, base, base_open_from, as_numbers, as_bytes, lent_rows, read, length_answered}
 use Rattle.record.specs.Model.Answers.{shortest_length}
 use Rattle.record.specs.Model.Calls.{Keeps, ReadCall, MeasuredCall}
-use Rattle.record.specs.Laws.TableLaws.{numbers_keep, bytes_keep}
-use Rattle.record.specs.Laws.ThousandthRows.{length_in_thousandths}
+use Rattle.record.proofs.Laws.TableLaws.{numbers_keep, bytes_keep}
+use Rattle.record.proofs.Laws.ThousandthRows.{length_in_thousandths}
 use Rattle.record.specs.Model.Terms.{first_in_thousandths, row_in_thousandths}
-use Rattle.record.specs.ForReader.Retelling.{HeldRows, retold_to, retold_start, retold_row, retold_next}
-use Rattle.record.specs.ForReader.Retelling.{retold_all, held_room, refused_call, accepted_held, accepted_call}
+use Rattle.record.specs.ForReader.Retelling.{HeldRows}
+use Rattle.record.proofs.ForReader.Retelling.{retold_to, retold_start, retold_row, retold_next}
+use Rattle.record.proofs.ForReader.Retelling.{retold_all, held_room, refused_call, accepted_held, accepted_call}
 use Rattle.reader.specs.declared.ReadAnswer.TheVariants.{Accepted, Refused, TooFew}
 use Rattle.reader.specs.declared.FillAnswer.{FillAnswer}
 use Rattle.reader.specs.declared.FillAnswer.TheVariants as fill

@@ -12,15 +12,15 @@ use Rattle.scalar.specs.Chart.{lead_of, kind_of}
 use Rattle.scalar.specs.Answers.{number_at}
 use Rattle.scalar.specs.Chart.{entry}
 use Rattle.numbers.specs.Answers.{passed}
-use Rattle.scalar.specs.ChartLaws.{kind_is, kind_of_text, entry_parts}
-use Rattle.scalar.specs.ByChart.{text_told, text_there}
+use Rattle.scalar.proofs.ChartLaws.{kind_is, kind_of_text, entry_parts}
+use Rattle.scalar.proofs.ByChart.{text_told, text_there}
 use Rattle.texts.specs.Answers.{PassedMet}
 use Rattle.record.specs.Model.Items.{typed}
 use Rattle.record.specs.Model.Rows.{row}
 use Rattle.record.specs.Model.Answers.{base}
 use Rattle.record.specs.ForReader.ReadingAt.{ReadTo}
-use Rattle.record.specs.ForReader.ReadParts.{type_end, type_full, type_spelled, type_name_lost, type_numbered, type_ungiven}
-use Rattle.record.specs.ForReader.ReadParts.{type_number_lost}
+use Rattle.record.proofs.ForReader.ReadParts.{type_end, type_full, type_spelled, type_name_lost, type_numbered, type_ungiven}
+use Rattle.record.proofs.ForReader.ReadParts.{type_number_lost}
 use Rattle.reader.specs.declared.heads.TypeItem.TheVariants.{Named, Numbered}
 use Rattle.reader.specs.declared.heads.TypeRead.TheVariants as type-read
 use Rattle.reader.specs.Promises.{PlaceIn, LeadAt, NoName, TypeReadMet}

@@ -8,10 +8,10 @@ use Rattle.scalar.specs.Scalars.{DoubleRule}
 use Rattle.record.specs.Model.Items.{Limits}
 use Rattle.record.specs.Model.Answers.{Layout}
 use Rattle.record.specs.Model.Calls.{ReadCall}
-use Rattle.record.specs.Laws.Refusals.{located_numbered}
-use Rattle.record.specs.ForReader.ReadMessages.{rows_length}
-use Rattle.record.specs.Theorems.AnswerTheorems.{accepted_some}
-use Rattle.record.specs.Theorems.CallCases.{ReadCases, misfit, faulty, few_rows, whole, read_cases, entries_length}
+use Rattle.record.proofs.Laws.Refusals.{located_numbered}
+use Rattle.record.proofs.ForReader.ReadMessages.{rows_length}
+use Rattle.record.proofs.Theorems.AnswerTheorems.{accepted_some}
+use Rattle.record.proofs.Theorems.CallCases.{ReadCases, misfit, faulty, few_rows, whole, read_cases, entries_length}
 use Rattle.reader.specs.declared.ReadAnswer.{ReadAnswer}
 use Rattle.reader.specs.declared.ReadAnswer.TheVariants.{Accepted, Refused, TooFew}
 use Rattle.reader.specs.Answers.{report, shortest}

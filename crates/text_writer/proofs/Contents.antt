@@ -11,10 +11,11 @@ use Rattle.flow.specs.Flow.{Done, Fault, reported}
 use Rattle.flow.specs.OverlayLaws.{stored_out}
 use Rattle.scalar.specs.declared.Encoding.{Encoding}
 use Rattle.scalar.specs.Scalars.{units, fitting, string_at}
-use Rattle.scalar.specs.TextUnits.{weights, weights_length}
-use Rattle.scalar.specs.Greedy.{span_fits}
+use Rattle.scalar.specs.TextUnits.{weights}
+use Rattle.scalar.proofs.TextUnits.{weights_length}
+use Rattle.scalar.proofs.Greedy.{span_fits}
 use Rattle.scalar.specs.Answers.{content_read, report_of, output_of}
-use Rattle.scalar.specs.AnswerLaws.{report_none, report_stored, report_over, output_none, output_some}
+use Rattle.scalar.proofs.AnswerLaws.{report_none, report_stored, report_over, output_none, output_some}
 use Rattle.text_writer.specs.declared.Cursor.{Cursor}
 use Rattle.text_writer.specs.declared.Copied.{Copied}
 use Rattle.text_writer.specs.declared.Found.{Found}

@@ -18,10 +18,12 @@ use Rattle.flow.specs.Tests.{pick_true, pick_false, pick_either, within_yes, wit
 use Rattle.wire.specs.BigEndian.{eight_at}
 use Rattle.record.specs.Model.Items.{Item}
 use Rattle.record.specs.Model.Rows.{Row, row, item_row}
-use Rattle.record.specs.Laws.Claimed.{item_at, claims_back}
+use Rattle.record.specs.Laws.Claimed.{item_at}
+use Rattle.record.proofs.Laws.Claimed.{claims_back}
 use Rattle.record.specs.Model.Answers.{Layout, as_numbers, as_bytes, lent_rows, rows_of}
-use Rattle.record.specs.ForWriter.WritingAt.{plainly, claim_at, At, End, WritingAt, claimed_few, row_at_law, row_none}
-use Rattle.record.specs.ForWriter.WritingAt.{row_end}
+use Rattle.record.specs.ForWriter.WritingAt.{plainly, claim_at, At, End, WritingAt}
+use Rattle.record.proofs.ForWriter.WritingAt.{claimed_few, row_at_law, row_none}
+use Rattle.record.proofs.ForWriter.WritingAt.{row_end}
 use Rattle.record.specs.declared.Row as code
 use Rattle.writer.specs.declared.rows.Fetched.{Fetched}
 use Rattle.writer.specs.declared.rows.Fetched.TheVariants as fetched

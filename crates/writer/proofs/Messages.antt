@@ -22,10 +22,13 @@ use Rattle.record.specs.Model.Answers.{lent_rows, rows_of, write_numbers, writte
 use Rattle.record.specs.Model.Answers.{output_written}
 use Rattle.record.specs.Model.Calls.{WriteCall}
 use Rattle.record.specs.Model.Answers as shorthands
-use Rattle.record.specs.Laws.Takes.{value_drops}
-use Rattle.record.specs.ForWriter.WritingAt.{claimed_few, WritingAt, WrittenTo, NoMessage, walk}
-use Rattle.record.specs.ForWriter.WrittenContents.{left, one_value}
-use Rattle.record.specs.ForWriter.WrittenMessages.{Rights, whole_written, whole_short, whole_stuck, whole_wrong}
+use Rattle.record.proofs.Laws.Takes.{value_drops}
+use Rattle.record.specs.ForWriter.WritingAt.{WritingAt, WrittenTo, NoMessage, walk}
+use Rattle.record.proofs.ForWriter.WritingAt.{claimed_few}
+use Rattle.record.specs.ForWriter.WrittenContents.{left}
+use Rattle.record.proofs.ForWriter.WrittenContents.{one_value}
+use Rattle.record.specs.ForWriter.WrittenMessages.{Rights}
+use Rattle.record.proofs.ForWriter.WrittenMessages.{whole_written, whole_short, whole_stuck, whole_wrong}
 use Rattle.record.specs.Laws.KnownArray.{known_in, known_size}
 use Rattle.record.specs.Model.Claims.{content_at}
 use Rattle.writer.specs.declared.puts.Put.{Put}

@@ -12,13 +12,15 @@ use Rattle.record.specs.Model.Items.{Item, Val, Definition, ClassName, FieldName
 use Rattle.record.specs.Model.Rows.{item_row}
 use Rattle.record.specs.Model.Answers.{base}
 use Rattle.record.specs.Model.Shortest.{put_type}
-use Rattle.record.specs.ForWriter.RowItems.{type_spelled, type_numbered, first_item, first_none}
-use Rattle.record.specs.ForWriter.WritingAt.{At, WritingAt, WrittenTo, NoMessage, walk, walk_bytes, walk_within}
-use Rattle.record.specs.ForWriter.WrittenNames.{is_type, type_end, type_other, type_name_other, type_name_full}
-use Rattle.record.specs.ForWriter.WrittenNames.{type_name_none}
-use Rattle.record.specs.ForWriter.WrittenNames.{type_number_other, type_number_ungiven, type_number_none}
-use Rattle.record.specs.ForWriter.WrittenNames as types
-use Rattle.record.specs.Laws.KnownArray.{known_in, Kept, known_typed, kept_typed, references_same, types_slot}
+use Rattle.record.proofs.ForWriter.RowItems.{type_spelled, type_numbered, first_item, first_none}
+use Rattle.record.specs.ForWriter.WritingAt.{At, WritingAt, WrittenTo, NoMessage, walk}
+use Rattle.record.proofs.ForWriter.WritingAt.{walk_bytes, walk_within}
+use Rattle.record.proofs.ForWriter.WrittenNames.{is_type, type_end, type_other, type_name_other, type_name_full}
+use Rattle.record.proofs.ForWriter.WrittenNames.{type_name_none}
+use Rattle.record.proofs.ForWriter.WrittenNames.{type_number_other, type_number_ungiven, type_number_none}
+use Rattle.record.proofs.ForWriter.WrittenNames as types
+use Rattle.record.specs.Laws.KnownArray.{known_in, Kept, types_slot}
+use Rattle.record.proofs.Laws.KnownArray.{known_typed, kept_typed, references_same}
 use Rattle.record.specs.declared.Row as code
 use Rattle.writer.specs.declared.rows.Fetched.{Fetched}
 use Rattle.writer.specs.declared.rows.Fetched.TheVariants as fetched

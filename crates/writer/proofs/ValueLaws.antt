@@ -25,15 +25,18 @@ use Rattle.record.specs.Model.Shortest.{put_value}
 use Rattle.record.specs.Model.Answers.{base}
 use Rattle.record.specs.Model.Shortest.{put_plain}
 use Rattle.record.specs.Model.Shortest as spelling
-use Rattle.record.specs.Laws.Claimed.{item_at, claims_back}
-use Rattle.record.specs.Laws.Takes.{value_drops}
+use Rattle.record.specs.Laws.Claimed.{item_at}
+use Rattle.record.proofs.Laws.Claimed.{claims_back}
+use Rattle.record.proofs.Laws.Takes.{value_drops}
 use Rattle.record.specs.ForWriter.WritingAt.{holding, row_at, At, WritingAt, WrittenTo, NoMessage, walk, behind}
-use Rattle.record.specs.ForWriter.WritingAt.{behind_none, behind_behind}
-use Rattle.record.specs.ForWriter.WritingAt.{walk_within}
-use Rattle.record.specs.ForWriter.WrittenItems.{holds, plain_end, plain_full}
-use Rattle.record.specs.ForWriter.WrittenContents.{left, done, Room, room_first, room_next, left_stop, left_over}
-use Rattle.record.specs.ForWriter.WrittenContents.{left_stuck}
-use Rattle.record.specs.ForWriter.WrittenValues.{below, below_none, below_some, written_span}
+use Rattle.record.proofs.ForWriter.WritingAt.{behind_none, behind_behind}
+use Rattle.record.proofs.ForWriter.WritingAt.{walk_within}
+use Rattle.record.proofs.ForWriter.WrittenItems.{holds, plain_end, plain_full}
+use Rattle.record.specs.ForWriter.WrittenContents.{left, done}
+use Rattle.record.proofs.ForWriter.WrittenContents.{Room, room_first, room_next, left_stop, left_over}
+use Rattle.record.proofs.ForWriter.WrittenContents.{left_stuck}
+use Rattle.record.specs.ForWriter.WrittenValues.{below}
+use Rattle.record.proofs.ForWriter.WrittenValues.{below_none, below_some, written_span}
 use Rattle.record.specs.ForWriter.WrittenMessages.{Rights}
 use Rattle.record.specs.Laws.KnownArray.{known_in, references_slot}
 use Rattle.record.specs.declared.Row as code

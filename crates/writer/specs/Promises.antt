@@ -28,7 +28,8 @@ use Rattle.record.specs.Model.Answers as shorthands
 use Rattle.record.specs.Laws.RowLaws.{row_of}
 use Rattle.record.specs.Laws.Claimed.{item_at}
 use Rattle.record.specs.Laws.Takes.{Drops}
-use Rattle.record.specs.ForWriter.WritingAt.{holding, claimed, row_at, At, End, WritingAt, WrittenTo, NoMessage, walk}
+use Rattle.record.specs.ForWriter.WritingAt.{claimed, row_at, At, End, WritingAt, WrittenTo, NoMessage, walk}
+use Rattle.record.specs.ForWriter.WritingAt.{holding}
 use Rattle.record.specs.ForWriter.WritingAt.{behind}
 use Rattle.record.specs.ForWriter.WrittenItems.{ended}
 use Rattle.record.specs.ForWriter.WrittenContents.{left}

@@ -1,6 +1,6 @@
 -- `numbers::guess` meets its contract: rule by rule.
-use Rattle.scalar.specs.RuleLaws.{guess_exactly, guess_plain, guess_offset, guess_signed}
-use Rattle.scalar.specs.RuleLaws.{guess_minutes, guess_byte, guess_pair, guess_float}
+use Rattle.scalar.proofs.RuleLaws.{guess_exactly, guess_plain, guess_offset, guess_signed}
+use Rattle.scalar.proofs.RuleLaws.{guess_minutes, guess_byte, guess_pair, guess_float}
 use Rattle.numbers.proofs.guess.Goals as goal
 
 pub returns-in-Exactly : goal.returns-in-Exactly

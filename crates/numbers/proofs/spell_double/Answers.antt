@@ -1,5 +1,5 @@
 -- Each form that was tried before is passed over.
-use Rattle.scalar.specs.FormLaws.{forms_double}
+use Rattle.scalar.proofs.FormLaws.{forms_double}
 use Rattle.numbers.proofs.Writing.{first_found, passed_over, added_second}
 use Rattle.numbers.proofs.spell_double.Goals as goal
 

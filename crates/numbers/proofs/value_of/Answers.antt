@@ -2,8 +2,8 @@
 use Rattle.std.proofs.Common.{w64}
 use borrow.Author.Rules.{sfits_of}
 use mir.ValLaws.{to_z-of_z}
-use Rattle.scalar.specs.RuleLaws.{value_exactly, value_plain, value_offset, value_signed}
-use Rattle.scalar.specs.RuleLaws.{value_minutes, value_byte, value_pair, value_float}
+use Rattle.scalar.proofs.RuleLaws.{value_exactly, value_plain, value_offset, value_signed}
+use Rattle.scalar.proofs.RuleLaws.{value_minutes, value_byte, value_pair, value_float}
 use Rattle.numbers.proofs.value_of.Goals as goal
 
 pub less-requires : goal.less-requires

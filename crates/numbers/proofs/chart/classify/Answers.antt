@@ -4,7 +4,7 @@ use Rattle.scalar.specs.declared.Sort.TheVariants.{Null, False, True, Int, Long,
 use Rattle.scalar.specs.declared.Lead.{Lead}
 use Rattle.scalar.specs.declared.Lead.TheVariants as lead
 use Rattle.scalar.specs.Chart.{lead_of}
-use Rattle.scalar.specs.ChartLaws.{spans, span_at, span_lead}
+use Rattle.scalar.proofs.ChartLaws.{spans, span_at, span_lead}
 use Rattle.numbers.proofs.chart.classify.Goals as goal
 
 range : (x : Lead) (i : ℕ) {b : ℕ} → (span_at (spans x) i).0 ≤ b → b < suc (span_at (spans x) i).1 → x ≡ lead_of b

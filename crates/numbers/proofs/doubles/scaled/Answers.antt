@@ -1,6 +1,6 @@
 -- `doubles::scaled` meets its contract.
 use Rattle.std.proofs.Common.{arith}
-use Rattle.scalar.specs.DoubleLaws.{moved, shifted, scaled_is}
+use Rattle.scalar.proofs.DoubleLaws.{moved, shifted, scaled_is}
 use Rattle.numbers.proofs.doubles.scaled.Goals as goal
 
 pub overflow_add-result-2 : goal.overflow_add-result-2

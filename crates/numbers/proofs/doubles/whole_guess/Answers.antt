@@ -1,6 +1,6 @@
 -- `doubles::whole_guess` meets its contract.
 use Rattle.std.proofs.Common.{mod-lt, arith}
-use Rattle.scalar.specs.RuleLaws.{whole_guess_from_zero, whole_guess_below_zero}
+use Rattle.scalar.proofs.RuleLaws.{whole_guess_from_zero, whole_guess_below_zero}
 use Rattle.numbers.proofs.doubles.whole_guess.Goals as goal
 
 pub returns-then-v-lt9223372036854775808 : goal.returns-then-v-lt9223372036854775808

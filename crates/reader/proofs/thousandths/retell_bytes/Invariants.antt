@@ -1,7 +1,7 @@
 -- Each way out has its law in proofs/ThousandthLaws.antt. The rows before i are told.
 use Rattle.std.proofs.Common.{◌-◌}
 use Rattle.record.specs.Model.Answers.{as_bytes}
-use Rattle.record.specs.Laws.TableLaws.{bytes_keep}
+use Rattle.record.proofs.Laws.TableLaws.{bytes_keep}
 use Rattle.reader.proofs.ThousandthLaws.{Retelling}
 use Rattle.reader.proofs.thousandths.retell_bytes.Given as goal
 

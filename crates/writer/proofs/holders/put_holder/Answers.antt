@@ -1,6 +1,6 @@
 -- Each way out has its law in proofs/HolderLaws.antt.
 use borrow.Author.Rules.{rules}
-use Rattle.record.specs.Laws.KnownArray.{kept_opened}
+use Rattle.record.proofs.Laws.KnownArray.{kept_opened}
 use Rattle.writer.proofs.HolderLaws.{has_type_law, no_second, held_lost, ready_opened, object_held, list_or_map_held}
 use Rattle.writer.proofs.holders.put_holder.Goals as goal
 use Rattle.writer.proofs.holders.put_holder.Goals.{then-row-eq1+else-row-ne0, else-row-eq1}
