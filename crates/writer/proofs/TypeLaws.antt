@@ -8,7 +8,7 @@ use native.Mathlib.Omega.{arith}
 use lib.ListN.{length, get_or, set}
 use Rattle.scalar.specs.declared.Encoding.TheVariants.{Utf8}
 use Rattle.scalar.specs.Scalars.{shortest_int}
-use Rattle.record.specs.Model.Items.{Item, Val, Definition, ClassName, FieldName, TypeName, TypeNumber, Known, typed}
+use Rattle.record.specs.Model.Items.{Item, Val, Definition, ClassName, FieldName, TypeName, TypeNumber, Known}
 use Rattle.record.specs.Model.Rows.{item_row}
 use Rattle.record.specs.Model.Answers.{base}
 use Rattle.record.specs.Model.Shortest.{put_type}

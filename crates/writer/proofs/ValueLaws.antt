@@ -1,7 +1,7 @@
 -- What the contracts of values.rt ask at each of their ways out.
 use mathlib.Core.Path.{◌≡◌, refl, sym, ap, subst, ◌∙◌}
 use mathlib.Core.Bool.{Bool, true, false}
-use mathlib.Core.Logic.{◌⊎◌, inl, inr, ⊎_elim}
+use mathlib.Core.Logic.{inl, inr, ⊎_elim}
 use mathlib.Core.List.{List, [], ◌∷◌, ◌++◌}
 use mathlib.Core.Option.{Option, none, some}
 use Prim.Native.Nat.{ℕ, suc, ◌+◌, ◌-◌, ◌/◌, ◌%◌, ◌^◌, ◌≤◌, ◌<◌}
@@ -30,12 +30,11 @@ use Rattle.record.specs.Laws.Takes.{value_drops}
 use Rattle.record.specs.ForWriter.WritingAt.{holding, row_at, At, WritingAt, WrittenTo, NoMessage, walk, behind}
 use Rattle.record.specs.ForWriter.WritingAt.{behind_none, behind_behind}
 use Rattle.record.specs.ForWriter.WritingAt.{walk_within}
-use Rattle.record.specs.ForWriter.WrittenItems.{holds, ended, plain_end, plain_full}
+use Rattle.record.specs.ForWriter.WrittenItems.{holds, plain_end, plain_full}
 use Rattle.record.specs.ForWriter.WrittenContents.{left, done, Room, room_first, room_next, left_stop, left_over}
 use Rattle.record.specs.ForWriter.WrittenContents.{left_stuck}
 use Rattle.record.specs.ForWriter.WrittenValues.{below, below_none, below_some, written_span}
-use Rattle.record.specs.ForWriter.BareItems.{NoneIn}
-use Rattle.record.specs.ForWriter.WrittenMessages.{Rights, Wrong}
+use Rattle.record.specs.ForWriter.WrittenMessages.{Rights}
 use Rattle.record.specs.Laws.KnownArray.{known_in, references_slot}
 use Rattle.record.specs.declared.Row as code
 use Rattle.writer.specs.declared.puts.Put.{Put}
@@ -53,10 +52,10 @@ use Rattle.writer.specs.declared.values.Entered.{Entered}
 use Rattle.writer.specs.declared.values.Entered.TheVariants as entered
 use Rattle.record.specs.Laws.RowLaws.{row_of}
 use Rattle.record.specs.Model.Claims.{content_at}
-use Rattle.writer.specs.Promises.{RowIs, Puts, WalkSays, WalkMet, NoHolderKind, HolderKind, LeafMet, Writable}
-use Rattle.writer.specs.Promises.{WrittenUpTo, StepSays, StepMet, ValueReached, FoundSays, FoundMet, closed}
-use Rattle.writer.specs.Promises.{closing, InteriorLeft, InteriorSays, InteriorMet, ValuesLeft, BeginSays}
-use Rattle.writer.specs.Promises.{BeginMet, BareIn, HolderAt, HolderMet, HeldIn, RowMet, InteriorOf, EnterSays}
+use Rattle.writer.specs.Promises.{RowIs, Puts, WalkSays, WalkMet, NoHolderKind, LeafMet, Writable}
+use Rattle.writer.specs.Promises.{WrittenUpTo, ValueReached, FoundSays, FoundMet, closed}
+use Rattle.writer.specs.Promises.{closing, InteriorSays, ValuesLeft, BeginSays}
+use Rattle.writer.specs.Promises.{BareIn, HolderAt, HolderMet, HeldIn, RowMet, InteriorOf, EnterSays}
 use Rattle.writer.specs.Promises.{EnterMet, ValuesSay, ValuesMet, over_longest}
 use Rattle.writer.proofs.PutLaws.{puts_none, puts_on}
 use Rattle.writer.proofs.FetchLaws.{stands_either}
