@@ -32,5 +32,5 @@ returns c = let args = c.args in
     let if1 = c.if-not-is_lent in
     let add-all-used = c.add_all_used in
     batch_within args.file.now args.used args.records.now args.rows.now args.bytes.now
-    args.numbers.now _ is-lent.ensures (not-false _ if1.left) add-all-used.result _ _
+    args.numbers.now _ is-lent.ensures (not-false _ if1.false) add-all-used.result _ _
     add-all-used.ensures

@@ -36,4 +36,4 @@ returns c = let args = c.args in
     let if2 = c.if-file-used in
     let list-into = c.list_into in
     used_within args.file.now args.used args.rows.now args.bytes.now _ _ args.lent _
-    is-lent.ensures (not-false _ if1.left) if2.left _ _ _ list-into.ensures
+    is-lent.ensures (not-false _ if1.false) if2.false _ _ _ list-into.ensures
