@@ -124,12 +124,11 @@ loop-at-preserved c = let args = c.args in
     let loop-test = c.loop-at-test in
     let if1 = c.if-end-eq0 in
     let add-record = c.add_record in
-    let number2 = c.number-in-Accepted-1 in
     let store-number = c.store_number in
     let count-after = c.count_after-count in
     batching_next _ _ args.extent.buckets args.records.now _ _ _ _ _ _ _ loop.used loop.count
     loop.at loop.taken loop.invariant _ entry-end.ensures loop-test.true if1.false add-record.result _ _
-    add-record.ensures number2.given.0.0 number2.given.0.1.0 (search rules) _ store-number.ensures _
+    add-record.ensures c.in-Accepted.number c.in-Accepted.after (search rules) _ store-number.ensures _
     count-after.ensures _ (search rules) (search rules) (search rules)
 
 pub shape_of-file : goal.shape_of-file
