@@ -1,5 +1,4 @@
 -- Each way out has its law in proofs/Calls.antt.
-use borrow.Author.Rules.{rules}
 use Rattle.holdings_file.proofs.Calls.{lent_enough, batch_few, batch_beyond, batch_within}
 use Rattle.holdings_file.proofs.add_all.Goals as goal
 

@@ -1,7 +1,6 @@
 -- Each way out has its law in proofs/Calls.antt.
 use mathlib.Core.Path.{sym}
 use lib.Seq.{length-take-le}
-use borrow.Author.Rules.{rules}
 use Rattle.holdings_file.proofs.Calls.{lent_enough, used_few, used_beyond, used_within}
 use Rattle.holdings_file.proofs.list_used.Goals as goal
 

@@ -1,10 +1,8 @@
-use Prim.Native.Nat.{◌-◌}
 use native.Mathlib.Omega.{arith}
-use lib.ListN.{length}
 use borrow.Author.Rules.{rules}
 use Rattle.holdings_file.proofs.EntryWalks.{ends}
 use Rattle.holdings_file.proofs.FileExtents.{extent_few}
-use Rattle.holdings_file.proofs.Batches.{Batching, batching_start, batch_done, batch_cut, batch_refused}
+use Rattle.holdings_file.proofs.Batches.{batching_start, batch_done, batch_cut, batch_refused}
 use Rattle.holdings_file.proofs.Batches.{batch_full, batching_next}
 use Rattle.holdings_file.proofs.additions.add_records.Goals as goal
 

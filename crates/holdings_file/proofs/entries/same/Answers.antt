@@ -1,9 +1,6 @@
-use mathlib.Core.Path.{◌≡◌, refl}
-use Prim.Native.Nat.{◌-◌, ◌≤◌}
+use mathlib.Core.Path.{refl}
 use native.Mathlib.Omega.{arith}
-use lib.ListN.{length}
 use borrow.Author.Rules.{rules}
-use Rattle.holdings_file.specs.Promises.{AsFar}
 use Rattle.holdings_file.proofs.EntryWalks.{differ_length, differ_eight, same_eight}
 use Rattle.holdings_file.proofs.entries.same.Goals as goal
 

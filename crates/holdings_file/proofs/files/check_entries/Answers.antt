@@ -1,11 +1,9 @@
 use mathlib.Core.Path.{sym}
-use Prim.Native.Nat.{◌-◌}
 use native.Mathlib.Omega.{arith}
-use lib.ListN.{length}
 use lib.Seq.{length-take-le}
 use borrow.Author.Rules.{rules}
 use Rattle.holdings_file.proofs.EntryWalks.{ends}
-use Rattle.holdings_file.proofs.FileChecks.{Checking, checking_start, check_all, check_cut, check_fault}
+use Rattle.holdings_file.proofs.FileChecks.{checking_start, check_all, check_cut, check_fault}
 use Rattle.holdings_file.proofs.FileChecks.{check_fresh, checking_next}
 use Rattle.holdings_file.proofs.files.check_entries.Goals as goal
 

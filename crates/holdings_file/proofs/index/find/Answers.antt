@@ -1,7 +1,5 @@
 use native.Mathlib.Omega.{arith}
-use borrow.Author.Rules.{rules}
-use Rattle.holdings_file.specs.Promises.{held_in}
-use Rattle.holdings_file.proofs.IndexChains.{Walking, walk_start, walk_end, walk_found, walk_next, walk_less}
+use Rattle.holdings_file.proofs.IndexChains.{walk_start, walk_end, walk_found, walk_next, walk_less}
 use Rattle.holdings_file.proofs.IndexChains.{stands_there}
 use Rattle.holdings_file.proofs.index.find.Goals as goal
 
