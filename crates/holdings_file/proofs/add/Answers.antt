@@ -1,6 +1,4 @@
 -- Each way out has its law in proofs/Calls.antt.
-use borrow.Author.Tests.{not-true, not-false}
-use borrow.Author.Rules.{rules}
 use Rattle.holdings_file.proofs.Calls.{lent_enough, add_few, add_beyond, add_within}
 use Rattle.holdings_file.proofs.add.Goals as goal
 
@@ -8,21 +6,21 @@ pub returns-then-not-is_lent : goal.returns-then-not-is_lent
 returns-then-not-is_lent c = let args = c.args in
     let is-lent = c.is_lent in
     add_few args.file.now args.used args.«record».now args.rows.now args.bytes.now _
-    is-lent.ensures (not-true _ c.if-not-is_lent.true)
+    is-lent.ensures c.if-not-is_lent.true
 
 pub returns-then-file-used : goal.returns-then-file-used
 returns-then-file-used c = let args = c.args in
     let is-lent = c.is_lent in
     let if1 = c.if-not-is_lent in
     add_beyond args.file.now args.used args.«record».now args.rows.now args.bytes.now _
-    is-lent.ensures (not-false _ if1.false) c.if-file-used.true
+    is-lent.ensures if1.false c.if-file-used.true
 
 pub add_used-requires : goal.add_used-requires
 add_used-requires c = let args = c.args in
     let is-lent = c.is_lent in
     let if1 = c.if-not-is_lent in
     let if2 = c.if-file-used in (
-      lent_enough args.rows.now args.bytes.now _ is-lent.ensures (not-false _ if1.false),
+      lent_enough args.rows.now args.bytes.now _ is-lent.ensures if1.false,
       if2.false,
     )
 
@@ -32,4 +30,4 @@ returns c = let args = c.args in
     let if1 = c.if-not-is_lent in
     let add-used = c.add_used in
     add_within args.file.now args.used args.«record».now args.rows.now args.bytes.now _
-    is-lent.ensures (not-false _ if1.false) add-used.result _ add-used.ensures
+    is-lent.ensures if1.false add-used.result _ add-used.ensures

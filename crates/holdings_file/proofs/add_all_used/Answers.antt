@@ -18,9 +18,8 @@ add_records-requires c = let args = c.args in
     let pre = c.requires in
     let begin = c.begin-buckets in
     let check-to-extend = c.check_to_extend in
-    let count = c.count-1 in
     extending args.file.now args.used pre.1 begin.result check-to-extend.result
-    check-to-extend.last.1.0 check-to-extend.ensures count.given.0.0 (search rules) args.rows.now
+    check-to-extend.new.rows check-to-extend.ensures c.in-Whole.count (search rules) args.rows.now
     args.bytes.now _ pre.0 (search rules) (search rules)
 
 pub returns-in-Faulty : goal.returns-in-Faulty
@@ -30,7 +29,7 @@ returns-in-Faulty c = let args = c.args in
     let check-to-extend = c.check_to_extend in
     search (
       batch_faulty args.file.now args.used pre.1 begin.result check-to-extend.result
-          check-to-extend.new.1.0 check-to-extend.ensures args.records.now args.numbers.now,
+          check-to-extend.new.rows check-to-extend.ensures args.records.now args.numbers.now,
       rules,
     )
 
@@ -39,8 +38,7 @@ returns-in-Whole c = let args = c.args in
     let pre = c.requires in
     let begin = c.begin-buckets in
     let check-to-extend = c.check_to_extend in
-    let count = c.count-1 in
     let add-records = c.add_records in
     batch_listed_law args.file.now args.used pre.1 begin.result check-to-extend.result
-    check-to-extend.last.1.0 check-to-extend.ensures args.records.now args.numbers.now
-    count.given.0.0 (search rules) _ _ _ add-records.ensures
+    check-to-extend.new.rows check-to-extend.ensures args.records.now args.numbers.now
+    c.in-Whole.count (search rules) _ _ _ add-records.ensures

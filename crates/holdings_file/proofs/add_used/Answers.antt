@@ -18,9 +18,8 @@ add_record-requires c = let args = c.args in
     let pre = c.requires in
     let begin = c.begin-buckets in
     let check-to-extend = c.check_to_extend in
-    let count = c.count-1 in
     extending args.file.now args.used pre.1 begin.result check-to-extend.result
-    check-to-extend.last.1.0 check-to-extend.ensures count.given.0.0 (search rules) args.rows.now
+    check-to-extend.new.rows check-to-extend.ensures c.in-Whole.count (search rules) args.rows.now
     args.bytes.now _ pre.0 (search rules) (search rules)
 
 pub returns-in-Faulty : goal.returns-in-Faulty
@@ -30,7 +29,7 @@ returns-in-Faulty c = let args = c.args in
     let check-to-extend = c.check_to_extend in
     search (
       add_faulty args.file.now args.used pre.1 begin.result check-to-extend.result
-          check-to-extend.new.1.0 check-to-extend.ensures args.«record».now,
+          check-to-extend.new.rows check-to-extend.ensures args.«record».now,
       rules,
     )
 

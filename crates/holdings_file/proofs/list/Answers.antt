@@ -1,6 +1,4 @@
 -- The other list is empty.
-use native.Mathlib.Omega.{arith}
-use borrow.Author.Rules.{rules}
 use Rattle.holdings_file.proofs.Calls.{list_numbers}
 use Rattle.holdings_file.proofs.list.Goals as goal
 

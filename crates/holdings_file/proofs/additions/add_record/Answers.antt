@@ -8,7 +8,7 @@ pub slice_bounds-place_in-end : goal.slice_bounds-place_in-end
 slice_bounds-place_in-end c = let args = c.args in
     let shorten = c.shorten in
     search (
-      short_fits args.«record».now shorten.new.1.1.0 shorten.result
+      short_fits args.«record».now shorten.new.bytes shorten.result
           shorten.ensures.short,
       rules,
     )
@@ -17,7 +17,7 @@ pub slice_bounds-place_in-end-in-Is : goal.slice_bounds-place_in-end-in-Is
 slice_bounds-place_in-end-in-Is c = let args = c.args in
     let shorten = c.shorten in
     search (
-      short_length args.«record».now shorten.new.1.1.0 shorten.result
+      short_length args.«record».now shorten.new.bytes shorten.result
           shorten.ensures.short,
       rules,
     )
@@ -30,7 +30,7 @@ place_in-requires c = let args = c.args in
           shorten.ensures (search rules),
       search (
         short_message args.file.now args.extent args.rows.now args.bytes.now pre
-            args.«record».now shorten.result shorten.new.1.0 shorten.new.1.1.0 shorten.ensures
+            args.«record».now shorten.result shorten.new.rows shorten.new.bytes shorten.ensures
             (search rules),
         rules,
       ),
@@ -42,7 +42,7 @@ returns-in-Refused c = let args = c.args in
     let shorten = c.shorten in
     search (
       add_refused args.file.now args.extent args.rows.now args.bytes.now pre
-          args.«record».now shorten.result shorten.new.1.0 shorten.new.1.1.0 shorten.ensures
+          args.«record».now shorten.result shorten.new.rows shorten.new.bytes shorten.ensures
           (search rules),
       rules,
     )
@@ -53,7 +53,7 @@ returns-in-Is c = let args = c.args in
     let shorten = c.shorten in
     search (
       add_placed args.file.now args.extent args.rows.now args.bytes.now pre
-          args.«record».now shorten.result shorten.last.1.0 shorten.last.1.1.0 shorten.ensures
+          args.«record».now shorten.result shorten.new.rows shorten.new.bytes shorten.ensures
           (search rules),
       rules,
     )

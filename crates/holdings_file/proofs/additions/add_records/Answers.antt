@@ -1,10 +1,8 @@
-use Prim.Native.Nat.{◌-◌}
 use native.Mathlib.Omega.{arith}
-use lib.ListN.{length}
 use borrow.Author.Rules.{rules}
 use Rattle.holdings_file.proofs.EntryWalks.{ends}
 use Rattle.holdings_file.proofs.FileExtents.{extent_few}
-use Rattle.holdings_file.proofs.Batches.{Batching, batching_start, batch_done, batch_cut, batch_refused}
+use Rattle.holdings_file.proofs.Batches.{batching_start, batch_done, batch_cut, batch_refused}
 use Rattle.holdings_file.proofs.Batches.{batch_full, batching_next}
 use Rattle.holdings_file.proofs.additions.add_records.Goals as goal
 
@@ -20,7 +18,7 @@ entry_end-end-requires c = let loop = c.loop-at in
 
 pub shape_of-file-then-end-eq0 : goal.shape_of-file-then-end-eq0
 shape_of-file-then-end-eq0 c = let loop = c.loop-at in
-    loop.invariant.file-long
+    loop.invariant.file_long
 
 pub shape_of-rows-then-end-eq0 : goal.shape_of-rows-then-end-eq0
 shape_of-rows-then-end-eq0 c = let loop = c.loop-at in
@@ -28,11 +26,11 @@ shape_of-rows-then-end-eq0 c = let loop = c.loop-at in
 
 pub shape_of-bytes-then-end-eq0 : goal.shape_of-bytes-then-end-eq0
 shape_of-bytes-then-end-eq0 c = let loop = c.loop-at in
-    loop.invariant.bytes-long
+    loop.invariant.bytes_long
 
 pub shape_of-numbers-then-end-eq0 : goal.shape_of-numbers-then-end-eq0
 shape_of-numbers-then-end-eq0 c = let loop = c.loop-at in
-    loop.invariant.list-long
+    loop.invariant.list_long
 
 pub returns-then-end-eq0 : goal.returns-then-end-eq0
 returns-then-end-eq0 c = let args = c.args in
@@ -81,8 +79,8 @@ returns-in-Refused c = let args = c.args in
     let add-record = c.add_record in
     search (
       batch_refused _ _ args.extent.buckets args.records.now _ _ _ _ _ _ _ loop.used
-          loop.count loop.at loop.taken loop.inv _ entry-end.ensures (omega arith) if1.left
-          add-record.result add-record.new.0 add-record.new.1.1.1.0 add-record.ensures,
+          loop.count loop.at loop.taken loop.invariant _ entry-end.ensures (omega arith) if1.false
+          add-record.result add-record.new.file add-record.new.rows add-record.ensures,
       rules,
     )
 
@@ -94,28 +92,28 @@ returns-in-TooFew c = let args = c.args in
     let add-record = c.add_record in
     search (
       batch_full _ _ args.extent.buckets args.records.now _ _ _ _ _ _ _ loop.used
-          loop.count loop.at loop.taken loop.inv _ entry-end.ensures (omega arith) if1.left
-          add-record.result add-record.new.0 add-record.new.1.1.1.0 add-record.ensures,
+          loop.count loop.at loop.taken loop.invariant _ entry-end.ensures (omega arith) if1.false
+          add-record.result add-record.new.file add-record.new.rows add-record.ensures,
       rules,
     )
 
 pub count_after-count-requires : goal.count_after-count-requires
 count_after-count-requires c = let loop = c.loop-at in
     let good = c.type_inv in
-    omega (arith, extent_few _ _ _ loop.inv.extending.extends, loop.inv.file-long, good)
+    omega (arith, extent_few _ _ _ loop.invariant.extending.extends, loop.invariant.file_long, good)
 
 pub overflow_add-taken : goal.overflow_add-taken
 overflow_add-taken c = let loop = c.loop-at in
     let loop-test = c.loop-at-test in
     let good = c.type_inv in
-    omega (arith, loop.inv.few, loop-test.taken, good)
+    omega (arith, loop.invariant.few, loop-test.true, good)
 
 pub loop-at-smaller : goal.loop-at-smaller
 loop-at-smaller c = let args = c.args in
     let loop = c.loop-at in
     let entry-end = c.entry_end-end in
     let if1 = c.if-end-eq0 in
-    omega (arith, ends args.records.now loop.at _ entry-end.ensures if1.left)
+    omega (arith, ends args.records.now loop.at _ entry-end.ensures if1.false)
 
 pub loop-at-preserved : goal.loop-at-preserved
 loop-at-preserved c = let args = c.args in
@@ -124,17 +122,16 @@ loop-at-preserved c = let args = c.args in
     let loop-test = c.loop-at-test in
     let if1 = c.if-end-eq0 in
     let add-record = c.add_record in
-    let number2 = c.number-in-Accepted-1 in
     let store-number = c.store_number in
     let count-after = c.count_after-count in
     batching_next _ _ args.extent.buckets args.records.now _ _ _ _ _ _ _ loop.used loop.count
-    loop.at loop.taken loop.inv _ entry-end.ensures loop-test.taken if1.left add-record.result _ _
-    add-record.ensures number2.given.0.0 number2.given.0.1.0 (search rules) _ store-number.ensures _
+    loop.at loop.taken loop.invariant _ entry-end.ensures loop-test.true if1.false add-record.result _ _
+    add-record.ensures c.in-Accepted.number c.in-Accepted.after (search rules) _ store-number.ensures _
     count-after.ensures _ (search rules) (search rules) (search rules)
 
 pub shape_of-file : goal.shape_of-file
 shape_of-file c = let loop = c.loop-at in
-    loop.invariant.file-long
+    loop.invariant.file_long
 
 pub shape_of-rows : goal.shape_of-rows
 shape_of-rows c = let loop = c.loop-at in
@@ -142,11 +139,11 @@ shape_of-rows c = let loop = c.loop-at in
 
 pub shape_of-bytes : goal.shape_of-bytes
 shape_of-bytes c = let loop = c.loop-at in
-    loop.invariant.bytes-long
+    loop.invariant.bytes_long
 
 pub shape_of-numbers : goal.shape_of-numbers
 shape_of-numbers c = let loop = c.loop-at in
-    loop.invariant.list-long
+    loop.invariant.list_long
 
 pub returns : goal.returns
 returns c = let args = c.args in

@@ -1,13 +1,8 @@
 -- The loop's invariant: the batch sought is the records taken and what the additions left give. The measure is what is
 -- left of the records. Each way out has its law in proofs/Batches.antt.
 use Prim.Native.Nat.{◌-◌}
-use native.Mathlib.Omega.{arith}
 use lib.ListN.{length}
-use borrow.Author.Rules.{rules}
-use Rattle.holdings_file.proofs.EntryWalks.{ends}
-use Rattle.holdings_file.proofs.FileExtents.{extent_few}
-use Rattle.holdings_file.proofs.Batches.{Batching, batching_start, batch_done, batch_cut, batch_refused}
-use Rattle.holdings_file.proofs.Batches.{batch_full, batching_next}
+use Rattle.holdings_file.proofs.Batches.{Batching}
 use Rattle.holdings_file.proofs.additions.add_records.Given as goal
 
 abbrev pub invariant-loop-at : goal.invariant-loop-at

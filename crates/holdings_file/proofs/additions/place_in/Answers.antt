@@ -18,18 +18,18 @@ number_of-number-requires c = let args = c.args in
 pub returns-then-number-extent : goal.returns-then-number-extent
 returns-then-number-extent c = let args = c.args in
     let pre = c.requires in
-    let number_of_lem = c.number_of_lem in
+    let number-of = c.number_of-number in
     place_found args.file.now args.extent args.rows.now pre.0 args.message.now pre.1 _
-    number_of_lem.ensures c.if-number-extent.true
+    number-of.ensures c.if-number-extent.true
 
 pub returns-then-file-end : goal.returns-then-file-end
 returns-then-file-end c = let args = c.args in
     let pre = c.requires in
-    let number_of_lem = c.number_of_lem in
+    let number-of = c.number_of-number in
     let if1 = c.if-number-extent in
     let append = c.append-end in
     place_few args.file.now args.extent args.rows.now pre.0 args.message.now pre.1 _
-    number_of_lem.ensures if1.false _ _ append.ensures c.if-file-end.true
+    number-of.ensures if1.false _ _ append.ensures c.if-file-end.true
 
 pub slice_bounds-insert-end-2 : goal.slice_bounds-insert-end-2
 slice_bounds-insert-end-2 c = let if2 = c.if-file-end in
@@ -43,20 +43,20 @@ overflow_sub-end c = let args = c.args in
 pub insert-requires : goal.insert-requires
 insert-requires c = let args = c.args in
     let pre = c.requires in
-    let number_of_lem = c.number_of_lem in
+    let number-of = c.number_of-number in
     let if1 = c.if-number-extent in
     let append = c.append-end in
     let if2 = c.if-file-end in
     place_fresh args.file.now args.extent args.rows.now pre.0 args.message.now pre.1 _
-    number_of_lem.ensures if1.false _ _ append.ensures if2.false
+    number-of.ensures if1.false _ _ append.ensures if2.false
 
 pub returns : goal.returns
 returns c = let args = c.args in
     let pre = c.requires in
-    let number_of_lem = c.number_of_lem in
+    let number-of = c.number_of-number in
     let if1 = c.if-number-extent in
     let append = c.append-end in
     let if2 = c.if-file-end in
     let insert = c.insert in
     place_new args.file.now args.extent args.rows.now pre.0 args.message.now pre.1 _
-    number_of_lem.ensures if1.false _ _ append.ensures if2.false _ (search rules) insert.ensures
+    number-of.ensures if1.false _ _ append.ensures if2.false _ (search rules) insert.ensures

@@ -1,8 +1,5 @@
-use Prim.Native.Nat.{◌-◌}
 use native.Mathlib.Omega.{arith}
-use lib.ListN.{length}
-use borrow.Author.Rules.{rules}
-use Rattle.holdings_file.proofs.FileExtents.{Storing, storing_start, storing_length, storing_next, storing_done}
+use Rattle.holdings_file.proofs.FileExtents.{storing_start, storing_length, storing_next, storing_done}
 use Rattle.holdings_file.proofs.additions.put_bytes.Goals as goal
 
 pub loop-i-init : goal.loop-i-init

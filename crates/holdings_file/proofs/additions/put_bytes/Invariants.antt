@@ -1,9 +1,7 @@
 -- The loop's invariant: the bytes passed are stored. The measure is what is left of them.
 use Prim.Native.Nat.{◌-◌}
-use native.Mathlib.Omega.{arith}
 use lib.ListN.{length}
-use borrow.Author.Rules.{rules}
-use Rattle.holdings_file.proofs.FileExtents.{Storing, storing_start, storing_length, storing_next, storing_done}
+use Rattle.holdings_file.proofs.FileExtents.{Storing}
 use Rattle.holdings_file.proofs.additions.put_bytes.Given as goal
 
 abbrev pub invariant-loop-i : goal.invariant-loop-i

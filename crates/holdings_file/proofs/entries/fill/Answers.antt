@@ -1,8 +1,5 @@
-use Prim.Native.Nat.{◌-◌}
 use native.Mathlib.Omega.{arith}
-use lib.ListN.{length}
-use borrow.Author.Rules.{rules}
-use Rattle.holdings_file.proofs.EntryWalks.{Filling, ends, filling_start, filling_ended, filling_cut}
+use Rattle.holdings_file.proofs.EntryWalks.{ends, filling_start, filling_ended, filling_cut}
 use Rattle.holdings_file.proofs.EntryWalks.{filling_more}
 use Rattle.holdings_file.proofs.entries.fill.Goals as goal
 

@@ -1,11 +1,8 @@
 -- The loop's invariant: each list with the placements left laid over it is the one sought. The measure is what is left
 -- of the file.
 use Prim.Native.Nat.{◌-◌}
-use native.Mathlib.Omega.{arith}
 use lib.ListN.{length}
-use borrow.Author.Rules.{rules}
-use Rattle.holdings_file.proofs.EntryWalks.{Filling, ends, filling_start, filling_ended, filling_cut}
-use Rattle.holdings_file.proofs.EntryWalks.{filling_more}
+use Rattle.holdings_file.proofs.EntryWalks.{Filling}
 use Rattle.holdings_file.proofs.entries.fill.Given as goal
 
 abbrev pub invariant-loop-at : goal.invariant-loop-at

@@ -1,10 +1,5 @@
-use Prim.Native.Nat.{◌-◌}
 use native.Mathlib.Omega.{arith}
-use lib.ListN.{length}
-use borrow.Author.Rules.{rules}
-use Rattle.holdings.specs.Files.{number_of}
-use Rattle.holdings_file.specs.Promises.{held_in}
-use Rattle.holdings_file.proofs.EntryWalks.{Counting, ends, number_ended, number_cut, number_same, number_more}
+use Rattle.holdings_file.proofs.EntryWalks.{ends, number_ended, number_cut, number_same, number_more}
 use Rattle.holdings_file.proofs.entries.number_of.Goals as goal
 
 pub loop-at-init : goal.loop-at-init

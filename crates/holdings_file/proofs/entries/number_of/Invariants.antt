@@ -1,12 +1,10 @@
 -- The loop's invariant: the number sought is that among the messages left, after those passed. The measure is what is
 -- left of the file.
 use Prim.Native.Nat.{◌-◌}
-use native.Mathlib.Omega.{arith}
 use lib.ListN.{length}
-use borrow.Author.Rules.{rules}
 use Rattle.holdings.specs.Files.{number_of}
 use Rattle.holdings_file.specs.Promises.{held_in}
-use Rattle.holdings_file.proofs.EntryWalks.{Counting, ends, number_ended, number_cut, number_same, number_more}
+use Rattle.holdings_file.proofs.EntryWalks.{Counting}
 use Rattle.holdings_file.proofs.entries.number_of.Given as goal
 
 abbrev pub invariant-loop-at : goal.invariant-loop-at

@@ -1,9 +1,6 @@
-use mathlib.Core.Path.{◌≡◌, refl}
-use Prim.Native.Nat.{◌-◌, ◌≤◌}
+use mathlib.Core.Path.{refl}
 use native.Mathlib.Omega.{arith}
-use lib.ListN.{length}
 use borrow.Author.Rules.{rules}
-use Rattle.holdings_file.specs.Promises.{AsFar}
 use Rattle.holdings_file.proofs.EntryWalks.{differ_length, differ_eight, same_eight}
 use Rattle.holdings_file.proofs.entries.same.Goals as goal
 
@@ -24,13 +21,11 @@ returns-then-eight_at c = let args = c.args in
 
 pub loop-i-preserved : goal.loop-i-preserved
 loop-i-preserved c = let args = c.args in
-    let shared-slice-known = c.shared_slice_known-1 in
-    let shared-slice-known2 = c.shared_slice_known-2-1 in
     let loop = c.loop-i in
     let eight-at = c.eight_at in
     let eight-at2 = c.eight_at-in-loop-i in (
       search rules,
       omega arith,
-      same_eight args.a.now args.b.now shared-slice-known.given shared-slice-known2.given loop.i
+      same_eight args.a.now args.b.now c.type_inv.a c.type_inv.b loop.i
           loop.invariant.2 (omega arith) _ _ eight-at.ensures eight-at2.ensures c.if-eight_at.false,
     )

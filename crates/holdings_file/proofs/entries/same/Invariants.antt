@@ -1,11 +1,8 @@
 -- The loop's invariant: the bytes passed are the same. The measure is what is left of the length.
-use mathlib.Core.Path.{◌≡◌, refl}
+use mathlib.Core.Path.{◌≡◌}
 use Prim.Native.Nat.{◌-◌, ◌≤◌}
-use native.Mathlib.Omega.{arith}
 use lib.ListN.{length}
-use borrow.Author.Rules.{rules}
 use Rattle.holdings_file.specs.Promises.{AsFar}
-use Rattle.holdings_file.proofs.EntryWalks.{differ_length, differ_eight, same_eight}
 use Rattle.holdings_file.proofs.entries.same.Given as goal
 
 abbrev pub invariant-loop-i : goal.invariant-loop-i

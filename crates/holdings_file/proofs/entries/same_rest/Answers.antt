@@ -1,8 +1,5 @@
-use Prim.Native.Nat.{◌-◌}
 use native.Mathlib.Omega.{arith}
-use lib.ListN.{length}
 use borrow.Author.Rules.{rules}
-use Rattle.holdings_file.specs.Promises.{AsFar}
 use Rattle.holdings_file.proofs.EntryWalks.{differ_at, same_all, same_next}
 use Rattle.holdings_file.proofs.entries.same_rest.Goals as goal
 

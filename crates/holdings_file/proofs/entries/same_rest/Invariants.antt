@@ -1,10 +1,7 @@
 -- The loop's invariant: the bytes passed are the same. The measure is what is left of the length.
 use Prim.Native.Nat.{◌-◌}
-use native.Mathlib.Omega.{arith}
 use lib.ListN.{length}
-use borrow.Author.Rules.{rules}
 use Rattle.holdings_file.specs.Promises.{AsFar}
-use Rattle.holdings_file.proofs.EntryWalks.{differ_at, same_all, same_next}
 use Rattle.holdings_file.proofs.entries.same_rest.Given as goal
 
 abbrev pub invariant-loop-i : goal.invariant-loop-i

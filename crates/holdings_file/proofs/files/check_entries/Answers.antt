@@ -1,11 +1,9 @@
 use mathlib.Core.Path.{sym}
-use Prim.Native.Nat.{◌-◌}
 use native.Mathlib.Omega.{arith}
-use lib.ListN.{length}
 use lib.Seq.{length-take-le}
 use borrow.Author.Rules.{rules}
 use Rattle.holdings_file.proofs.EntryWalks.{ends}
-use Rattle.holdings_file.proofs.FileChecks.{Checking, checking_start, check_all, check_cut, check_fault}
+use Rattle.holdings_file.proofs.FileChecks.{checking_start, check_all, check_cut, check_fault}
 use Rattle.holdings_file.proofs.FileChecks.{check_fresh, checking_next}
 use Rattle.holdings_file.proofs.files.check_entries.Goals as goal
 
@@ -24,7 +22,7 @@ shape_of-rows-then-end-eq0 c = let loop = c.loop-at in
 
 pub shape_of-bytes-then-end-eq0 : goal.shape_of-bytes-then-end-eq0
 shape_of-bytes-then-end-eq0 c = let loop = c.loop-at in
-    loop.invariant.bytes-long
+    loop.invariant.bytes_long
 
 pub returns-then-end-eq0 : goal.returns-then-end-eq0
 returns-then-end-eq0 c = let args = c.args in
@@ -75,7 +73,7 @@ returns-then-fault-ne0 c = let args = c.args in
     let entry-end = c.entry_end-end in
     let if1 = c.if-end-eq0 in
     let entry-fault = c.entry_fault-fault in
-    check_fault args.file.now args.buckets _ _ _ _ loop.at loop.n loop.inv _
+    check_fault args.file.now args.buckets _ _ _ _ loop.at loop.n loop.invariant _
     entry-end.ensures (omega arith) if1.false _ _ entry-fault.ensures c.if-fault-ne0.true
 
 pub slice_bounds-insert-end : goal.slice_bounds-insert-end
@@ -92,7 +90,7 @@ insert-requires c = let args = c.args in
     let if1 = c.if-end-eq0 in
     let entry-fault = c.entry_fault-fault in
     let if2 = c.if-fault-ne0 in
-    check_fresh args.file.now args.buckets _ _ _ _ loop.at loop.n loop.inv _
+    check_fresh args.file.now args.buckets _ _ _ _ loop.at loop.n loop.invariant _
     entry-end.ensures (omega arith) if1.false _ _ entry-fault.ensures if2.false (search rules)
 
 pub overflow_add-n : goal.overflow_add-n
@@ -100,14 +98,14 @@ overflow_add-n c = let loop = c.loop-at in
     let args = c.args in
     let entry-end = c.entry_end-end in
     let if1 = c.if-end-eq0 in
-    omega (arith, loop.inv.few, ends args.file.now loop.at _ entry-end.ensures if1.left)
+    omega (arith, loop.invariant.few, ends args.file.now loop.at _ entry-end.ensures if1.false)
 
 pub loop-at-smaller : goal.loop-at-smaller
 loop-at-smaller c = let args = c.args in
     let loop = c.loop-at in
     let entry-end = c.entry_end-end in
     let if1 = c.if-end-eq0 in
-    omega (arith, ends args.file.now loop.at _ entry-end.ensures if1.left)
+    omega (arith, ends args.file.now loop.at _ entry-end.ensures if1.false)
 
 pub loop-at-preserved : goal.loop-at-preserved
 loop-at-preserved c = let args = c.args in
@@ -117,8 +115,8 @@ loop-at-preserved c = let args = c.args in
     let entry-fault = c.entry_fault-fault in
     let if2 = c.if-fault-ne0 in
     let insert = c.insert in
-    checking_next args.file.now args.buckets _ _ _ _ loop.at loop.n loop.inv _
-    entry-end.ensures (omega arith) if1.left _ _ entry-fault.ensures if2.false (search rules) _ _
+    checking_next args.file.now args.buckets _ _ _ _ loop.at loop.n loop.invariant _
+    entry-end.ensures (omega arith) if1.false _ _ entry-fault.ensures if2.false (search rules) _ _
     insert.ensures (search rules) (search rules)
 
 pub shape_of-rows : goal.shape_of-rows
@@ -127,7 +125,7 @@ shape_of-rows c = let loop = c.loop-at in
 
 pub shape_of-bytes : goal.shape_of-bytes
 shape_of-bytes c = let loop = c.loop-at in
-    loop.invariant.bytes-long
+    loop.invariant.bytes_long
 
 pub returns : goal.returns
 returns c = let args = c.args in

@@ -1,14 +1,8 @@
 -- The loop's invariant: the entries passed list, and are in the index while it has room. The measure is what is left of
 -- the file. Each way out has its law in proofs/FileChecks.antt.
-use mathlib.Core.Path.{sym}
 use Prim.Native.Nat.{◌-◌}
-use native.Mathlib.Omega.{arith}
 use lib.ListN.{length}
-use lib.Seq.{length-take-le}
-use borrow.Author.Rules.{rules}
-use Rattle.holdings_file.proofs.EntryWalks.{ends}
-use Rattle.holdings_file.proofs.FileChecks.{Checking, checking_start, check_all, check_cut, check_fault}
-use Rattle.holdings_file.proofs.FileChecks.{check_fresh, checking_next}
+use Rattle.holdings_file.proofs.FileChecks.{Checking}
 use Rattle.holdings_file.proofs.files.check_entries.Given as goal
 
 abbrev pub invariant-loop-at : goal.invariant-loop-at

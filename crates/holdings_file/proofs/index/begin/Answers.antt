@@ -10,4 +10,4 @@ returns c = let args = c.args in
     let clear = c.clear in
     let bucket-count = c.bucket_count-buckets in
     indexing_changed _ args.rows.now _ _ _ work-numbers.ensures pre
-    (empty_index clear.new.0 bucket-count.result (search rules) clear.ensures)
+    (empty_index clear.new.index bucket-count.result (search rules) clear.ensures)

@@ -1,6 +1,5 @@
 use native.Mathlib.Omega.{arith}
-use borrow.Author.Rules.{rules}
-use Rattle.holdings_file.proofs.IndexChains.{Hashing, hash_start, hash_next, hash_done}
+use Rattle.holdings_file.proofs.IndexChains.{hash_start, hash_next, hash_done}
 use Rattle.holdings_file.proofs.index.bucket.Goals as goal
 
 pub loop-left-init : goal.loop-left-init

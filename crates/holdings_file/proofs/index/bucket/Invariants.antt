@@ -1,7 +1,5 @@
 -- The loop's invariant: the hash sought goes on from here with the blocks left. The measure is how many are left.
-use native.Mathlib.Omega.{arith}
-use borrow.Author.Rules.{rules}
-use Rattle.holdings_file.proofs.IndexChains.{Hashing, hash_start, hash_next, hash_done}
+use Rattle.holdings_file.proofs.IndexChains.{Hashing}
 use Rattle.holdings_file.proofs.index.bucket.Given as goal
 
 abbrev pub invariant-loop-left : goal.invariant-loop-left

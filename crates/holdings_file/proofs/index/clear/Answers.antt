@@ -1,7 +1,5 @@
-use Prim.Native.Nat.{◌-◌}
 use native.Mathlib.Omega.{arith}
-use borrow.Author.Rules.{rules}
-use Rattle.holdings_file.proofs.IndexChains.{Clearing, clearing_start, clearing_next, clearing_done}
+use Rattle.holdings_file.proofs.IndexChains.{clearing_start, clearing_next, clearing_done}
 use Rattle.holdings_file.proofs.index.clear.Goals as goal
 
 pub loop-i-init : goal.loop-i-init

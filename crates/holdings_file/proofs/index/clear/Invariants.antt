@@ -1,8 +1,6 @@
 -- The loop's invariant: the buckets passed are empty. The measure is how many are left.
 use Prim.Native.Nat.{◌-◌}
-use native.Mathlib.Omega.{arith}
-use borrow.Author.Rules.{rules}
-use Rattle.holdings_file.proofs.IndexChains.{Clearing, clearing_start, clearing_next, clearing_done}
+use Rattle.holdings_file.proofs.IndexChains.{Clearing}
 use Rattle.holdings_file.proofs.index.clear.Given as goal
 
 abbrev pub invariant-loop-i : goal.invariant-loop-i

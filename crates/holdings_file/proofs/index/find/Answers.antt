@@ -1,7 +1,5 @@
 use native.Mathlib.Omega.{arith}
-use borrow.Author.Rules.{rules}
-use Rattle.holdings_file.specs.Promises.{held_in}
-use Rattle.holdings_file.proofs.IndexChains.{Walking, walk_start, walk_end, walk_found, walk_next, walk_less}
+use Rattle.holdings_file.proofs.IndexChains.{walk_start, walk_end, walk_found, walk_next, walk_less}
 use Rattle.holdings_file.proofs.IndexChains.{stands_there}
 use Rattle.holdings_file.proofs.index.find.Goals as goal
 
@@ -21,40 +19,36 @@ overflow_add-end-in-loop-c c = let args = c.args in
     let pre = c.requires in
     let loop = c.loop-c in
     let loop-test = c.loop-c-test in
-    let good = c.type_inv in
     let there = stands_there args.file.now args.index.now args.buckets args.message.now pre.0.whole
     pre.1 loop.c loop.invariant loop-test.true in
-    omega (arith, there.inside, good.0)
+    omega (arith, there.inside)
 
 pub slice_bounds-same-count : goal.slice_bounds-same-count
 slice_bounds-same-count c = let args = c.args in
     let pre = c.requires in
     let loop = c.loop-c in
     let loop-test = c.loop-c-test in
-    let good = c.type_inv in
     let there = stands_there args.file.now args.index.now args.buckets args.message.now pre.0.whole
     pre.1 loop.c loop.invariant loop-test.true in
-    omega (arith, there.inside, good.0)
+    omega (arith, there.inside)
 
 pub slice_bounds-same-start : goal.slice_bounds-same-start
 slice_bounds-same-start c = let args = c.args in
     let pre = c.requires in
     let loop = c.loop-c in
     let loop-test = c.loop-c-test in
-    let good = c.type_inv in
     let there = stands_there args.file.now args.index.now args.buckets args.message.now pre.0.whole
     pre.1 loop.c loop.invariant loop-test.true in
-    omega (arith, there.inside, good.0)
+    omega (arith, there.inside)
 
 pub slice_bounds-same-end : goal.slice_bounds-same-end
 slice_bounds-same-end c = let args = c.args in
     let pre = c.requires in
     let loop = c.loop-c in
     let loop-test = c.loop-c-test in
-    let good = c.type_inv in
     let there = stands_there args.file.now args.index.now args.buckets args.message.now pre.0.whole
     pre.1 loop.c loop.invariant loop-test.true in
-    omega (arith, there.inside, good.0)
+    omega (arith, there.inside)
 
 pub returns-then-same : goal.returns-then-same
 returns-then-same c = let args = c.args in

@@ -1,9 +1,6 @@
 -- The loop's invariant: no entry from the one at hand on has the message. The measure is that entry's number.
-use native.Mathlib.Omega.{arith}
-use borrow.Author.Rules.{rules}
 use Rattle.holdings_file.specs.Promises.{held_in}
-use Rattle.holdings_file.proofs.IndexChains.{Walking, walk_start, walk_end, walk_found, walk_next, walk_less}
-use Rattle.holdings_file.proofs.IndexChains.{stands_there}
+use Rattle.holdings_file.proofs.IndexChains.{Walking}
 use Rattle.holdings_file.proofs.index.find.Given as goal
 
 abbrev pub invariant-loop-c : goal.invariant-loop-c

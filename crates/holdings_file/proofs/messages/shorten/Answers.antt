@@ -15,14 +15,14 @@ pub slice_bounds-write_short-end : goal.slice_bounds-write_short-end
 slice_bounds-write_short-end c = let args = c.args in
     let read = c.read in
     let work-numbers = c.work_numbers-work in
-    rows_again_within args.rows.now read.new.1.0 _ work-numbers.ensures
+    rows_again_within args.rows.now read.new.table _ work-numbers.ensures
     (search (rows_within, rules)) (search rules)
 
 pub slice_bounds-write_short-end-in-Accepted : goal.slice_bounds-write_short-end-in-Accepted
 slice_bounds-write_short-end-in-Accepted c = let args = c.args in
     let read = c.read in
     let work-numbers = c.work_numbers-work in
-    rows_again_length args.rows.now read.new.1.0 _ work-numbers.ensures
+    rows_again_length args.rows.now read.new.table _ work-numbers.ensures
     (search (rows_within, rules)) (search rules)
 
 pub write_short-requires : goal.write_short-requires
@@ -32,11 +32,11 @@ write_short-requires c = let args = c.args in
     let read = c.read in (
       search (
         shorten_rows args.message.now args.rows.now args.bytes.now pre _ work-numbers.ensures
-            read.result _ read.new.1.0 read.ensures (search rules),
+            read.result _ read.new.table read.ensures (search rules),
         rules,
       ),
       shorten_enough args.message.now args.rows.now args.bytes.now pre _ work-numbers.ensures
-          read.result _ read.new.1.0 read.ensures (search rules),
+          read.result _ read.new.table read.ensures (search rules),
     )
 
 pub returns-in-Accepted : goal.returns-in-Accepted
@@ -46,7 +46,7 @@ returns-in-Accepted c = let args = c.args in
     let read = c.read in
     let write-short = c.write_short in
     shorten_met args.message.now args.rows.now args.bytes.now pre _ work-numbers.ensures
-    read.result _ read.new.1.0 read.ensures (search rules) _ _ write-short.ensures
+    read.result _ read.new.table read.ensures (search rules) _ _ write-short.ensures
 
 pub returns-in-Refused : goal.returns-in-Refused
 returns-in-Refused c = let args = c.args in
@@ -55,7 +55,7 @@ returns-in-Refused c = let args = c.args in
     let read = c.read in
     search (
       shorten_refused args.message.now args.rows.now args.bytes.now pre _
-          work-numbers.ensures read.result _ read.new.1.0 read.ensures (search rules),
+          work-numbers.ensures read.result _ read.new.table read.ensures (search rules),
       rules,
     )
 
@@ -66,6 +66,6 @@ returns-in-TooFew c = let args = c.args in
     let read = c.read in
     absurd (search (
       shorten_few args.message.now args.rows.now args.bytes.now pre _
-          work-numbers.ensures read.result _ read.new.1.0 read.ensures (search rules),
+          work-numbers.ensures read.result _ read.new.table read.ensures (search rules),
       rules,
     ))
