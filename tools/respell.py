@@ -26,6 +26,25 @@ FIELD = re.compile(r"(?:^|;)\s*(" + NAME + r")\s*:")
 USE = re.compile(r"\buse\s+([\w.·'-]+?)\.\{([^}]*)\}", re.S)
 
 
+# Where a constructor or a field falls together with a definition, it gets a name of its own.
+APART = {
+    "record_of": "the_record",
+    "reads_as": "reads_record",
+    "same_row": "row_same",
+    "type-name": "type_spelled",
+    "type-number": "type_numbered",
+    "few-typed": "few_of_type",
+    "few-object": "few_fields",
+    "counted-typed": "counted_typed_head",
+    "open-list": "open_list_head",
+    "open-typed": "open_typed_head",
+    "typed-map": "typed_map_head",
+    "Row-here": "RowStanding",
+    # the kit has a word of this name
+    "are-bytes": "bytes_test",
+}
+
+
 def read(path):
     with open(path, encoding="utf-8", newline="") as f:
         return f.read()
@@ -94,6 +113,7 @@ def table():
                     new[n] = to
             else:
                 new[n] = to + "_law"
+    new.update((k, v) for k, v in APART.items() if k in names)
     return new
 
 
@@ -184,7 +204,7 @@ def main():
         put(path, in_prose(old, new), old)
     print(f"respell: {len(new)} names in {changed} files")
     for k, v in sorted(new.items()):
-        if v.endswith("_law"):
+        if v.endswith("_law") or k in APART:
             print(f"apart: {k} -> {v}")
     return 0
 

@@ -11,10 +11,10 @@ use Rattle.scalar.specs.declared.Written.TheVariants.{Stored, NoRoom, NoSuchForm
 use Rattle.scalar.specs.declared.Encoding.TheVariants.{Utf8, Binary}
 use Rattle.scalar.specs.Scalars.{string_at}
 use Rattle.scalar.specs.Answers.{report, content_read, report_of, output_of}
-use Rattle.scalar.specs.AnswerLaws.{report_none, output_none}
+use Rattle.scalar.proofs.AnswerLaws.{report_none, output_none}
 use Rattle.record.specs.Model.Kinds.{bytes_kind}
 use Rattle.record.specs.Model.Claims.{is_text_kind, named_content}
-use Rattle.record.specs.Laws.NamedContents.{named_bytes, named_text, named_other}
+use Rattle.record.proofs.Laws.NamedContents.{named_bytes, named_text, named_other}
 use Rattle.hessian.specs.declared.HessianAnswer.{HessianAnswer}
 use Rattle.hessian.specs.Packed.{answer, answer_report, ContentGives}
 

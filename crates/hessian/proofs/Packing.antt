@@ -10,7 +10,7 @@ use Rattle.flow.specs.Flow.{Report}
 use Rattle.record.specs.Model.Claims.{content_at}
 use Rattle.record.specs.Model.Answers.{base, base_open_from, as_bytes, lent_rows}
 use Rattle.record.specs.Model.Calls.{ReadCall, WriteCall}
-use Rattle.record.specs.Laws.Bounds.{answer_small, written_small}
+use Rattle.record.proofs.Laws.Bounds.{answer_small, written_small}
 use Rattle.reader.specs.declared.FillAnswer.{FillAnswer}
 use Rattle.reader.specs.declared.FillAnswer.TheVariants.{Accepted, Refused, TooFew}
 use Rattle.reader.specs.Answers.{fill_report}

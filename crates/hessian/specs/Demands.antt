@@ -134,7 +134,7 @@ HessianCopies = (s₁ t₁ : List ℕ) (n₁ : ℕ) (o₁ : List ℕ) (a₁ : �
 -- request 2026-07: whatever rows of C's table hold the record of a message, each of them skips what it opens
 abbrev pub HessianSkips : Type 0
 HessianSkips = (s t : List ℕ) (n : ℕ) (m : List ℕ) (x : RecordOf base as_bytes s t n m)
-    → Skippable (rows_of as_bytes n t) x.record_of_law
+    → Skippable (rows_of as_bytes n t) x.the_record
 
 -- ---- hessian_content: where a row claims an item and names a content, it is that item's, whole
 abbrev pub HessianContents : Type 0

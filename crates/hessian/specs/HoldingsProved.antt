@@ -1,7 +1,7 @@
 -- The proofs of the theorems of the holdings file: HoldingsTheorems.antt states them.
 use Rattle.holdings.specs.Answers.{as_pair_bytes}
-use Rattle.holdings.specs.FileLaws.{pair_bytes_sound}
-use Rattle.holdings.specs.Proved.{of_versions, never_beyond}
+use Rattle.holdings.proofs.FileLaws.{pair_bytes_sound}
+use Rattle.holdings.proofs.Proved.{of_versions, never_beyond}
 use Rattle.hessian.specs.HoldingsTheorems as theorems
 
 pub of_holdings_file : theorems.OfHoldingsFile

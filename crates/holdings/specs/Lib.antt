@@ -2,12 +2,4 @@ pub mod Files
 pub mod Answers
 pub mod Terms
 pub mod EntryLaws
-pub mod FileLaws
-pub mod AdditionLaws
-pub mod BatchLaws
-pub mod NumberLaws
-pub mod FaultLaws
-pub mod Samples
-pub mod VersionSamples
 pub mod Theorems
-pub mod Proved

@@ -1,5 +1,5 @@
 -- The theorems of the holdings file, of calls that list and that add, for every sound table of versions. Terms.antt
--- has the terms; the proofs are in Proved.antt.
+-- has the terms; the proofs are in proofs/Proved.antt.
 use mathlib.Core.{Path.◌≡◌, Logic.{◌↔◌, ◌⊎◌}, List.List, List.[], List.◌∷◌, List.◌++◌, Option.none, Option.some}
 use Rattle.std.specs.Prelude.{ℕ, suc, ◌+◌, ◌*◌, ◌/◌, ◌^◌, ◌≤◌, ◌<◌, length, take, drop}
 use Rattle.std.proofs.Math.ListN.{get_elem?}

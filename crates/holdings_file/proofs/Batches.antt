@@ -11,8 +11,8 @@ use Rattle.flow.specs.OverlayLaws.{overlay_none, length_put}
 use Rattle.flow.specs.Flow.{stored, put, overlay}
 use Rattle.holdings.specs.Files.{versions, entries_in}
 use Rattle.holdings.specs.Answers.{Accept, Refuse, answer, addition, file_after, Batch, stopped, took, additions}
-use Rattle.holdings.specs.EntryLaws.{entries_none, entries_short}
-use Rattle.holdings.specs.BatchLaws.{additions_none, additions_cut, additions_refused, additions_taken}
+use Rattle.holdings.proofs.EntryLaws.{entries_none, entries_short}
+use Rattle.holdings.proofs.BatchLaws.{additions_none, additions_cut, additions_refused, additions_taken}
 use Rattle.holdings_file.specs.declared.additions.Extent.{Extent}
 use Rattle.holdings_file.specs.declared.HoldingsAnswer.{HoldingsAnswer}
 use Rattle.holdings_file.specs.declared.HoldingsAnswer.TheVariants.{Accepted, Refused, TooFew}

@@ -12,14 +12,14 @@ use Rattle.flow.specs.RefusalNumbers.{no_room, cut_entry}
 use Rattle.flow.specs.Tests.{split, pick_true, pick_false}
 use Rattle.flow.specs.Flow.{pick}
 use Rattle.record.specs.Model.Answers.{base, as_numbers, lent_rows}
-use Rattle.record.specs.Laws.Answering.{never}
+use Rattle.record.proofs.Laws.Answering.{never}
 use Rattle.holdings.specs.Files.{Rules, versions, Listing, Lists, Faulty, listing_of, listing}
 use Rattle.holdings.specs.Answers.{Result, Accept, Refuse, answer, with_working, as_pairs, as_pair_bytes, listed_to}
 use Rattle.holdings.specs.Answers.{list_after, Addition, listing_to_extend, added_listed, addition, add_report, file_after}
 use Rattle.holdings.specs.Answers.{Batch, batch_listed, batch_report, batch_file, batch_numbers, ListCall, AddCall}
 use Rattle.holdings.specs.Answers.{AddAllCall}
 use Rattle.holdings.specs.Terms.{Messages, Enough}
-use Rattle.holdings.specs.FileLaws.{listing_listed}
+use Rattle.holdings.proofs.FileLaws.{listing_listed}
 use Rattle.holdings_file.specs.declared.HoldingsAnswer.{HoldingsAnswer}
 use Rattle.holdings_file.specs.declared.HoldingsAnswer.TheVariants.{Accepted, Refused, TooFew}
 use Rattle.holdings_file.specs.declared.files.Checked.{Checked}

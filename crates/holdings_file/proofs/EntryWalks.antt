@@ -19,7 +19,8 @@ use Rattle.wire.specs.BigEndian.{joined, be}
 use Rattle.holdings.specs.Files.{header_size, length_size, message_size, entry_size, entries_up_to, entries_in, number_of}
 use Rattle.holdings.specs.Answers.{ListLayout, placement, placements, as_pairs, as_pair_bytes}
 use Rattle.holdings.specs.Terms.{Messages}
-use Rattle.holdings.specs.EntryLaws.{Entries, wholes, same_is, same_self, entries_whole, entries_short, entries_none}
+use Rattle.holdings.specs.EntryLaws.{Entries, wholes}
+use Rattle.holdings.proofs.EntryLaws.{same_is, same_self, entries_whole, entries_short, entries_none}
 use Rattle.holdings_file.specs.Promises.{AsFar, messages_of, held_from, held_in, end_of, filled_by, Filled}
 
 -- ---- the same bytes

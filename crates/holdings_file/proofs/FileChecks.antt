@@ -15,12 +15,13 @@ use Rattle.flow.specs.Tests.{split, pick_true, pick_false, bytes_all, bytes_take
 use Rattle.flow.specs.Flow.{same_list}
 use Rattle.wire.specs.BigEndian.{joined}
 use Rattle.wire.specs.Laws.{joined_below}
-use Rattle.record.specs.Laws.Answering.{never}
+use Rattle.record.proofs.Laws.Answering.{never}
 use Rattle.holdings.specs.Files.{versions, rules_of, mark, mark_size, version_size, header_size, length_size, message_size}
 use Rattle.holdings.specs.Files.{entry_size, entries_in, Faulty, number_of, fault_of, lists_from, lists_by, listing_of}
 use Rattle.holdings.specs.Terms.{Messages}
-use Rattle.holdings.specs.EntryLaws.{Entries, wholes, wholes_append, entries_none, entries_whole, entries_short}
-use Rattle.holdings.specs.EntryLaws.{entries_append, faultless, lists_one, lists_fault}
+use Rattle.holdings.specs.EntryLaws.{Entries, wholes}
+use Rattle.holdings.proofs.EntryLaws.{wholes_append, entries_none, entries_whole, entries_short}
+use Rattle.holdings.proofs.EntryLaws.{entries_append, faultless, lists_one, lists_fault}
 use Rattle.holdings_file.specs.Promises.{held_in, end_of, newest_rules, version_of, check_of, listing_opened}
 use Rattle.holdings_file.specs.Index.{Indexing, index_in, WorkIndexed, WorkFresh, FaultAloneMet, Ready, Underway}
 use Rattle.holdings_file.specs.Index.{FaultMet, CheckMet}

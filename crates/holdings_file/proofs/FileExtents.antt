@@ -12,16 +12,17 @@ use Rattle.flow.specs.OverlayLaws.{stored_sets, stored_out, stored_seam, length_
 use Rattle.flow.specs.RefusalNumbers.{no_room}
 use Rattle.flow.specs.Flow.{items, stored, put}
 use Rattle.wire.specs.BigEndian.{joined, be}
-use Rattle.record.specs.Laws.Answering.{never}
+use Rattle.record.proofs.Laws.Answering.{never}
 use Rattle.holdings.specs.Files.{versions, mark, mark_size, version_size, header_size, length_size, header, newest_version}
 use Rattle.holdings.specs.Files.{entry_of, Rules, reads_by, entries_in, Lists, number_of}
 use Rattle.holdings.specs.Answers.{Result, Accept, Refuse, Addition, begun, listing_to_extend, appended, with_room}
 use Rattle.holdings.specs.Answers.{added_short, added_read, addition, file_after}
 use Rattle.holdings.specs.Terms.{Messages}
-use Rattle.holdings.specs.EntryLaws.{wholes, entries_none, no_fault}
-use Rattle.holdings.specs.FileLaws.{versions_sound, newest_sound, only_version, Listed, within_listing, stored_front}
-use Rattle.holdings.specs.AdditionLaws.{shortest_faultless, Extendable, New, Old, extendable, extend_listed}
-use Rattle.holdings.specs.AdditionLaws.{extend_more, addition_listed}
+use Rattle.holdings.specs.EntryLaws.{wholes}
+use Rattle.holdings.proofs.EntryLaws.{entries_none, no_fault}
+use Rattle.holdings.proofs.FileLaws.{versions_sound, newest_sound, only_version, Listed, within_listing, stored_front}
+use Rattle.holdings.proofs.AdditionLaws.{shortest_faultless, Extendable, New, Old, extendable, extend_listed}
+use Rattle.holdings.proofs.AdditionLaws.{extend_more, addition_listed}
 use Rattle.holdings_file.specs.declared.messages.Short.{Short}
 use Rattle.holdings_file.specs.declared.messages.Short.TheVariants as short
 use Rattle.holdings_file.specs.declared.additions.Extent.{Extent}

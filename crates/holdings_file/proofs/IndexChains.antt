@@ -17,9 +17,10 @@ use Rattle.wire.specs.BigEndian.{joined}
 use Rattle.holdings.specs.Files.{header_size, length_size, entry_size, number_of, entries_in}
 use Rattle.holdings.specs.Answers.{placement, placements}
 use Rattle.holdings.specs.Terms.{Messages, StandsAt}
-use Rattle.holdings.specs.EntryLaws.{wholes, same_is, same_self, number_within, number_found, number_first}
-use Rattle.holdings.specs.EntryLaws.{distinct_none, distinct_more, entries_first, entries_empty}
-use Rattle.holdings.specs.FileLaws.{stands, entries_next, placements_more}
+use Rattle.holdings.specs.EntryLaws.{wholes}
+use Rattle.holdings.proofs.EntryLaws.{same_is, same_self, number_within, number_found, number_first}
+use Rattle.holdings.proofs.EntryLaws.{distinct_none, distinct_more, entries_first, entries_empty}
+use Rattle.holdings.proofs.FileLaws.{stands, entries_next, placements_more}
 use Rattle.holdings_file.specs.Promises.{held_in}
 use Rattle.holdings_file.specs.Index.{hashed, hash_block, hash_factor, hash_modulus, bucket_of, InBucket}
 use Rattle.holdings_file.specs.Index.{entry_numbers, latest, Indexed, Indexing, Cleared, Whole, WholeIndexed}

@@ -21,17 +21,17 @@ use Rattle.record.specs.Model.Answers.{Accept, Refuse, read, shortest_of, base, 
 use Rattle.record.specs.Model.Answers.{rows_of, read_numbers, answered, filled}
 use Rattle.record.specs.Model.Terms.{Accepts}
 use Rattle.record.specs.Model.Calls.{ReadCall, MeasuredCall, WriteCall}
-use Rattle.record.specs.Laws.Answering.{never, by_read}
-use Rattle.record.specs.Laws.Refusals.{located_numbered}
-use Rattle.record.specs.Laws.Extent.{rows_few}
-use Rattle.record.specs.Laws.Meaning.{message_all}
-use Rattle.record.specs.Laws.TableLaws.{numbers_keep}
-use Rattle.record.specs.ForReader.ReadMessages.{rows_length}
-use Rattle.record.specs.Theorems.AnswerTheorems.{accepted_some, kept_holds}
-use Rattle.record.specs.Theorems.CallCases.{WriteCases, long_source, beyond, no_message, too_long, too_few, wrote}
-use Rattle.record.specs.Theorems.CallCases.{answer, write_cases, entries_length}
-use Rattle.record.specs.Theorems.ItemTheorems.{no_longer}
-use Rattle.record.specs.Theorems.RowTheorems.{judged_done, own_reads, own_record}
+use Rattle.record.proofs.Laws.Answering.{never, by_read}
+use Rattle.record.proofs.Laws.Refusals.{located_numbered}
+use Rattle.record.proofs.Laws.Extent.{rows_few}
+use Rattle.record.proofs.Laws.Meaning.{message_all}
+use Rattle.record.proofs.Laws.TableLaws.{numbers_keep}
+use Rattle.record.proofs.ForReader.ReadMessages.{rows_length}
+use Rattle.record.proofs.Theorems.AnswerTheorems.{accepted_some, kept_holds}
+use Rattle.record.proofs.Theorems.CallCases.{WriteCases, long_source, beyond, no_message, too_long, too_few, wrote}
+use Rattle.record.proofs.Theorems.CallCases.{answer, write_cases, entries_length}
+use Rattle.record.proofs.Theorems.ItemTheorems.{no_longer}
+use Rattle.record.proofs.Theorems.RowTheorems.{judged_done, own_reads, own_record}
 use Rattle.reader.specs.declared.ReadAnswer.{ReadAnswer}
 use Rattle.reader.specs.declared.ReadAnswer.TheVariants as reading
 use Rattle.reader.specs.Answers as reader
@@ -40,7 +40,7 @@ use Rattle.writer.specs.declared.WriteAnswer.TheVariants as writing
 use Rattle.writer.specs.Answers as writer
 use Rattle.holdings.specs.Files.{versions, reads_by, is_message, is_held, fault_by, fault_of}
 use Rattle.holdings.specs.Terms.{Messages, Enough}
-use Rattle.holdings.specs.AdditionLaws.{shortest_is}
+use Rattle.holdings.proofs.AdditionLaws.{shortest_is}
 use Rattle.holdings_file.specs.Promises.{newest_rules, work_numbers, RowsOf, ShortIn, Shortened}
 use Rattle.holdings_file.specs.Index.{ShortenMet, FaultAloneMet}
 use Rattle.holdings_file.proofs.MemoryParts.{lent_kept, rows_within, rows_enough, rows_again, index_kept}
@@ -60,7 +60,7 @@ module _ (m : List ℕ) (b : Bytes m) (n : ℕ) (es : List (Entry Item)) (c : Kn
         entries = es;
         known = c;
         done = e ∙ ap (λ (j : ℕ). Done j tt es c) all;
-        reads_as_law = refl;
+        reads_record = refl;
       } in
       omega (arith, accepted_some Floats base m b (items es) x, entries_length x)
 

@@ -10,11 +10,11 @@ use Rattle.scalar.specs.declared.Sort.TheVariants.{Int, Long, Double, Date}
 use Rattle.scalar.specs.declared.Rule.TheVariants.{Minutes, WholePair}
 use Rattle.scalar.specs.Scalars.{whole, widened, value, Form, forms_of, shortest}
 use Rattle.scalar.specs.Guesses.{whole_guess, narrowed, guess}
-use Rattle.scalar.specs.RuleLaws.{value_minutes, value_pair, value_float, guess_minutes, guess_pair, guess_float}
-use Rattle.scalar.specs.FormLaws.{shortest_none}
+use Rattle.scalar.proofs.RuleLaws.{value_minutes, value_pair, value_float, guess_minutes, guess_pair, guess_float}
+use Rattle.scalar.proofs.FormLaws.{shortest_none}
 use Rattle.scalar.specs.Answers.{length_of}
-use Rattle.scalar.specs.AnswerLaws.{length_none, length_some}
-use Rattle.scalar.specs.NumberLengths.{offset_again, signed_within, float_guessed}
+use Rattle.scalar.proofs.AnswerLaws.{length_none, length_some}
+use Rattle.scalar.proofs.NumberLengths.{offset_again, signed_within, float_guessed}
 use Rattle.numbers.specs.declared.stores.Codes.{Codes}
 use Rattle.numbers.specs.Answers.{single_form, HasCodes, Within}
 use Rattle.numbers.proofs.Shortest.{single_held, single_other, int_codes, long_codes, plain_held}

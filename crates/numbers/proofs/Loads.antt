@@ -13,9 +13,9 @@ use Rattle.scalar.specs.declared.Begun.TheVariants.{Starts}
 use Rattle.scalar.specs.Scalars.{widened, value, Form, form, forms_of, form_at}
 use Rattle.scalar.specs.Answers.{number_at}
 use Rattle.numbers.specs.Answers.{form_read, single_form}
-use Rattle.scalar.specs.RuleLaws.{value_exactly, value_plain, value_offset, value_signed, value_float}
-use Rattle.scalar.specs.NumberLaws.{form_here}
-use Rattle.scalar.specs.NumberAt.{number_cut, number_there}
+use Rattle.scalar.proofs.RuleLaws.{value_exactly, value_plain, value_offset, value_signed, value_float}
+use Rattle.scalar.proofs.NumberLaws.{form_here}
+use Rattle.scalar.proofs.NumberAt.{number_cut, number_there}
 
 -- ---- a form: the message ends in it; its value
 module _ (m : List ℕ) (p k u : ℕ) (r : Rule) where

@@ -13,17 +13,17 @@ use Rattle.scalar.specs.declared.Begun.TheVariants.{Starts, NoForm}
 use Rattle.scalar.specs.Scalars.{value, Form, form, forms_of, form_at, shortest}
 use Rattle.scalar.specs.Grammar.{Number, held, here, later}
 use Rattle.scalar.specs.Answers.{number_at, length_of, length_read}
-use Rattle.scalar.specs.NumberLengths.{length_read_law}
+use Rattle.scalar.proofs.NumberLengths.{length_read_law}
 use Rattle.numbers.specs.declared.NumberPassed.{NumberPassed}
 use Rattle.numbers.specs.declared.NumberPassed.TheVariants as number_passed
 use Rattle.numbers.specs.declared.NumberRead.{NumberRead}
 use Rattle.numbers.specs.declared.NumberRead.TheVariants.{Value, Refused}
 use Rattle.numbers.specs.Answers.{passed, Measured, NumberMet, Takes}
-use Rattle.scalar.specs.FormLaws.{forms_null, forms_false, forms_true, forms_int, forms_long, forms_double, forms_date}
-use Rattle.scalar.specs.FormLaws.{form_none, form_either}
-use Rattle.scalar.specs.NumberLaws.{size, form_here, form_skip, clear, proper, number_apart}
-use Rattle.scalar.specs.NumberAt.{number_ends, number_none, number_cut, number_there}
-use Rattle.scalar.specs.Sorts.{properly}
+use Rattle.scalar.proofs.FormLaws.{forms_null, forms_false, forms_true, forms_int, forms_long, forms_double, forms_date}
+use Rattle.scalar.proofs.FormLaws.{form_none, form_either}
+use Rattle.scalar.proofs.NumberLaws.{size, form_here, form_skip, clear, proper, number_apart}
+use Rattle.scalar.proofs.NumberAt.{number_ends, number_none, number_cut, number_there}
+use Rattle.scalar.proofs.Sorts.{properly}
 
 pub starts : {k u v : ℕ} {r : Rule} → u ≡ v → Starts k u r ≡ Starts k v r
 starts {k} {u} {v} {r} e = ap (λ (n : ℕ). Starts k n r) e

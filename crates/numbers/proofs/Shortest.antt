@@ -1,5 +1,5 @@
 -- Which form of a value is its shortest: by the ranges of ints and longs, and by what divides doubles and dates.
-use Rattle.std.proofs.Common.{◌≡◌, ℕ, zero, suc, ◌+◌, ◌-◌, ◌*◌, ◌/◌, ◌%◌, ◌^◌, ◌<◌, ◌≤◌, Bool, true, false, ◌&&◌, ltb, List, [], ◌∷◌, ℤ, pos, negsuc, ◌*ℤ◌, neg_ℤ, sym, refl, ap, ◌∙◌, subst, add-zero, arith, w16, w32, w64, Fits, to_z, of_z, le-ltb, lt-ltb, eq-eqb, ne_eqb}
+use Rattle.std.proofs.Common.{◌≡◌, ℕ, suc, ◌+◌, ◌-◌, ◌*◌, ◌/◌, ◌%◌, ◌^◌, ◌<◌, ◌≤◌, Bool, true, false, ◌&&◌, ltb, List, [], ◌∷◌, ℤ, pos, negsuc, ◌*ℤ◌, neg_ℤ, sym, refl, ap, ◌∙◌, subst, add-zero, arith, w16, w32, w64, Fits, to_z, of_z, le-ltb, lt-ltb, eq-eqb, ne_eqb}
 use mathlib.Core.Option.{none, some}
 use Rattle.flow.specs.Tests.{split}
 use Rattle.wire.specs.BigEndian.{be, high, wider}
@@ -9,13 +9,13 @@ use Rattle.scalar.specs.declared.Sort.TheVariants.{Int, Long, Double, Date}
 use Rattle.scalar.specs.declared.Rule.{Rule}
 use Rattle.scalar.specs.declared.Rule.TheVariants.{Exactly, Plain, Offset, Signed, Minutes}
 use Rattle.scalar.specs.declared.Rule.TheVariants.{WholeByte, WholePair, Float}
-use Rattle.scalar.specs.Signed.{minus_bits}
-use Rattle.scalar.specs.NumberLengths.{signed_held, signed_other, pair_low, widened_low, zero_pair, one_pair}
-use Rattle.scalar.specs.NumberLengths.{pair_guessed, pair_held, byte_as_pair, byte_guessed, byte_held}
+use Rattle.scalar.proofs.Signed.{minus_bits}
+use Rattle.scalar.proofs.NumberLengths.{signed_held, signed_other, pair_low, widened_low, zero_pair, one_pair}
+use Rattle.scalar.proofs.NumberLengths.{pair_guessed, pair_held, byte_as_pair, byte_guessed, byte_held}
 use Rattle.scalar.specs.Scalars.{whole, widened, value, Form, form, forms_of, shortest}
-use Rattle.scalar.specs.RuleLaws.{value_exactly, value_offset, value_minutes, value_byte, value_pair, value_float}
-use Rattle.scalar.specs.RuleLaws.{guess_exactly, guess_offset, guess_signed}
-use Rattle.scalar.specs.FormLaws.{forms_int, forms_long, forms_double, forms_date, shortest_first}
+use Rattle.scalar.proofs.RuleLaws.{value_exactly, value_offset, value_minutes, value_pair, value_float}
+use Rattle.scalar.proofs.RuleLaws.{guess_exactly, guess_offset, guess_signed}
+use Rattle.scalar.proofs.FormLaws.{forms_int, forms_long, forms_double, forms_date, shortest_first}
 use Rattle.scalar.specs.Guesses.{guess}
 use Rattle.numbers.specs.declared.stores.Codes.{Codes}
 use Rattle.numbers.specs.Answers.{single_form, HasCodes}

@@ -1,5 +1,5 @@
 -- The shortest form: what the code tries, form by form, and what it then stores.
-use Rattle.std.proofs.Common.{◌≡◌, ℕ, zero, suc, ◌+◌, ◌*◌, ◌/◌, ◌%◌, ◌^◌, ◌<◌, ◌≤◌, Bool, true, false, cond, ◌&&◌, T, leb, List, [], ◌∷◌, ◌++◌, length, drop, set, sym, refl, ap, ◌∙◌, subst, add-zero, arith, leb→le, length-set, w64, Fits, le-ltb, lt-ltb, eq-eqb, ne_eqb, leb-false, leb-true}
+use Rattle.std.proofs.Common.{◌≡◌, ℕ, zero, suc, ◌+◌, ◌*◌, ◌/◌, ◌%◌, ◌^◌, ◌<◌, ◌≤◌, Bool, true, false, cond, ◌&&◌, T, leb, List, [], ◌∷◌, ◌++◌, length, set, sym, refl, ap, ◌∙◌, subst, add-zero, arith, leb→le, length-set, w64, Fits, le-ltb, lt-ltb, eq-eqb, ne_eqb, leb-false, leb-true}
 use mathlib.Core.Option.{Option, none, some}
 use native.Mathlib.Nat.{div-div-eq-div-mul}
 use borrow.Author.Tests.{lt-leb}
@@ -16,16 +16,17 @@ use Rattle.scalar.specs.declared.Written.{Written}
 use Rattle.scalar.specs.declared.Written.TheVariants.{Stored, NoRoom, NoSuchForm}
 use Rattle.numbers.specs.declared.Spelling.{Spelling}
 use Rattle.numbers.specs.declared.Spelling.TheVariants as answer
-use Rattle.scalar.specs.DoubleLaws.{powers}
+use Rattle.scalar.proofs.DoubleLaws.{powers}
 use Rattle.scalar.specs.Scalars.{value, Form, form, forms_of, spelling, fits, shortest}
 use Rattle.scalar.specs.Guesses.{guess}
-use Rattle.scalar.specs.RuleLaws.{value_plain, guess_plain}
-use Rattle.scalar.specs.FormLaws.{forms_null, forms_false, forms_true, forms_int, forms_long, forms_double, forms_date}
-use Rattle.scalar.specs.FormLaws.{shortest_none, shortest_first}
-use Rattle.scalar.specs.NumberLaws.{tried, EachForm, IsNumber, number_fact, shortest_is}
+use Rattle.scalar.proofs.RuleLaws.{value_plain, guess_plain}
+use Rattle.scalar.proofs.FormLaws.{forms_null, forms_false, forms_true, forms_int, forms_long, forms_double, forms_date}
+use Rattle.scalar.proofs.FormLaws.{shortest_none, shortest_first}
+use Rattle.scalar.specs.NumberLaws.{tried}
+use Rattle.scalar.proofs.NumberLaws.{EachForm, IsNumber, number_fact, shortest_is}
 use Rattle.numbers.specs.Answers.{Takes, Good, spelled, or_else, present, Writes}
 use Rattle.scalar.specs.Answers.{report, report_of, output_of}
-use Rattle.scalar.specs.AnswerLaws.{report_none, report_stored, report_over, output_none, output_some}
+use Rattle.scalar.proofs.AnswerLaws.{report_none, report_stored, report_over, output_none, output_some}
 
 -- ---- one form
 -- what stands before the k lowest bytes is the quotient
@@ -99,15 +100,15 @@ module _ (w : Form) (ws : List Form) (v : ℕ) {o : Option (List ℕ)} (e : o �
     pub first_found : b ≡ true → o ≡ shortest (w ∷ ws) v
     first_found h = found_stays o (shortest ws v) (sym f ∙ h) ∙ tried_first
 
-    pub not_found : b ≡ false → shortest (w ∷ ws) v ≡ shortest ws v
+    not_found : b ≡ false → shortest (w ∷ ws) v ≡ shortest ws v
     not_found h = sym tried_first ∙ none_left o (shortest ws v) (sym f ∙ h)
+
+    -- w does not hold v, and what comes of the forms ws is r
+    pub passed_over : b ≡ false → {r : Option (List ℕ)} → r ≡ shortest ws v → r ≡ shortest (w ∷ ws) v
+    passed_over h s = s ∙ sym (not_found h)
 
 pub last_found : (w : Form) (v : ℕ) {o : Option (List ℕ)} → o ≡ tried w v none → o ≡ shortest (w ∷ []) v
 last_found w v e = e ∙ ap (tried w v) (sym (shortest_none v)) ∙ sym (shortest_first v w [])
-
--- the first k forms do not hold v
-abbrev pub Past : List Form → ℕ → ℕ → Type 0
-Past ws k v = shortest ws v ≡ shortest (drop k ws) v
 
 -- past all the forms ws, which came to o, w is tried
 pub added : (ws : List Form) (w : Form) (v : ℕ) {o r : Option (List ℕ)} → o ≡ shortest ws v

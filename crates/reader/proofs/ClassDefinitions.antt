@@ -1,25 +1,26 @@
 -- What the contracts on class definitions ask at each way out of the code.
-use Rattle.std.proofs.Common.{◌≡◌, ℕ, suc, ◌+◌, ◌^◌, ◌<◌, ◌≤◌, List, [], ◌∷◌, ◌++◌, length, get_or, take, set, sym, refl, ap, ◌∙◌, subst, inl, inr, ⊎_elim, append-nil, add-one, arith, length-append, length-set, length-take-le, get_or-set_other, get_or-set_same, take-suc-set, w64, Fits, eq-eqb}
-use lib.Seq.{take-set-le}
+use Rattle.std.proofs.Common.{◌≡◌, ℕ, suc, ◌+◌, ◌^◌, ◌<◌, ◌≤◌, List, [], ◌∷◌, ◌++◌, length, get_or, sym, refl, ap, ◌∙◌, subst, inl, inr, ⊎_elim, append-nil, arith, length-append, w64, Fits, eq-eqb}
 use Rattle.scalar.specs.Scalars.{Floats}
 use Rattle.flow.specs.Flow.{Done, One, byte_at}
 use Rattle.scalar.specs.declared.Lead.TheVariants as lead
 use Rattle.scalar.specs.declared.Encoding.TheVariants.{Utf8}
 use Rattle.texts.specs.declared.StringPassed.{StringPassed}
 use Rattle.texts.specs.declared.StringPassed.TheVariants.{Content, Refused}
-use Rattle.scalar.specs.ChartLaws.{definition_byte}
+use Rattle.scalar.proofs.ChartLaws.{definition_byte}
 use Rattle.scalar.specs.Answers.{sized, measured_at}
 use Rattle.texts.specs.Answers.{PassedMet}
 use Rattle.record.specs.Model.Items.{Known, Definition, defined}
 use Rattle.record.specs.Model.Reading.{definition, value_from}
 use Rattle.record.specs.Model.Rows.{Row, row}
 use Rattle.record.specs.Model.Answers.{base}
-use Rattle.record.specs.ForReader.ReadingAt.{ReadingAt, ReadTo, RefusedAt, run, front, on, topped, front_none}
-use Rattle.record.specs.ForReader.ReadingAt.{front_front}
-use Rattle.record.specs.ForReader.ReadDefinitions.{names_left, names_stop, names_step, names_lost, definition_full}
-use Rattle.record.specs.ForReader.ReadDefinitions.{definition_nameless, definition_countless, definition_negative}
-use Rattle.record.specs.ForReader.ReadDefinitions.{definition_wide}
-use Rattle.record.specs.ForReader.ReadDefinitions.{names_in, value_defined, value_undefined}
+use Rattle.record.specs.ForReader.ReadingAt.{ReadingAt, ReadTo, RefusedAt, run, front, on, topped}
+use Rattle.record.proofs.ForReader.ReadingAt.{front_none}
+use Rattle.record.proofs.ForReader.ReadingAt.{front_front}
+use Rattle.record.specs.ForReader.ReadDefinitions.{names_left}
+use Rattle.record.proofs.ForReader.ReadDefinitions.{names_stop, names_step, names_lost, definition_full}
+use Rattle.record.proofs.ForReader.ReadDefinitions.{definition_nameless, definition_countless, definition_negative}
+use Rattle.record.proofs.ForReader.ReadDefinitions.{definition_wide}
+use Rattle.record.proofs.ForReader.ReadDefinitions.{names_in, value_defined, value_undefined}
 use Rattle.reader.specs.declared.heads.Count.{Count}
 use Rattle.reader.specs.declared.heads.Count.TheVariants as count
 use Rattle.reader.specs.declared.definitions.ClassRead.{ClassRead}
@@ -28,8 +29,10 @@ use Rattle.reader.specs.declared.definitions.NamesRead.{NamesRead}
 use Rattle.reader.specs.declared.definitions.NamesRead.TheVariants as names-read
 use Rattle.reader.specs.declared.definitions.DefinitionRead.{DefinitionRead}
 use Rattle.reader.specs.declared.definitions.DefinitionRead.TheVariants as definition-read
-use Rattle.record.specs.Laws.KnownArray.{known_in, Kept, defined_in, defined_room, known_defined, kept_defined}
-use Rattle.record.specs.Laws.KnownArray.{references_stay, classes_counted, classes_slot}
+use Rattle.record.specs.Laws.KnownArray.{known_in, Kept, defined_in}
+use Rattle.record.proofs.Laws.KnownArray.{defined_room, known_defined, kept_defined}
+use Rattle.record.specs.Laws.KnownArray.{classes_slot}
+use Rattle.record.proofs.Laws.KnownArray.{references_stay, classes_counted}
 use Rattle.reader.specs.declared.Spot.{Spot}
 use Rattle.reader.specs.Promises.{PlaceIn, ReadyAt, LeadAt, RowRead, StoresRow, StoresRows, ReadsRows}
 use Rattle.reader.specs.Promises.{DefinitionReadSays}

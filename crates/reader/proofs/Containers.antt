@@ -1,14 +1,13 @@
 -- What the contracts of the small functions in values.rt ask: where values stop, the rows of containers, and what is
 -- known when one opens.
-use Rattle.std.proofs.Common.{◌≡◌, ℕ, zero, suc, ◌+◌, ◌/◌, ◌%◌, ◌^◌, ◌<◌, ◌≤◌, Bool, false, eqb, ◌⊎◌, List, [], ◌∷◌, length, get_or, take, set, sym, refl, ap, ◌∙◌, subst, inl, inr, add-one, arith, length-set, get_or-set_other, get_or-set_same, w64, Fits, eq-eqb, ne_eqb, le-leb}
+use Rattle.std.proofs.Common.{◌≡◌, ℕ, zero, suc, ◌+◌, ◌/◌, ◌%◌, ◌^◌, ◌<◌, ◌≤◌, Bool, false, eqb, ◌⊎◌, List, length, get_or, sym, refl, ap, ◌∙◌, subst, inl, inr, arith, w64, Fits, eq-eqb, ne_eqb, le-leb}
 use mathlib.Core.Option.{Option, none, some}
-use lib.Seq.{take-set-le}
 use borrow.Author.Tests.{lt-leb}
 use Rattle.flow.specs.Flow.{pick}
 use Rattle.flow.specs.Tests.{pick_true, pick_false}
 use Rattle.record.specs.declared.Group.{Group}
 use Rattle.record.specs.declared.Group.TheVariants.{Counted, Fields, Open, Pairs}
-use Rattle.record.specs.Model.Items.{opened, typed}
+use Rattle.record.specs.Model.Items.{typed}
 use Rattle.record.specs.Model.Rows.{Row, row, item_row}
 use Rattle.record.specs.ForReader.ReadLoops.{closes, stops, past, parts}
 use Rattle.record.specs.ForReader.ReadValues.{heading}
@@ -22,9 +21,10 @@ use Rattle.reader.specs.declared.values.Beginning.TheVariants as beginning
 use Rattle.reader.specs.declared.values.ValuesRead.{ValuesRead}
 use Rattle.reader.specs.declared.values.ValuesRead.TheVariants as values-read
 use Rattle.record.specs.Model.Answers.{base}
-use Rattle.record.specs.Laws.KnownArray.{one_reference, references_more, types_same, known_opened, kept_opened}
-use Rattle.record.specs.Laws.KnownArray.{one_type}
-use Rattle.record.specs.Laws.KnownArray.{references_same, known_typed, kept_typed, known_in, Kept, types_slot}
+use Rattle.record.proofs.Laws.KnownArray.{one_reference, references_more, types_same, known_opened, kept_opened}
+use Rattle.record.proofs.Laws.KnownArray.{one_type}
+use Rattle.record.specs.Laws.KnownArray.{Kept, types_slot}
+use Rattle.record.proofs.Laws.KnownArray.{references_same, known_typed, kept_typed}
 use Rattle.record.specs.Laws.KnownArray.{references_slot}
 use Rattle.reader.specs.declared.Spot.{Spot}
 use Rattle.reader.specs.Promises.{group_of, group_numbers, StoresRow, StoresRows, type_of, type_rows, type_tag}

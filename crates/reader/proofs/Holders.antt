@@ -10,27 +10,30 @@ use Rattle.numbers.specs.declared.NumberPassed.{NumberPassed}
 use Rattle.numbers.specs.declared.NumberPassed.TheVariants as number
 use Rattle.scalar.specs.declared.Lead.{Lead}
 use Rattle.scalar.specs.declared.Lead.TheVariants as lead
-use Rattle.scalar.specs.ChartLaws.{list_byte, typed_list_byte, object_byte}
+use Rattle.scalar.proofs.ChartLaws.{list_byte, typed_list_byte, object_byte}
 use Rattle.scalar.specs.Answers.{number_at}
 use Rattle.numbers.specs.Answers.{passed}
 use Rattle.record.specs.declared.Group.TheVariants.{Fields}
 use Rattle.record.specs.Model.Items.{Known, opened}
 use Rattle.record.specs.Model.Reading.{Opening, type_from, plain_from, value_from}
-use Rattle.record.specs.Model.Reading.{ValueHead, few, few_typed_law, few_object_law, counted, counted_typed_law, open_list_law}
-use Rattle.record.specs.Model.Reading.{open_typed_law, object}
+use Rattle.record.specs.Model.Reading.{ValueHead, few, few_of_type, few_fields, counted, counted_typed_head, open_list_head}
+use Rattle.record.specs.Model.Reading.{open_typed_head, object}
 use Rattle.record.specs.Model.Reading.{head_of}
 use Rattle.record.specs.Model.Answers.{base}
-use Rattle.record.specs.ForReader.ReadingAt.{ReadingAt, ReadTo, RefusedAt, run, front, topped, front_none}
+use Rattle.record.specs.ForReader.ReadingAt.{ReadingAt, ReadTo, RefusedAt, run, front, topped}
+use Rattle.record.proofs.ForReader.ReadingAt.{front_none}
 use Rattle.record.specs.ForReader.ReadLoops.{rest}
-use Rattle.record.specs.ForReader.ChartHeads.{form_by}
-use Rattle.record.specs.ForReader.ReadValues.{heading, has_type, form_few, form_open, form_map, form_counted}
-use Rattle.record.specs.ForReader.ReadValues.{form_counted_negative}
-use Rattle.record.specs.ForReader.ReadValues.{form_counted_lost, form_few_object, form_few_object_ungiven, form_object}
-use Rattle.record.specs.ForReader.ReadValues.{form_object_ungiven, form_object_lost, form_type_lost, form_few_typed}
-use Rattle.record.specs.ForReader.ReadValues.{form_open_typed}
-use Rattle.record.specs.ForReader.ReadValues.{form_typed_map, form_counted_typed, form_counted_typed_negative}
-use Rattle.record.specs.ForReader.ReadValues.{form_counted_typed_lost}
-use Rattle.record.specs.ForReader.ReadDefinitions.{below, below_some}
+use Rattle.record.proofs.ForReader.ChartHeads.{form_by}
+use Rattle.record.specs.ForReader.ReadValues.{heading}
+use Rattle.record.proofs.ForReader.ReadValues.{has_type, form_few, form_open, form_map, form_counted}
+use Rattle.record.proofs.ForReader.ReadValues.{form_counted_negative}
+use Rattle.record.proofs.ForReader.ReadValues.{form_counted_lost, form_few_object, form_few_object_ungiven, form_object}
+use Rattle.record.proofs.ForReader.ReadValues.{form_object_ungiven, form_object_lost, form_type_lost, form_few_typed}
+use Rattle.record.proofs.ForReader.ReadValues.{form_open_typed}
+use Rattle.record.proofs.ForReader.ReadValues.{form_typed_map, form_counted_typed, form_counted_typed_negative}
+use Rattle.record.proofs.ForReader.ReadValues.{form_counted_typed_lost}
+use Rattle.record.specs.ForReader.ReadDefinitions.{below}
+use Rattle.record.proofs.ForReader.ReadDefinitions.{below_some}
 use Rattle.reader.specs.declared.heads.TypeItem.{TypeItem}
 use Rattle.reader.specs.declared.heads.TypeItem.TheVariants.{Untyped}
 use Rattle.reader.specs.declared.heads.GroupNumbers.{GroupNumbers}
@@ -184,7 +187,7 @@ module _ (m : List ℕ) (c : Known) (p : ℕ) (of : TypeItem) (q : ℕ) where
 module _ (m : List ℕ) (c : Known) (p : ℕ) where
   pub list_is : LeadAt m p lead.List → (r : Head) → ListMet m (p + 1) Untyped (get_or m p 0) 0x57 0x78 r
       → HolderHeadMet m c p r
-  list_is h = by_code m c p Untyped (p + 1) 0x57 0x78 open_list_law counted few (lead_at_form m p lead.List h)
+  list_is h = by_code m c p Untyped (p + 1) 0x57 0x78 open_list_head counted few (lead_at_form m p lead.List h)
       (λ e. untyped m c p lead.List h (group_numbers 2 0 0) (p + 1) (omega arith) (omega (arith, h.inside))
       (λ u f w. form_open base u c m p h.inside f w e))
       (λ e. by_count m c p Untyped (p + 1)
@@ -235,7 +238,7 @@ module _ (m : List ℕ) (c : Known) (p : ℕ) (r : TypeRead) (t : TypeReadMet m 
     pub typed_list_is : LeadAt m p lead.TypedList → (i : Head) → ListMet m q of (get_or m p 0) 0x55 0x70 i
         → HolderHeadMet m c p i
     typed_list_is h =
-        by_code m c p of q 0x55 0x70 open_typed_law counted_typed_law few_typed_law (lead_at_form m p lead.TypedList h)
+        by_code m c p of q 0x55 0x70 open_typed_head counted_typed_head few_of_type (lead_at_form m p lead.TypedList h)
         (λ e. typed_by_law m c p lead.TypedList h (group_numbers 2 0 0) of q q there (omega arith) there.within
         (λ u f w. form_open_typed base u c m p h.inside f w q there.number (type_rows (p + 1) of)
         (typed_by of (opened c)) reads e))
@@ -276,8 +279,8 @@ module _ (m ks : List ℕ) (p : ℕ) (h : LeadAt m p lead.Object) (z : Kept ks) 
   pub object_short : (get_or m p 0 ≡ 0x4f → ⊥) → (k : ℕ) → k ≡ get_or m p 0 - 0x60 → (i : Head)
       → i ≡ instance_of ks p k (p + 1) → HolderHeadMet m (known_in ks) p i
   object_short y k s =
-      let e : head_of (get_or m p 0) ≡ few_object_law k =
-      lead_at_form m p lead.Object h ∙ pick_false _ _ (ne_eqb (get_or m p 0) 0x4f y) ∙ ap few_object_law (sym s) in
+      let e : head_of (get_or m p 0) ≡ few_fields k =
+      lead_at_form m p lead.Object h ∙ pick_false _ _ (ne_eqb (get_or m p 0) 0x4f y) ∙ ap few_fields (sym s) in
       by_class k (p + 1) (omega arith) (omega (arith, h.inside))
       (λ u f w n c l. form_few_object base u (known_in ks) m p h.inside f w k e n c l)
       (λ u f w l. form_few_object_ungiven base u (known_in ks) m p h.inside f w k e l)

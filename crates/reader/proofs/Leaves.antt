@@ -15,7 +15,7 @@ use Rattle.scalar.specs.declared.Lead.TheVariants as lead
 use Rattle.scalar.specs.Answers.{number_at}
 use Rattle.numbers.specs.Answers.{passed}
 use Rattle.scalar.specs.Scalars.{sort_kind}
-use Rattle.scalar.specs.NumberTheorems.{within_message}
+use Rattle.scalar.proofs.NumberTheorems.{within_message}
 use Rattle.scalar.specs.Answers.{sized, measured_at}
 use Rattle.texts.specs.Answers.{PassedMet, StringHas}
 use Rattle.record.specs.Model.Items.{Known}
@@ -24,11 +24,12 @@ use Rattle.record.specs.Model.Rows.{row}
 use Rattle.record.specs.Model.Claims.{is_text_kind}
 use Rattle.record.specs.Model.Reading.{head_of}
 use Rattle.record.specs.Model.Answers.{base}
-use Rattle.record.specs.ForReader.ReadingAt.{ReadTo, RefusedAt, run, run_byte}
-use Rattle.record.specs.ForReader.ChartHeads.{form_by, form_lead}
-use Rattle.record.specs.ForReader.ReadValues.{leaf_number, leaf_number_lost, leaf_text, leaf_bytes, leaf_string_lost}
-use Rattle.record.specs.ForReader.ReadValues.{reference_got}
-use Rattle.record.specs.ForReader.ReadValues.{reference_ungiven, reference_lost}
+use Rattle.record.specs.ForReader.ReadingAt.{ReadTo, RefusedAt, run}
+use Rattle.record.proofs.ForReader.ReadingAt.{run_byte}
+use Rattle.record.proofs.ForReader.ChartHeads.{form_by, form_lead}
+use Rattle.record.proofs.ForReader.ReadValues.{leaf_number, leaf_number_lost, leaf_text, leaf_bytes, leaf_string_lost}
+use Rattle.record.proofs.ForReader.ReadValues.{reference_got}
+use Rattle.record.proofs.ForReader.ReadValues.{reference_ungiven, reference_lost}
 use Rattle.record.specs.ForReader.ReadDefinitions.{below, plain}
 use Rattle.reader.specs.declared.heads.Head.TheVariants as head
 use Rattle.reader.specs.declared.heads.Count.TheVariants as count

@@ -1,6 +1,5 @@
 -- 2026-06: what the contracts of `lengths` ask, and the sum of rows' lengths.
-use Rattle.std.proofs.Common.{◌≡◌, ℕ, zero, suc, ◌+◌, ◌%◌, ◌^◌, ◌<◌, ◌≤◌, Bool, true, false, ◌&&◌, eqb, List, [], ◌∷◌, map, length, get_or, set, sym, refl, ap, ◌∙◌, subst, arith, w64, Fits, le-ltb, lt-ltb, eqb-true}
-use Rattle.flow.specs.Flow.{pick}
+use Rattle.std.proofs.Common.{◌≡◌, ℕ, zero, suc, ◌+◌, ◌%◌, ◌^◌, ◌<◌, ◌≤◌, Bool, true, false, ◌&&◌, List, [], ◌∷◌, map, length, get_or, set, sym, refl, ap, ◌∙◌, subst, arith, w64, Fits, le-ltb, lt-ltb, eqb-true}
 use Rattle.flow.specs.Tests.{split, by_cases, pick_false}
 use Rattle.scalar.specs.declared.Encoding.{Encoding}
 use Rattle.scalar.specs.declared.Encoding.TheVariants.{Utf8, Binary}
@@ -12,13 +11,13 @@ use Rattle.texts.specs.Answers.{StringHas, shortest_of, PassedLength}
 use Rattle.record.specs.Model.Rows.{Row, row}
 use Rattle.record.specs.Model.Claims.{is_text_kind}
 use Rattle.record.specs.Model.Terms.{at_five_f, first_in_thousandths, row_in_thousandths}
-use Rattle.record.specs.ForReader.ReadingAt.{from, numbered}
+use Rattle.record.specs.ForReader.ReadingAt.{numbered}
 use Rattle.record.specs.Laws.RowLengths.{row_length, length_under, list_length, object_length, few_length, more_length}
-use Rattle.record.specs.Laws.RowLengths.{number_row_length, list_row_length, typed_list_row_length, map_row_length}
-use Rattle.record.specs.Laws.RowLengths.{typed_map_row_length, object_row_length, reference_row_length}
-use Rattle.record.specs.Laws.RowLengths.{class_row_length, type_number_row_length, text_row_length, bytes_row_length}
-use Rattle.record.specs.Laws.RowLengths.{class_name_row_length, field_name_row_length, type_name_row_length}
-use Rattle.record.specs.Laws.RowLengths.{measured_length, row_length_moved, under_moved, number_most}
+use Rattle.record.proofs.Laws.RowLengths.{number_row_length, list_row_length, typed_list_row_length, map_row_length}
+use Rattle.record.proofs.Laws.RowLengths.{typed_map_row_length, object_row_length, reference_row_length}
+use Rattle.record.proofs.Laws.RowLengths.{class_row_length, type_number_row_length, text_row_length, bytes_row_length}
+use Rattle.record.proofs.Laws.RowLengths.{class_name_row_length, field_name_row_length, type_name_row_length}
+use Rattle.record.proofs.Laws.RowLengths.{measured_length, row_length_moved, under_moved, number_most}
 use Rattle.reader.specs.Promises.{OwnLength, RowRead, first_by, add_to, adding, noted, noted_all}
 
 -- ---- a kind between two numbers

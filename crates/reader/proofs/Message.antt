@@ -8,12 +8,14 @@ use Rattle.record.specs.Model.Items.{Known, start}
 use Rattle.record.specs.Model.Reading.{Opening, value_from}
 use Rattle.record.specs.Model.Rows.{Row}
 use Rattle.record.specs.Model.Answers.{ReadResult, Accept, Refuse, read, base, as_numbers, as_bytes, read_numbers}
-use Rattle.record.specs.Model.Answers.{filled, lent_rows, base_open_from, length_answered, shortest_length}
+use Rattle.record.specs.Model.Answers.{filled, lent_rows, base_open_from, length_answered}
 use Rattle.record.specs.Model.Calls.{ReadCall, MeasuredCall}
-use Rattle.record.specs.ForReader.ReadingAt.{ReadingAt, ReadTo, RefusedAt, run, on, on_same, numbered, numbered_length}
-use Rattle.record.specs.ForReader.ReadLoops.{rest, rest_step, rest_stop}
-use Rattle.record.specs.ForReader.ReadMessages.{read_empty, read_long, read_lost, read_over, read_small, read_got}
-use Rattle.record.specs.ForReader.ReadLengths.{length_read_law, length_refused}
+use Rattle.record.specs.ForReader.ReadingAt.{ReadingAt, ReadTo, RefusedAt, run, on, numbered}
+use Rattle.record.proofs.ForReader.ReadingAt.{on_same, numbered_length}
+use Rattle.record.specs.ForReader.ReadLoops.{rest}
+use Rattle.record.proofs.ForReader.ReadLoops.{rest_step, rest_stop}
+use Rattle.record.proofs.ForReader.ReadMessages.{read_empty, read_long, read_lost, read_over, read_small, read_got}
+use Rattle.record.proofs.ForReader.ReadLengths.{length_read_law, length_refused}
 use Rattle.reader.specs.declared.Spot.{Spot}
 use Rattle.reader.specs.declared.values.ValuesRead.{ValuesRead}
 use Rattle.reader.specs.declared.values.ValuesRead.TheVariants as values-read
@@ -190,12 +192,12 @@ module _ (m : List ℕ) (bytes : (i : ℕ) → Fits w8 (get_or m i 0)) (u : List
         }
 
     module _ (n : ℕ) (e : r ≡ judged.Record n) where
-      record_of_law : IsRecord m u n u'
-      record_of_law = judged_says (judged.Record n) e
+      the_record : IsRecord m u n u'
+      the_record = judged_says (judged.Record n) e
 
       pub into_few : lent < n → ReadIntoMet m t b u lent (answer.TooFew n) t b u'
       into_few l =
-          let w = record_of_law in
+          let w = the_record in
           let h : read Floats base lent m ≡ Refuse 9 n 0 =
           read_small base lent m w.some w.short (length m) w.rows w.after w.says
           (omega arith) (omega (arith, w.counted))
@@ -212,9 +214,9 @@ module _ (m : List ℕ) (bytes : (i : ℕ) → Fits w8 (get_or m i 0)) (u : List
           → ReadIntoMet m t b u lent (answer.Accepted n (length m)) t' b' u'
       into_record l room v t' b' x = go v x.met.says
         where
-          h : read Floats base lent m ≡ Accept (numbered 0 record_of_law.rows) (length m)
+          h : read Floats base lent m ≡ Accept (numbered 0 the_record.rows) (length m)
           h =
-              let w = record_of_law in
+              let w = the_record in
               read_got base lent m w.some w.short (length m) w.rows w.after w.says
               (omega arith) (omega (arith, w.counted))
 
@@ -222,11 +224,11 @@ module _ (m : List ℕ) (bytes : (i : ℕ) → Fits w8 (get_or m i 0)) (u : List
               → ReadIntoMet m t b u lent (answer.Accepted n (length m)) t' b' u'
           go (values-read.Refused y o) s =
               let i = single_lost (value_from Floats base base.containers) start m 0 y o s in
-              let j = record_of_law.says in
+              let j = the_record.says in
               let z : ◌≡◌ {A = ℕ} 0 1 = cc in
               absurd (omega arith)
           go (values-read.Done q i) s =
-              let w = record_of_law in
+              let w = the_record in
               let g =
               single_got (value_from Floats base base.containers) start m 0 q.at i
               s.rows (known_in x.after) s.says in

@@ -1,7 +1,5 @@
 -- What the contracts of `begin` and `read_values` ask at each of their ways out.
 use Rattle.std.proofs.Common.{◌≡◌, ℕ, suc, ◌+◌, ◌-◌, ◌^◌, ◌<◌, ◌≤◌, Bool, true, false, List, [], ◌∷◌, ◌++◌, length, get_or, sym, refl, ap, ◌∙◌, subst, ap₂, append-nil, arith, length-append}
-use types.Run.{OneOf, miss}
-use denote.Enum.Declared.{tag_of}
 use Rattle.scalar.specs.Scalars.{Floats}
 use Rattle.flow.specs.Flow.{One, byte_at}
 use Rattle.record.specs.declared.Group.{Group}
@@ -9,12 +7,14 @@ use Rattle.record.specs.Model.Items.{Known}
 use Rattle.record.specs.Model.Reading.{value_from}
 use Rattle.record.specs.Model.Rows.{Row, row, item_row}
 use Rattle.record.specs.Model.Answers.{base}
-use Rattle.record.specs.ForReader.ReadingAt.{ReadingAt, ReadTo, RefusedAt, run, front, on, topped, front_none}
-use Rattle.record.specs.ForReader.ReadingAt.{front_front, from_item}
-use Rattle.record.specs.ForReader.ReadLoops.{rest, stops, past, parts, Room, room_first, room_next, past_within}
-use Rattle.record.specs.ForReader.ReadLoops.{rest_stop, rest_step}
+use Rattle.record.specs.ForReader.ReadingAt.{ReadingAt, ReadTo, RefusedAt, run, front, on, topped}
+use Rattle.record.proofs.ForReader.ReadingAt.{front_none}
+use Rattle.record.proofs.ForReader.ReadingAt.{front_front, from_item}
+use Rattle.record.specs.ForReader.ReadLoops.{rest, stops, past, parts}
+use Rattle.record.proofs.ForReader.ReadLoops.{Room, room_first, room_next, past_within}
+use Rattle.record.proofs.ForReader.ReadLoops.{rest_stop, rest_step}
 use Rattle.record.specs.ForReader.ReadValues.{heading}
-use Rattle.record.specs.ForReader.ReadDefinitions.{value_plain}
+use Rattle.record.proofs.ForReader.ReadDefinitions.{value_plain}
 use Rattle.scalar.specs.declared.Lead.TheVariants as lead
 use Rattle.reader.specs.declared.Spot.{Spot}
 use Rattle.reader.specs.declared.heads.TypeItem.{TypeItem}
@@ -33,15 +33,10 @@ use Rattle.reader.specs.Promises.{type_of, type_rows, EntersHolder, holder_read,
 use Rattle.reader.specs.Promises.{NoDefinition, HeadAtSays, HeadAtMet, DefinitionReadMet}
 use Rattle.reader.specs.Promises.{HeadNeeds, HeadRows, HeadFits, ByHeadSays, ByHeadMet, ReadsToValues}
 use Rattle.reader.specs.Promises.{BeginningSays, BeginningMet, ValuesAre, ValuesReadSays, ValuesReadMet}
-use Rattle.reader.specs.contracts.heads.Head.{the_type}
 use Rattle.reader.proofs.ClassDefinitions.{ReadingDefinitions, definitions_refused, definitions_forward}
 use Rattle.reader.proofs.ClassDefinitions.{definitions_more}
 use Rattle.reader.proofs.Tables.{stores_on, stores_top, stores_numbers_length, stores_bytes_length, reads_none}
 use Rattle.reader.proofs.Tables.{reads_on}
-
--- a head's variants but for a definition
-abbrev values_only : List ℕ
-values_only = 0 ∷ 1 ∷ 3 ∷ []
 
 -- ---- begin, after the definitions up to s
 module _ {m t₀ b₀ ks₀ : List ℕ} {s₀ : Spot} {t b ks : List ℕ} {s : Spot}
@@ -130,47 +125,47 @@ module _ {m t₀ b₀ ks₀ : List ℕ} {s₀ : Spot} {t b ks : List ℕ} {s : S
         pub begin_more : (s' : Spot) → x ≡ definition-read.Done s' → ReadingDefinitions m t₀ b₀ ks₀ s₀ t' b' ks' s'
         begin_more s' j = definitions_more R begin_defined.0 i s' j
 
-    module _ (o : OneOf values_only (tag_of the_type h)) where
-      pub begin_fits : length m < 2 ^ 64 → HeadFits m ks s h
-      begin_fits f = record { fits = go h z.says o; named = rows h z.says }
-        where
-          w : ReadyAt m ks s
-          w = R.reads.ready
+    pub begin_fits : length m < 2 ^ 64 → HeadFits m ks s h
+    begin_fits f = record { fits = go h z.says; named = rows h z.says }
+      where
+        w : ReadyAt m ks s
+        w = R.reads.ready
 
-          rows : (h : Head) → HeadAtSays m (known_in ks) s.at d h → HeadRows m s.at h
-          rows (head.Leaf k x y q) v = v.0.named
-          rows (head.Holder g q of) v = v.0.named
-          rows head.Definition v = tt
-          rows (head.Refused x y) v = tt
+        rows : (h : Head) → HeadAtSays m (known_in ks) s.at d h → HeadRows m s.at h
+        rows (head.Leaf k x y q) v = v.0.named
+        rows (head.Holder g q of) v = v.0.named
+        rows head.Definition v = tt
+        rows (head.Refused x y) v = tt
 
-          go : (h : Head) → HeadAtSays m (known_in ks) s.at d h → OneOf values_only (tag_of the_type h)
-              → HeadNeeds ks s h
-          go (head.Leaf k x y q) v o = omega (arith, v.0.goes.0, v.0.goes.1, w.rows_few)
-          go (head.Holder g q of) v o =
-              let y = v.0.goes in
-              record {
-                kept = w.kept;
-                room = y.1;
-                references_few = w.references_few;
-                rows_few = w.rows_few;
-                longer = y.2;
-                fits = omega (arith, y.3);
-              }
-          go head.Definition v o = tt
-          go (head.Refused x y) v o = tt
+        go : (h : Head) → HeadAtSays m (known_in ks) s.at d h → HeadNeeds ks s h
+        go (head.Leaf k x y q) v = omega (arith, v.0.goes.0, v.0.goes.1, w.rows_few)
+        go (head.Holder g q of) v =
+            let y = v.0.goes in
+            record {
+              kept = w.kept;
+              room = y.1;
+              references_few = w.references_few;
+              rows_few = w.rows_few;
+              longer = y.2;
+              fits = omega (arith, y.3);
+            }
+        go head.Definition v = tt
+        go (head.Refused x y) v = tt
 
-      pub begin_begun : (r : Beginning) (t' b' ks' : List ℕ) → ByHeadMet m t b ks s h r t' b' ks'
-          → BeginningMet m t₀ b₀ ks₀ s₀ d r t' b' ks'
-      begin_begun r t' b' ks' a = go h z.says o a.says
-        where
-          go : (h : Head) → HeadAtSays m (known_in ks) s.at d h → OneOf values_only (tag_of the_type h)
-              → ByHeadSays m t b ks s h r t' b' ks' → BeginningMet m t₀ b₀ ks₀ s₀ d r t' b' ks'
-          go (head.Leaf k x y q) v o e = rw (e.0, e.1) (leaf_begun k x y q v.0 v.1 t' b' e.2)
-          go (head.Holder g q of) v o e =
-              let u = e.0 in
-              rw u.is (holder_begun g q of v.0 v.1 u.more ks' u.entered t' b' e.1)
-          go head.Definition v o e = absurd (miss values_only 2 tt o)
-          go (head.Refused x y) v o e = rw e (record { says = by_head (head.Refused x y) v.0 v.1 })
+    -- where it is no definition
+    pub begin_begun : (h ≡ head.Definition → ⊥)
+        → (r : Beginning) (t' b' ks' : List ℕ) → ByHeadMet m t b ks s h r t' b' ks'
+        → BeginningMet m t₀ b₀ ks₀ s₀ d r t' b' ks'
+    begin_begun o r t' b' ks' a = go h z.says o a.says
+      where
+        go : (h : Head) → HeadAtSays m (known_in ks) s.at d h → (h ≡ head.Definition → ⊥)
+            → ByHeadSays m t b ks s h r t' b' ks' → BeginningMet m t₀ b₀ ks₀ s₀ d r t' b' ks'
+        go (head.Leaf k x y q) v o e = rw (e.0, e.1) (leaf_begun k x y q v.0 v.1 t' b' e.2)
+        go (head.Holder g q of) v o e =
+            let u = e.0 in
+            rw u.is (holder_begun g q of v.0 v.1 u.more ks' u.entered t' b' e.1)
+        go head.Definition v o e = absurd (o refl)
+        go (head.Refused x y) v o e = rw e (record { says = by_head (head.Refused x y) v.0 v.1 })
 
 -- ---- a value, when the values inside it are read
 module _ {o : ReadingAt One} {m t b : List ℕ} {s : Spot} {d : ℕ}

@@ -7,11 +7,11 @@ use Rattle.texts.specs.declared.StringPassed.{StringPassed}
 use Rattle.texts.specs.declared.StringPassed.TheVariants.{Content}
 use Rattle.scalar.specs.declared.Encoding.TheVariants.{Binary}
 use Rattle.scalar.specs.Scalars.{string_at, units}
-use Rattle.scalar.specs.TextUnits.{singles}
+use Rattle.scalar.proofs.TextUnits.{singles}
 use Rattle.scalar.specs.Answers.{Sizes, sized, sizes, measured_at}
-use Rattle.scalar.specs.AnswerLaws.{measured_fault, measured_done}
+use Rattle.scalar.proofs.AnswerLaws.{measured_fault, measured_done}
 use Rattle.texts.specs.Answers.{StringIs, PassedSays, PassedMet, StringHas}
-use Rattle.scalar.specs.TextTheorems.{text_within}
+use Rattle.scalar.proofs.TextTheorems.{text_within}
 
 pub measured_within : (k : Encoding) (m : List ℕ) → Bytes m → (p n u b w : ℕ)
     → measured_at k m p ≡ Done n (sized u b w) [] tt → (0 < n) × (p + n ≤ length m)

@@ -7,7 +7,7 @@ use Rattle.wire.specs.BigEndian.{be}
 use Rattle.wire.specs.Laws.{be_length}
 use Rattle.record.specs.Model.Rows.{Row, row}
 use Rattle.record.specs.Model.Answers.{as_numbers, as_bytes, lent_rows}
-use Rattle.record.specs.Laws.TableLaws.{bytes_sized}
+use Rattle.record.proofs.Laws.TableLaws.{bytes_sized}
 use Rattle.reader.specs.Promises.{adding, noted, noted_all, StoresRow}
 use Rattle.reader.proofs.Tables.{numbers_sized}
 

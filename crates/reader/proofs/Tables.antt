@@ -6,8 +6,9 @@ use Rattle.scalar.specs.Scalars.{Floats, Thousandths}
 use Rattle.record.specs.Model.Rows.{Row, row}
 use Rattle.record.specs.Model.Answers.{as_numbers, as_bytes, lent_rows}
 use Rattle.record.specs.Laws.RowLengths.{length_under}
-use Rattle.record.specs.ForReader.ReadingAt.{from, numbered, numbered_append, numbered_length}
-use Rattle.record.specs.Laws.TableLaws.{bytes_sized}
+use Rattle.record.specs.ForReader.ReadingAt.{from, numbered}
+use Rattle.record.proofs.ForReader.ReadingAt.{numbered_append, numbered_length}
+use Rattle.record.proofs.Laws.TableLaws.{bytes_sized}
 use Rattle.reader.specs.declared.Spot.{Spot}
 use Rattle.reader.specs.Promises.{add_to, noted, noted_all, StoresRow, StoresRows, ReadyAt, ReadsRows}
 

@@ -1,8 +1,8 @@
 -- What the contracts of `thousandths` and of the functions that read by its rule ask: a row by itself, a row more, and
 -- the answer.
-use Rattle.std.proofs.Common.{◌≡◌, ℕ, ◌+◌, ◌-◌, ◌*◌, ◌<◌, ◌≤◌, Bool, true, false, ◌&&◌, eqb, leb, List, map, length, get_or, take, drop, replicate, sym, refl, ap, ◌∙◌, subst, arith, get_or-drop, get_or-take, w8, w32, Fits, to_z, eq-eqb, ne_eqb, le-leb}
+use Rattle.std.proofs.Common.{◌≡◌, ℕ, ◌+◌, ◌-◌, ◌*◌, ◌<◌, ◌≤◌, Bool, true, false, ◌&&◌, eqb, List, length, get_or, take, drop, replicate, sym, refl, ap, ◌∙◌, subst, arith, get_or-drop, get_or-take, w8, w32, Fits, to_z, eq-eqb, ne_eqb, le-leb}
 use borrow.Author.Tests.{lt-leb}
-use Rattle.flow.specs.Flow.{put, overlay}
+use Rattle.flow.specs.Flow.{put}
 use Rattle.flow.specs.Tests.{pick_true, pick_false}
 use Rattle.flow.specs.OverlayLaws.{length_put}
 use Rattle.wire.specs.BigEndian.{joined, eight_at}
@@ -11,12 +11,12 @@ use Rattle.record.specs.Model.Rows.{Row, row}
 use Rattle.record.specs.Model.Answers.{Layout, base, base_open_from, as_numbers, as_bytes, lent_rows, read, length_answered}
 use Rattle.record.specs.Model.Answers.{shortest_length}
 use Rattle.record.specs.Model.Calls.{Keeps, ReadCall, MeasuredCall}
-use Rattle.record.specs.Laws.TableLaws.{numbers_keep, bytes_keep}
-use Rattle.record.specs.Laws.ThousandthRows.{length_in_thousandths}
+use Rattle.record.proofs.Laws.TableLaws.{numbers_keep, bytes_keep}
+use Rattle.record.proofs.Laws.ThousandthRows.{length_in_thousandths}
 use Rattle.record.specs.Model.Terms.{first_in_thousandths, row_in_thousandths}
-use Rattle.record.specs.ForReader.Retelling.{HeldRows, retold_to, retold_start, retold_length, retold_row, retold_next}
-use Rattle.record.specs.ForReader.Retelling.{retold_all, held_room, refused_call, accepted_held, accepted_call}
-use Rattle.reader.specs.declared.ReadAnswer.{ReadAnswer}
+use Rattle.record.specs.ForReader.Retelling.{HeldRows}
+use Rattle.record.proofs.ForReader.Retelling.{retold_to, retold_start, retold_row, retold_next}
+use Rattle.record.proofs.ForReader.Retelling.{retold_all, held_room, refused_call, accepted_held, accepted_call}
 use Rattle.reader.specs.declared.ReadAnswer.TheVariants.{Accepted, Refused, TooFew}
 use Rattle.reader.specs.declared.FillAnswer.{FillAnswer}
 use Rattle.reader.specs.declared.FillAnswer.TheVariants as fill

@@ -12,15 +12,15 @@ use Rattle.scalar.specs.Chart.{lead_of, kind_of}
 use Rattle.scalar.specs.Answers.{number_at}
 use Rattle.scalar.specs.Chart.{entry}
 use Rattle.numbers.specs.Answers.{passed}
-use Rattle.scalar.specs.ChartLaws.{kind_is, kind_of_text, entry_parts}
-use Rattle.scalar.specs.ByChart.{text_told, text_there}
+use Rattle.scalar.proofs.ChartLaws.{kind_is, kind_of_text, entry_parts}
+use Rattle.scalar.proofs.ByChart.{text_told, text_there}
 use Rattle.texts.specs.Answers.{PassedMet}
 use Rattle.record.specs.Model.Items.{typed}
 use Rattle.record.specs.Model.Rows.{row}
 use Rattle.record.specs.Model.Answers.{base}
 use Rattle.record.specs.ForReader.ReadingAt.{ReadTo}
-use Rattle.record.specs.ForReader.ReadParts.{type_end, type_full, type_name_law, type_name_lost, type_number_law, type_ungiven}
-use Rattle.record.specs.ForReader.ReadParts.{type_number_lost}
+use Rattle.record.proofs.ForReader.ReadParts.{type_end, type_full, type_spelled, type_name_lost, type_numbered, type_ungiven}
+use Rattle.record.proofs.ForReader.ReadParts.{type_number_lost}
 use Rattle.reader.specs.declared.heads.TypeItem.TheVariants.{Named, Numbered}
 use Rattle.reader.specs.declared.heads.TypeRead.TheVariants as type-read
 use Rattle.reader.specs.Promises.{PlaceIn, LeadAt, NoName, TypeReadMet}
@@ -51,7 +51,7 @@ module _ (m : List ℕ) (given p : ℕ) (h : LeadAt m p lead.Text) where
             number = given;
             numbered = refl;
             says = λ c e.
-                type_name_law base c m p h.inside is_text_law (omega arith) n u b _ (string_is Utf8 m p r t u b n q)
+                type_spelled base c m p h.inside is_text_law (omega arith) n u b _ (string_is Utf8 m p r t u b n q)
                 ∙ ap (λ (k : ℕ). ReadTo (p + n) k (row 18 p u b 1 ∷ []) (typed c)) e;
             room = l;
             longer = omega (arith, w.0);
@@ -74,7 +74,7 @@ module _ (m : List ℕ) (given p : ℕ) (h : NoName m p) (r : NumberPassed) (t :
           says = record {
             number = v;
             numbered = refl;
-            says = λ c e. type_number_law base c m p h.inside h.lead n v (number_is Int m p r t v n q) (omega arith);
+            says = λ c e. type_numbered base c m p h.inside h.lead n v (number_is Int m p r t v n q) (omega arith);
             room = tt;
             longer = omega (arith, w.0);
             within = w.1;

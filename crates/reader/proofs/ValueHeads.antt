@@ -1,6 +1,6 @@
 -- A value's head by its first byte: what the contracts of `opening`, `high_head` and `head_at_law` ask at each way out, one
 -- law for each.
-use Rattle.std.proofs.Common.{◌≡◌, ℕ, ◌+◌, ◌-◌, ◌<◌, ◌≤◌, false, T, eqb, List, [], ◌∷◌, length, get_or, sym, refl, ap, ◌∙◌, subst, arith, ne_eqb}
+use Rattle.std.proofs.Common.{◌≡◌, ℕ, ◌+◌, ◌<◌, ◌≤◌, false, T, eqb, List, [], ◌∷◌, length, get_or, sym, refl, ap, ◌∙◌, subst, arith, ne_eqb}
 use types.Run.{OneOf, miss}
 use denote.Enum.Declared.{tag_of}
 use Rattle.flow.specs.Tests.{pick_either}
@@ -9,16 +9,17 @@ use Rattle.scalar.specs.declared.Sort.TheVariants.{Int, Long}
 use Rattle.scalar.specs.declared.Lead.{Lead}
 use Rattle.scalar.specs.declared.Lead.TheVariants as lead
 use Rattle.scalar.specs.Chart.{lead_of}
-use Rattle.scalar.specs.ChartLaws.{int_lead, long_lead, text_lead, definition_lead}
-use Rattle.scalar.specs.ScalarLaws.{is_scalar, close_shut, reserved_shut}
+use Rattle.scalar.proofs.ChartLaws.{int_lead, long_lead, text_lead, definition_lead}
+use Rattle.scalar.proofs.ScalarLaws.{is_scalar, close_shut, reserved_shut}
 use Rattle.scalar.specs.contracts.Lead.{the_type}
 use Rattle.record.specs.Model.Items.{Known}
 use Rattle.record.specs.Model.Reading.{ValueHead, leaf}
 use Rattle.record.specs.Model.Answers.{base}
-use Rattle.record.specs.ForReader.ReadingAt.{run_end}
-use Rattle.record.specs.ForReader.ChartHeads.{form_by}
-use Rattle.record.specs.ForReader.ReadValues.{holds, form_full, leaf_none}
-use Rattle.record.specs.ForReader.ReadDefinitions.{below, below_none, plain}
+use Rattle.record.proofs.ForReader.ReadingAt.{run_end}
+use Rattle.record.proofs.ForReader.ChartHeads.{form_by}
+use Rattle.record.proofs.ForReader.ReadValues.{holds, form_full, leaf_none}
+use Rattle.record.specs.ForReader.ReadDefinitions.{below, plain}
+use Rattle.record.proofs.ForReader.ReadDefinitions.{below_none}
 use Rattle.reader.specs.declared.heads.TypeItem.TheVariants.{Untyped}
 use Rattle.reader.specs.declared.heads.Head.{Head}
 use Rattle.reader.specs.declared.heads.Head.TheVariants as head

@@ -1,18 +1,17 @@
 -- A call's answer is known by its report and its length: an accepted message has a row, and refusal 9 counts at least
 -- one, so that an accepted message or a refusal 9 is never told as another refusal.
-use Rattle.std.specs.Prelude.{◌≡◌, ℕ, ◌<◌, ◌≤◌, cond, List, length, ◌==◌, refl}
-use Rattle.std.proofs.Common.{sym, ap, ◌∙◌, arith, ne_eqb}
+use Rattle.std.specs.Prelude.{◌≡◌, ℕ, ◌<◌, ◌≤◌, cond, List, ◌==◌, refl}
+use Rattle.std.proofs.Common.{ap, arith, ne_eqb}
 use Rattle.flow.specs.RefusalNumbers.{no_room}
 use Rattle.flow.specs.Flow.{Report}
 use Rattle.scalar.specs.Scalars.{DoubleRule}
-use Rattle.record.specs.Model.Items.{Item, Limits}
+use Rattle.record.specs.Model.Items.{Limits}
 use Rattle.record.specs.Model.Answers.{Layout}
-use Rattle.record.specs.Model.Terms.{Accepts}
 use Rattle.record.specs.Model.Calls.{ReadCall}
-use Rattle.record.specs.Laws.Refusals.{located_numbered}
-use Rattle.record.specs.ForReader.ReadMessages.{rows_length}
-use Rattle.record.specs.Theorems.AnswerTheorems.{accepted_some}
-use Rattle.record.specs.Theorems.CallCases.{ReadCases, misfit, faulty, few_rows, whole, read_cases, entries_length}
+use Rattle.record.proofs.Laws.Refusals.{located_numbered}
+use Rattle.record.proofs.ForReader.ReadMessages.{rows_length}
+use Rattle.record.proofs.Theorems.AnswerTheorems.{accepted_some}
+use Rattle.record.proofs.Theorems.CallCases.{ReadCases, misfit, faulty, few_rows, whole, read_cases, entries_length}
 use Rattle.reader.specs.declared.ReadAnswer.{ReadAnswer}
 use Rattle.reader.specs.declared.ReadAnswer.TheVariants.{Accepted, Refused, TooFew}
 use Rattle.reader.specs.Answers.{report, shortest}

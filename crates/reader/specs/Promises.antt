@@ -22,7 +22,7 @@ use Rattle.record.specs.declared.Group.TheVariants.{Counted, Fields, Open, Pairs
 use Rattle.record.specs.Model.Kinds.{bytes_kind, class_name_kind, type_name_kind, type_number_kind}
 use Rattle.record.specs.Model.Items.{Definition, Known, start, opened, typed, defined}
 use Rattle.record.specs.Model.Reading.{type_from, definition, value_from}
-use Rattle.record.specs.Model.Rows.{Row, row, item_row}
+use Rattle.record.specs.Model.Rows.{Row, row}
 use Rattle.record.specs.Model.Claims.{is_text_kind}
 use Rattle.record.specs.Model.Answers.{Layout, Refuse, read, base, base_open_from, as_numbers, as_bytes, read_numbers}
 use Rattle.record.specs.Model.Answers.{lent_rows, filled, shortest_length, length_answered}

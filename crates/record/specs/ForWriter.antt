@@ -1,5 +1,4 @@
 pub mod BareItems
-pub mod RowItems
 pub mod WritingAt
 pub mod WrittenContents
 pub mod WrittenItems

@@ -1,20 +1,21 @@
 -- What write_content's contract asks at each way out.
 use mathlib.Core.Path.{◌≡◌, refl, sym, ◌∙◌, ap, subst}
 use mathlib.Core.List.{List}
-use mathlib.Core.Option.{none, some}
-use Prim.Native.Nat.{ℕ, ◌+◌, ◌^◌, ◌≤◌, ◌<◌}
+use mathlib.Core.Option.{some}
+use Prim.Native.Nat.{ℕ, ◌^◌, ◌≤◌, ◌<◌}
 use native.Mathlib.Omega.{arith}
 use lib.ListN.{length}
 use lib.Seq.{take-length}
 use Rattle.flow.specs.Steps.{Answer}
-use Rattle.flow.specs.Flow.{Done, Fault, stored, reported}
+use Rattle.flow.specs.Flow.{Done, Fault, reported}
 use Rattle.flow.specs.OverlayLaws.{stored_out}
 use Rattle.scalar.specs.declared.Encoding.{Encoding}
 use Rattle.scalar.specs.Scalars.{units, fitting, string_at}
-use Rattle.scalar.specs.TextUnits.{weights, weights_length}
-use Rattle.scalar.specs.Greedy.{span_fits}
+use Rattle.scalar.specs.TextUnits.{weights}
+use Rattle.scalar.proofs.TextUnits.{weights_length}
+use Rattle.scalar.proofs.Greedy.{span_fits}
 use Rattle.scalar.specs.Answers.{content_read, report_of, output_of}
-use Rattle.scalar.specs.AnswerLaws.{report_none, report_stored, report_over, output_none, output_some}
+use Rattle.scalar.proofs.AnswerLaws.{report_none, report_stored, report_over, output_none, output_some}
 use Rattle.text_writer.specs.declared.Cursor.{Cursor}
 use Rattle.text_writer.specs.declared.Copied.{Copied}
 use Rattle.text_writer.specs.declared.Found.{Found}

@@ -26,18 +26,18 @@ use Rattle.text_writer.specs.declared.Found.{Found}
 use Rattle.text_writer.specs.declared.Found.TheVariants.{There, Nothing}
 use Rattle.scalar.specs.Answers.{report_of, output_of, length_of}
 use Rattle.scalar.specs.Scalars.{units, string_at}
-use Rattle.scalar.specs.TextTheorems.{string_parsed, text_no_shorter, text_within}
-use Rattle.scalar.specs.TextUnits.{units_append}
-use Rattle.scalar.specs.Bits.{content_length, string_few}
+use Rattle.scalar.proofs.TextTheorems.{string_parsed, text_no_shorter, text_within}
+use Rattle.scalar.proofs.TextUnits.{units_append}
+use Rattle.scalar.proofs.Bits.{content_length, string_few}
 use Rattle.scalar.specs.Answers.{Sizes, sized, sizes, measured_at}
 use Rattle.texts.specs.Answers.{told_string, prefixed, ChunkMet, Joining}
-use Rattle.scalar.specs.TextAt.{string_ends}
+use Rattle.scalar.proofs.TextAt.{string_ends}
 use Rattle.text_writer.specs.Cursor.{opening, opens_chunk}
 use Rattle.scalar.specs.Answers.{item_form, sized_form}
-use Rattle.scalar.specs.AnswerLaws.{report_none, report_stored, report_over, output_none, output_some}
-use Rattle.scalar.specs.AnswerLaws.{length_none, length_some, measured_as, item_fault, item_done}
-use Rattle.scalar.specs.AnswerLaws.{sized_fault, sized_both, sized_other_units, sized_other_bytes}
-use Rattle.scalar.specs.TextShort.{shortest_spelled}
+use Rattle.scalar.proofs.AnswerLaws.{report_none, report_stored, report_over, output_none, output_some}
+use Rattle.scalar.proofs.AnswerLaws.{length_none, length_some, measured_as, item_fault, item_done}
+use Rattle.scalar.proofs.AnswerLaws.{sized_fault, sized_both, sized_other_units, sized_other_bytes}
+use Rattle.scalar.proofs.TextShort.{shortest_spelled}
 use Rattle.text_writer.specs.Writing.{IsDone, Opens, laid, Item, FoundSays, FoundMet, Lays}
 use Rattle.texts.proofs.Strings.{chunk_says, joining_start, joining_last, joining_more}
 

@@ -18,9 +18,11 @@ use Rattle.scalar.specs.declared.Encoding.TheVariants.{Utf8, Binary}
 use Rattle.text_writer.specs.declared.Cursor.{Cursor}
 use Rattle.text_writer.specs.declared.Piece.{Piece}
 use Rattle.scalar.specs.Scalars.{paired, weight, total}
-use Rattle.scalar.specs.TextUnits.{weights, weights_append}
-use Rattle.scalar.specs.Pairs.{paired_be}
-use Rattle.scalar.specs.Decoded.{decoded, other_byte, pair_in, four_in, pair_first, byte_first, four_length, four_weights}
+use Rattle.scalar.specs.TextUnits.{weights}
+use Rattle.scalar.proofs.TextUnits.{weights_append}
+use Rattle.scalar.proofs.Pairs.{paired_be}
+use Rattle.scalar.specs.Decoded.{decoded, pair_in, four_in}
+use Rattle.scalar.proofs.Decoded.{other_byte, pair_first, byte_first, four_length, four_weights}
 use Rattle.text_writer.specs.Cursor.{window_length, window_at, left_of, piece_plain, piece_singles}
 use Rattle.text_writer.specs.Writing.{window, bytes_left, pair_at, Going, singles_at, PieceMet, NextMet}
 

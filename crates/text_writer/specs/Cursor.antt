@@ -17,9 +17,11 @@ use Rattle.text_writer.specs.declared.Cursor.{Cursor}
 use Rattle.text_writer.specs.declared.Piece.{Piece}
 use Rattle.text_writer.specs.declared.Copied.{Copied}
 use Rattle.scalar.specs.Scalars.{weight, total, units, fitting, string_at}
-use Rattle.scalar.specs.TextUnits.{weights, weights_append, weights_length, singles, single_low, units_append}
-use Rattle.scalar.specs.Greedy.{span_cut, span_most, span_fits}
-use Rattle.scalar.specs.Decoded.{decoded, run_decoded, plain_same, plain_drop, plain_run}
+use Rattle.scalar.specs.TextUnits.{weights}
+use Rattle.scalar.proofs.TextUnits.{weights_append, weights_length, singles, single_low, units_append}
+use Rattle.scalar.proofs.Greedy.{span_cut, span_most, span_fits}
+use Rattle.scalar.specs.Decoded.{decoded}
+use Rattle.scalar.proofs.Decoded.{run_decoded, plain_same, plain_drop, plain_run}
 use Rattle.texts.specs.Ascii.{few_are, ascii_are}
 use Rattle.texts.specs.Answers.{prefixed, ChunkSays}
 use Rattle.text_writer.specs.Writing.{content_of, IsDone, window, bytes_left, rest, Going, Opens, singles_at}

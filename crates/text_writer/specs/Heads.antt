@@ -7,9 +7,9 @@ use Rattle.scalar.specs.declared.Rule.TheVariants.{Plain}
 use Rattle.scalar.specs.declared.Encoding.{Encoding}
 use Rattle.text_writer.specs.declared.Heads.{Heads}
 use Rattle.scalar.specs.Scalars.{Form, form, shortest, part_head, last_heads, shortest_head}
-use Rattle.scalar.specs.RuleLaws.{value_plain, guess_plain}
-use Rattle.scalar.specs.FormLaws.{shortest_first}
-use Rattle.scalar.specs.TextShort.{or_empty}
+use Rattle.scalar.proofs.RuleLaws.{value_plain, guess_plain}
+use Rattle.scalar.proofs.FormLaws.{shortest_first}
+use Rattle.scalar.proofs.TextShort.{or_empty}
 use Rattle.text_writer.specs.Writing.{HeadsOf}
 
 -- a number whose highest byte is a and what u has above its k lowest bytes

@@ -13,9 +13,10 @@ use Rattle.scalar.specs.declared.Encoding.{Encoding}
 use Rattle.text_writer.specs.declared.Cursor.{Cursor}
 use Rattle.text_writer.specs.declared.Copied.{Copied}
 use Rattle.scalar.specs.Scalars.{part_head, last_heads, units, fitting, shortest_head, spelled, string_at}
-use Rattle.scalar.specs.TextUnits.{weights, weights_length, units_append}
-use Rattle.scalar.specs.TextShort.{longest_is, front_fits, rest_shorter}
-use Rattle.scalar.specs.Greedy.{span_fits}
+use Rattle.scalar.specs.TextUnits.{weights}
+use Rattle.scalar.proofs.TextUnits.{weights_length, units_append}
+use Rattle.scalar.proofs.TextShort.{longest_is, front_fits, rest_shorter}
+use Rattle.scalar.proofs.Greedy.{span_fits}
 use Rattle.text_writer.specs.Cursor.{moved, left_of, all_copied, plain_inside, copies_plain}
 use Rattle.text_writer.specs.Writing.{content_of, rest, Going, Spans, Copyable, Copies, CopyMet, laid, Item, Lays}
 

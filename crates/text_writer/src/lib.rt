@@ -129,6 +129,7 @@ fn singles(kind: Encoding, source: &[u8], at: usize, most: usize) -> usize
 }
 
 // Whether a pair of halves begins the bytes of a text that are left, as far as its first two bytes say.
+#[tactic(auto, using(crate::proofs::Pieces::pair_short))]
 fn pair_here(source: &[u8], here: usize, left: usize) -> bool
     requires { here + left ≤ length source.now }
     ensures { result ≡ pair_in Encoding.Utf8 (window source.now here left) }

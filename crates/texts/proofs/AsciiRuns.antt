@@ -30,7 +30,7 @@ passing_ascii {n} {m} {at} {p} {b = c} left (suc r) R l h x =
     let e : p + 1 + r ≡ p + suc r = omega arith in
     let f : c + 1 + r ≡ c + suc r = omega arith in
     rw (d, e, f) at
-    (passing_ascii (left - 1) r (passing_more R 1 1 1 s (omega arith) (omega arith) (omega arith)) (omega arith)
+    (passing_ascii {p = p + 1} (left - 1) r (passing_more R 1 1 1 s (omega arith) (omega arith) (omega arith)) (omega arith)
     (omega arith) rest)
   where
     rest : Ascii m (p + 1) r

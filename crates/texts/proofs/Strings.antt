@@ -26,22 +26,24 @@ use Rattle.texts.specs.declared.ChunkRead.{ChunkRead}
 use Rattle.texts.specs.declared.ChunkRead.TheVariants as chunk
 use Rattle.scalar.specs.Scalars.{Form, form_at, inside, last_heads, char_lead, units, continued, characters}
 use Rattle.scalar.specs.Scalars.{body, string_at, shortest_head, shortest_string}
-use Rattle.scalar.specs.Rows.{Row, row, chosen, nth, apart, Outside, chosen_at, chosen_none}
-use Rattle.scalar.specs.CharLeads.{lead_rows, lead_rows_law}
-use Rattle.scalar.specs.FormLaws.{part_form, last_forms, part_head_law, last_heads_law, form_none, form_either}
-use Rattle.scalar.specs.TextAt.{string_ends}
-use Rattle.scalar.specs.AnswerLaws.{length_some, measured_as, measured_done, measured_fault}
-use Rattle.scalar.specs.TextUnits.{weights, weights_chars, weights_append, units_append, content_units, singles}
+use Rattle.scalar.proofs.Rows.{Row, row, chosen, nth, apart, Outside, chosen_at, chosen_none}
+use Rattle.scalar.proofs.CharLeads.{lead_rows, lead_rows_law}
+use Rattle.scalar.proofs.FormLaws.{part_form, last_forms, part_head_law, last_heads_law, form_none, form_either}
+use Rattle.scalar.proofs.TextAt.{string_ends}
+use Rattle.scalar.proofs.AnswerLaws.{length_some, measured_as, measured_done, measured_fault}
+use Rattle.scalar.specs.TextUnits.{weights}
+use Rattle.scalar.proofs.TextUnits.{weights_chars, weights_append, units_append, content_units, singles}
 use Rattle.scalar.specs.Decoded.{decoded}
-use Rattle.scalar.specs.StringLengths.{Parts, parts, parts_after, parts_within, parts_few, cuts_few, parts_on}
-use Rattle.scalar.specs.StringLengths.{parts_split, content_first, form_length, shortest_length_law}
-use Rattle.scalar.specs.TextTheorems.{text_no_shorter, text_within}
+use Rattle.scalar.specs.StringLengths.{Parts, parts, parts_after}
+use Rattle.scalar.proofs.StringLengths.{parts_within, parts_few, cuts_few, parts_on}
+use Rattle.scalar.proofs.StringLengths.{parts_split, content_first, form_length, shortest_length_law}
+use Rattle.scalar.proofs.TextTheorems.{text_no_shorter, text_within}
 use Rattle.scalar.specs.Answers.{Sizes, sized, sizes, measured_at, length_of}
 use Rattle.texts.specs.Answers.{extent_at, told_extent, shifted, text_at, Passes, CharSays, CharMet, Passing}
 use Rattle.texts.specs.Answers.{Over, WithinSays, WithinMet, CutMet, last_form}
 use Rattle.texts.specs.Answers.{head_form, prefixed, chunked, head_by, head_at, HeadSays, HeadMet, with_content}
 use Rattle.texts.specs.Answers.{chunk_by, chunk_at, ChunkSays, ChunkMet, Joining, Parting, Cutting, HeadsMet}
-use Rattle.texts.specs.Answers.{StringIs, PassedSays, PassedMet, StringHas, shortest_of, PassedLength}
+use Rattle.texts.specs.Answers.{PassedSays, PassedMet, StringHas, shortest_of, PassedLength}
 use Rattle.texts.specs.At.{Opens, basic, below_half, supplementary, opens_units, Halves, HighHalf}
 use Rattle.texts.specs.At.{continued_size, characters_none, characters_ends, characters_other, characters_half}
 use Rattle.texts.specs.At.{characters_low, characters_alone, characters_fault, characters_next}

@@ -1,5 +1,5 @@
 -- Bytes below 80, each a character of one unit: how many stand at a place, and the test of several at once.
-use Rattle.std.specs.Prelude.{◌≡◌, ℕ, zero, suc, ◌+◌, ◌-◌, ◌*◌, ◌/◌, ◌%◌, ◌^◌, ◌<◌, ◌≤◌, Bool, true, false, cond, ◌↔◌, List, [], ◌∷◌, length, take, drop, ◌==◌, bit_and, nat_le, nat_lt, slice_index, slice_index_or, refl}
+use Rattle.std.specs.Prelude.{◌≡◌, ℕ, zero, suc, ◌+◌, ◌-◌, ◌*◌, ◌/◌, ◌%◌, ◌<◌, ◌≤◌, Bool, true, false, cond, ◌↔◌, List, [], ◌∷◌, length, take, drop, ◌==◌, bit_and, nat_le, nat_lt, slice_index, slice_index_or, refl}
 use Rattle.std.proofs.Math.Path.{sym, ap}
 use Rattle.std.proofs.Common.{◌∙◌, add-zero, add-mul, one-mul, mod-eq_of_lt, div-add-mod', arith, drop_of_length-le, get_or-take, take_all, eqb-true, eq-eqb, leb-true, le-leb, ltb-true, lt-ltb, Fits}
 use Rattle.std.proofs.Math.Nat.{zero-mod, add-mod_right, div-eq_of_lt-le}

@@ -1,7 +1,7 @@
 -- Texts and byte strings at a place of a whole message, by what stands there: how many bytes are read, or which
 -- refusal.
 use Rattle.std.specs.Prelude.{◌≡◌, ℕ, zero, suc, ◌+◌, ◌-◌, ◌<◌, ◌≤◌, Bool, true, false, cond, List, [], ◌∷◌, ◌++◌, length, take, drop, slice_index, slice_index_or, refl}
-use Rattle.std.proofs.Common.{sym, ◌∙◌, ap, subst, add-zero, add-one, arith, length-append, length-take, length-drop, drop_of_length-le, drop-cons, drop-drop, get_or-drop}
+use Rattle.std.proofs.Common.{sym, ◌∙◌, ap, subst, add-zero, add-one, arith, length-take, length-drop, drop_of_length-le, drop-cons, drop-drop, get_or-drop}
 use Rattle.std.proofs.Math.Option.{Option, none, some}
 use Rattle.flow.specs.Tests.{by_test, by_cases, split, pick_true, pick_false, pick_either, within_yes}
 use Rattle.flow.specs.Tests.{within_below, within_above, within_is, bytes_drop}
@@ -21,20 +21,21 @@ use Rattle.scalar.specs.declared.CharLead.TheVariants.{Basic, Supplementary, Hal
 use Rattle.texts.specs.declared.HeadForm.{HeadForm}
 use Rattle.texts.specs.declared.HeadForm.TheVariants.{Starts, NoHead}
 use Rattle.scalar.specs.Scalars.{value, Form, form_at, inside, bytes_of, number_from, part_head, last_heads}
-use Rattle.scalar.specs.Scalars.{char_lead, paired, total, units, ranged, continued, pair_of, pair_then, character}
+use Rattle.scalar.specs.Scalars.{char_lead, paired, total, units, ranged, continued, pair_of, character}
 use Rattle.scalar.specs.Scalars.{characters, octets, body, chunk, chunks, string_at, by_second}
-use Rattle.scalar.specs.RuleLaws.{value_plain}
-use Rattle.scalar.specs.FormLaws.{head_codes, part_form, last_forms, part_head_law, last_heads_law, form_none, form_either}
-use Rattle.scalar.specs.NumberLaws.{number_by, form_here}
-use Rattle.scalar.specs.TextAt.{string_at_law}
-use Rattle.scalar.specs.NumberAt.{bytes_there, bytes_cut}
+use Rattle.scalar.proofs.RuleLaws.{value_plain}
+use Rattle.scalar.proofs.FormLaws.{head_codes, part_form, last_forms, part_head_law, last_heads_law, form_none, form_either}
+use Rattle.scalar.proofs.NumberLaws.{number_by, form_here}
+use Rattle.scalar.proofs.TextAt.{string_at_law}
+use Rattle.scalar.proofs.NumberAt.{bytes_there, bytes_cut}
 use Rattle.scalar.specs.Grammar.{Continued, no_more, follows, Char, one_unit, below_halves, two_units, Body}
-use Rattle.scalar.specs.TextUnits.{char_weighs, char_units, Content, body_content, body_units, body_length}
-use Rattle.scalar.specs.Pairs.{paired_length}
-use Rattle.scalar.specs.Decoded.{decoded, body_decoded, four_weights}
-use Rattle.scalar.specs.Bits.{content_few}
-use Rattle.scalar.specs.Refusals.{body_tells}
-use Rattle.scalar.specs.TextLaws.{body_read, Whole, body_lifts}
+use Rattle.scalar.proofs.TextUnits.{char_weighs, char_units, Content, body_content, body_units, body_length}
+use Rattle.scalar.proofs.Pairs.{paired_length}
+use Rattle.scalar.specs.Decoded.{decoded}
+use Rattle.scalar.proofs.Decoded.{body_decoded, four_weights}
+use Rattle.scalar.proofs.Bits.{content_few}
+use Rattle.scalar.proofs.RefusalLaws.{body_tells}
+use Rattle.scalar.proofs.TextLaws.{body_read, Whole, body_lifts}
 use Rattle.texts.specs.Answers.{extent_at, shifted, prefixed, text_at, Passes, last_form, head_form, chunked}
 
 -- ---- what is read: the bytes consumed are the content, of which P holds, and there are no items

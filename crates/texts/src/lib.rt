@@ -260,6 +260,7 @@ fn pair(message: &[u8], at: usize) -> CharRead
 }
 
 // The character at `at`, whose first byte is ed, where so many units are left: of three bytes, or a pair of halves.
+#[tactic(auto, using(crate::proofs::Strings::lone_low, crate::proofs::Strings::lone_high))]
 fn halved(message: &[u8], at: usize, left: usize) -> CharRead
     requires { (at < length message.now) × (0 < left) × Halves message.now at }
     ensures { CharMet left message.now at result }

@@ -17,21 +17,27 @@ use Rattle.record.specs.Model.Items.{Item, Val, Definition, ClassName, FieldName
 use Rattle.record.specs.Model.Rows.{item_row}
 use Rattle.record.specs.Model.Answers.{base}
 use Rattle.record.specs.Model.Shortest.{definition?, class_name?, field_name?, put_name, put_definition, put_value}
-use Rattle.record.specs.ForWriter.RowItems.{OfText, first_item, first_none}
-use Rattle.record.specs.ForWriter.RowItems as kinds
-use Rattle.record.specs.ForWriter.WritingAt.{At, End, at_within, WritingAt, WrittenTo, walk, behind, behind_none}
-use Rattle.record.specs.ForWriter.WritingAt.{behind_behind, walk_within}
-use Rattle.record.specs.ForWriter.WrittenNames.{name_end, name_other, name_got, name_none, names_left, names_stop}
-use Rattle.record.specs.ForWriter.WrittenNames.{names_over}
-use Rattle.record.specs.ForWriter.WrittenNames.{names_stuck, definition_end, definition_full, definition_wide}
-use Rattle.record.specs.ForWriter.WrittenNames.{definition_unnamed}
-use Rattle.record.specs.ForWriter.WrittenNames.{definition_uncounted, definition_names_stuck, definition_got}
-use Rattle.record.specs.ForWriter.WrittenItems.{plain_end}
-use Rattle.record.specs.ForWriter.WrittenValues.{below, value_end, value_plain, value_defined, value_undefined}
-use Rattle.record.specs.ForWriter.BareItems.{NoneIn, definition_none}
-use Rattle.record.specs.Laws.KnownArray.{known_in, Kept, defined_in, defined_room, classes_counted, one_class}
-use Rattle.record.specs.Laws.KnownArray.{known_defined}
-use Rattle.record.specs.Laws.KnownArray.{kept_defined, references_stay, classes_slot, references_slot}
+use Rattle.record.proofs.ForWriter.RowItems.{OfText, first_item, first_none}
+use Rattle.record.proofs.ForWriter.RowItems as kinds
+use Rattle.record.specs.ForWriter.WritingAt.{At, End, WritingAt, WrittenTo, walk, behind}
+use Rattle.record.proofs.ForWriter.WritingAt.{at_within, behind_none}
+use Rattle.record.proofs.ForWriter.WritingAt.{behind_behind, walk_within}
+use Rattle.record.specs.ForWriter.WrittenNames.{names_left}
+use Rattle.record.proofs.ForWriter.WrittenNames.{name_end, name_other, name_got, name_none, names_stop}
+use Rattle.record.proofs.ForWriter.WrittenNames.{names_over}
+use Rattle.record.proofs.ForWriter.WrittenNames.{names_stuck, definition_end, definition_full, definition_wide}
+use Rattle.record.proofs.ForWriter.WrittenNames.{definition_unnamed}
+use Rattle.record.proofs.ForWriter.WrittenNames.{definition_uncounted, definition_names_stuck, definition_got}
+use Rattle.record.proofs.ForWriter.WrittenItems.{plain_end}
+use Rattle.record.specs.ForWriter.WrittenValues.{below}
+use Rattle.record.proofs.ForWriter.WrittenValues.{value_end, value_plain, value_defined, value_undefined}
+use Rattle.record.specs.ForWriter.BareItems.{NoneIn}
+use Rattle.record.proofs.ForWriter.BareItems.{definition_none}
+use Rattle.record.specs.Laws.KnownArray.{known_in, Kept, defined_in}
+use Rattle.record.proofs.Laws.KnownArray.{defined_room, classes_counted, one_class}
+use Rattle.record.proofs.Laws.KnownArray.{known_defined}
+use Rattle.record.specs.Laws.KnownArray.{classes_slot, references_slot}
+use Rattle.record.proofs.Laws.KnownArray.{kept_defined, references_stay}
 use Rattle.record.specs.declared.Row as code
 use Rattle.writer.specs.declared.rows.Fetched.{Fetched}
 use Rattle.writer.specs.declared.rows.Fetched.TheVariants as fetched

@@ -1,9 +1,9 @@
 -- The rows of a lent table: where one lies, its five numbers, and which item it claims.
 use mathlib.Core.Path.{◌≡◌, refl, sym, ap, subst, ◌∙◌}
 use mathlib.Core.Bool.{Bool, true, false}
-use mathlib.Core.List.{List, [], ◌∷◌}
+use mathlib.Core.List.{List}
 use mathlib.Core.Option.{Option, none, some}
-use Prim.Native.Nat.{ℕ, zero, suc, ◌+◌, ◌-◌, ◌*◌, ◌/◌, ◌%◌, ◌^◌, ◌≤◌, ◌<◌}
+use Prim.Native.Nat.{ℕ, zero, suc, ◌+◌, ◌-◌, ◌*◌, ◌^◌, ◌≤◌, ◌<◌}
 use native.Mathlib.Nat.{zero-mul, suc-mul}
 use native.Mathlib.Omega.{arith}
 use lib.Dec.{eqb}
@@ -14,16 +14,16 @@ use mir.Val.{Fits}
 use borrow.Author.Tests.{eq-eqb, ne_eqb, eqb-true, eqb-false}
 use mathlib.Core.Logic.{◌⊎◌, inl, inr}
 use Rattle.flow.specs.Flow.{pick}
-use Rattle.flow.specs.Tests.{pick_true, pick_false, pick_either, within_yes, within_below, within_above, bytes_take}
-use Rattle.flow.specs.Tests.{bytes_drop, bytes_all}
+use Rattle.flow.specs.Tests.{pick_true, pick_false, pick_either, within_yes, within_below, within_above}
 use Rattle.wire.specs.BigEndian.{eight_at}
-use Rattle.wire.specs.Laws.{joined_below}
 use Rattle.record.specs.Model.Items.{Item}
 use Rattle.record.specs.Model.Rows.{Row, row, item_row}
-use Rattle.record.specs.Laws.Claimed.{item_at, claims_back}
+use Rattle.record.specs.Laws.Claimed.{item_at}
+use Rattle.record.proofs.Laws.Claimed.{claims_back}
 use Rattle.record.specs.Model.Answers.{Layout, as_numbers, as_bytes, lent_rows, rows_of}
-use Rattle.record.specs.ForWriter.WritingAt.{plainly, claim_at, At, End, WritingAt, claimed_few, row_at_law, row_none}
-use Rattle.record.specs.ForWriter.WritingAt.{row_end}
+use Rattle.record.specs.ForWriter.WritingAt.{plainly, claim_at, At, End, WritingAt}
+use Rattle.record.proofs.ForWriter.WritingAt.{claimed_few, row_at_law, row_none}
+use Rattle.record.proofs.ForWriter.WritingAt.{row_end}
 use Rattle.record.specs.declared.Row as code
 use Rattle.writer.specs.declared.rows.Fetched.{Fetched}
 use Rattle.writer.specs.declared.rows.Fetched.TheVariants as fetched

@@ -19,20 +19,24 @@ use Rattle.record.specs.Model.Shortest.{Put, put_then, put_many, put_bytes, obje
 use Rattle.record.specs.Model.Answers.{base}
 use Rattle.record.specs.Model.Shortest.{code_then}
 use Rattle.record.specs.Laws.Claimed.{item_at}
-use Rattle.record.specs.ForWriter.RowItems.{untyped_list, untyped_map_law, typed_list_law, typed_map_law, an_object, first_item}
-use Rattle.record.specs.ForWriter.RowItems.{first_none}
-use Rattle.record.specs.ForWriter.RowItems.{both_item}
-use Rattle.record.specs.Laws.Takes.{Drops, takes_drops, bytes_takes, then_takes, many_takes, type_takes}
-use Rattle.record.specs.ForWriter.WritingAt.{At, at_within, WritingAt, WrittenTo, NoMessage, walk, behind, walk_bytes}
-use Rattle.record.specs.ForWriter.WritingAt.{walk_both}
-use Rattle.record.specs.ForWriter.WritingAt.{walk_unless_one, walk_unless_other, walk_first, walk_first_none}
-use Rattle.record.specs.ForWriter.WrittenItems.{ended, list_few, list_counted, list_uncounted, list_open, list_stuck}
-use Rattle.record.specs.ForWriter.WrittenItems.{open_body}
-use Rattle.record.specs.ForWriter.WrittenItems.{open_stuck, object_few, object_many, plain_end, plain_list}
-use Rattle.record.specs.ForWriter.WrittenItems.{plain_typed_list, plain_map}
-use Rattle.record.specs.ForWriter.WrittenItems.{plain_typed_map, plain_object}
-use Rattle.record.specs.ForWriter.WrittenContents.{walk_elements, walk_couples}
-use Rattle.record.specs.Laws.KnownArray.{known_in, Kept, classes_counted, references_more, known_opened, kept_opened}
+use Rattle.record.proofs.ForWriter.RowItems.{untyped_list, untyped_map_law, typed_list_law, typed_map_head, an_object, first_item}
+use Rattle.record.proofs.ForWriter.RowItems.{first_none}
+use Rattle.record.proofs.ForWriter.RowItems.{both_item}
+use Rattle.record.specs.Laws.Takes.{Drops}
+use Rattle.record.proofs.Laws.Takes.{takes_drops, bytes_takes, then_takes, many_takes, type_takes}
+use Rattle.record.specs.ForWriter.WritingAt.{At, WritingAt, WrittenTo, NoMessage, walk, behind}
+use Rattle.record.proofs.ForWriter.WritingAt.{at_within, walk_bytes}
+use Rattle.record.proofs.ForWriter.WritingAt.{walk_both}
+use Rattle.record.proofs.ForWriter.WritingAt.{walk_unless_one, walk_unless_other, walk_first, walk_first_none}
+use Rattle.record.specs.ForWriter.WrittenItems.{ended}
+use Rattle.record.proofs.ForWriter.WrittenItems.{list_few, list_counted, list_uncounted, list_open, list_stuck}
+use Rattle.record.proofs.ForWriter.WrittenItems.{open_body}
+use Rattle.record.proofs.ForWriter.WrittenItems.{open_stuck, object_few, object_many, plain_end, plain_list}
+use Rattle.record.proofs.ForWriter.WrittenItems.{plain_typed_list, plain_map}
+use Rattle.record.proofs.ForWriter.WrittenItems.{plain_typed_map, plain_object}
+use Rattle.record.proofs.ForWriter.WrittenContents.{walk_elements, walk_couples}
+use Rattle.record.specs.Laws.KnownArray.{known_in, Kept}
+use Rattle.record.proofs.Laws.KnownArray.{classes_counted, references_more, known_opened, kept_opened}
 use Rattle.record.specs.Laws.KnownArray.{classes_slot, references_slot}
 use Rattle.record.specs.declared.Row as code
 use Rattle.writer.specs.declared.puts.Put.TheVariants as put
@@ -42,7 +46,8 @@ use Rattle.writer.specs.declared.progress.Step.{Step}
 use Rattle.writer.specs.declared.progress.Step.TheVariants as step
 use Rattle.writer.specs.declared.holders.ValueStart.{ValueStart}
 use Rattle.writer.specs.declared.holders.ValueStart.TheVariants as begun
-use Rattle.record.specs.ForWriter.BareItems.{NoneIn, type_none}
+use Rattle.record.specs.ForWriter.BareItems.{NoneIn}
+use Rattle.record.proofs.ForWriter.BareItems.{type_none}
 use Rattle.record.specs.Laws.RowLaws.{row_of}
 use Rattle.record.specs.Model.Claims.{content_at}
 use Rattle.writer.specs.Promises.{RowIs, Puts, PutMet, Writable, WrittenUpTo, StepMet, type_by, has_type}
@@ -462,7 +467,7 @@ module _ (source : List ℕ) (r : code.Row) (is : List Item) (k : ℕ) (z : RowI
     map_at a b = go (eqb (r.kind % 2) 0) refl
       where
         go : (t : Bool) → eqb (r.kind % 2) 0 ≡ t → At is k (Val (map_of t r.first r.second))
-        go true e = z.item _ (both_item source typed_map_law (row_of r) (omega (arith, eqb-true (r.kind % 2) 0 e)))
+        go true e = z.item _ (both_item source typed_map_head (row_of r) (omega (arith, eqb-true (r.kind % 2) 0 e)))
         go false e = let q = eqb-false (r.kind % 2) 0 e in
             z.item _ (first_item source untyped_map_law (row_of r) (omega arith) (second_is (omega arith)))
 

@@ -14,20 +14,21 @@ use Rattle.scalar.specs.declared.Sort.TheVariants as sort
 use Rattle.scalar.specs.declared.Encoding.TheVariants.{Utf8, Binary}
 use Rattle.scalar.specs.Scalars.{shortest, forms_of, units, string_at, Scalar, Num, Str, shortest_scalar, shortest_int}
 use Rattle.scalar.specs.Scalars.{sort_kind}
-use Rattle.scalar.specs.ScalarLaws.{number_shortest, string_shortest}
+use Rattle.scalar.proofs.ScalarLaws.{number_shortest, string_shortest}
 use Rattle.record.specs.Model.Items.{Value, Leaf, UntypedList, TypedList, UntypedMap, TypedMap, Object, Reference, Item}
 use Rattle.record.specs.Model.Items.{Val, Definition, ClassName, FieldName, TypeName, TypeNumber}
 use Rattle.record.specs.Model.Rows.{Row, item_row}
 use Rattle.scalar.specs.Answers.{content_read}
 use Rattle.record.specs.Model.Shortest.{value?}
 use Rattle.record.specs.Model.Answers.{base}
-use Rattle.record.specs.Laws.Claimed.{item_at, claims_back}
-use Rattle.record.specs.ForWriter.RowItems.{a_number, a_reference, a_text, first_item, first_none, string_lost}
-use Rattle.record.specs.ForWriter.RowItems.{string_item}
-use Rattle.record.specs.ForWriter.RowItems.{string_other_length, string_other_second}
-use Rattle.record.specs.ForWriter.WrittenItems.{plain_end, plain_other, plain_leaf, plain_no_leaf, plain_reference}
-use Rattle.record.specs.ForWriter.WrittenItems.{plain_far}
-use Rattle.record.specs.ForWriter.WrittenItems.{plain_ungiven}
+use Rattle.record.specs.Laws.Claimed.{item_at}
+use Rattle.record.proofs.Laws.Claimed.{claims_back}
+use Rattle.record.proofs.ForWriter.RowItems.{a_number, a_reference, a_text, first_item, first_none, string_lost}
+use Rattle.record.proofs.ForWriter.RowItems.{string_item}
+use Rattle.record.proofs.ForWriter.RowItems.{string_other_length, string_other_second}
+use Rattle.record.proofs.ForWriter.WrittenItems.{plain_end, plain_other, plain_leaf, plain_no_leaf, plain_reference}
+use Rattle.record.proofs.ForWriter.WrittenItems.{plain_far}
+use Rattle.record.proofs.ForWriter.WrittenItems.{plain_ungiven}
 use Rattle.record.specs.declared.Row as code
 use Rattle.writer.specs.declared.puts.Put.{Put}
 use Rattle.writer.specs.declared.puts.Put.TheVariants as put

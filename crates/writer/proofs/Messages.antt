@@ -5,11 +5,11 @@ use mathlib.Core.Bool.{Bool, true, false}
 use mathlib.Core.List.{List, []}
 use mathlib.Core.Logic.{⊎_elim}
 use mathlib.Core.Option.{Option, none, some}
-use Prim.Native.Nat.{ℕ, zero, suc, ◌/◌, ◌≤◌, ◌<◌}
+use Prim.Native.Nat.{ℕ, zero, suc, ◌≤◌, ◌<◌}
 use native.Mathlib.Omega.{arith}
 use lib.Dec.{ltb, eqb}
 use lib.ListN.{length, replicate}
-use borrow.Author.Tests.{ltb-true, ltb-false, eqb-true, lt-ltb, le-ltb}
+use borrow.Author.Tests.{eqb-true, lt-ltb, le-ltb}
 use Rattle.flow.specs.Flow.{pick, reported}
 use Rattle.flow.specs.Tests.{pick_true, pick_false}
 use Rattle.flow.specs.Flow as slices
@@ -22,10 +22,13 @@ use Rattle.record.specs.Model.Answers.{lent_rows, rows_of, write_numbers, writte
 use Rattle.record.specs.Model.Answers.{output_written}
 use Rattle.record.specs.Model.Calls.{WriteCall}
 use Rattle.record.specs.Model.Answers as shorthands
-use Rattle.record.specs.Laws.Takes.{value_drops}
-use Rattle.record.specs.ForWriter.WritingAt.{claimed_few, WritingAt, WrittenTo, NoMessage, walk}
-use Rattle.record.specs.ForWriter.WrittenContents.{left, one_value}
-use Rattle.record.specs.ForWriter.WrittenMessages.{Rights, whole_written, whole_short, whole_stuck, whole_wrong}
+use Rattle.record.proofs.Laws.Takes.{value_drops}
+use Rattle.record.specs.ForWriter.WritingAt.{WritingAt, WrittenTo, NoMessage, walk}
+use Rattle.record.proofs.ForWriter.WritingAt.{claimed_few}
+use Rattle.record.specs.ForWriter.WrittenContents.{left}
+use Rattle.record.proofs.ForWriter.WrittenContents.{one_value}
+use Rattle.record.specs.ForWriter.WrittenMessages.{Rights}
+use Rattle.record.proofs.ForWriter.WrittenMessages.{whole_written, whole_short, whole_stuck, whole_wrong}
 use Rattle.record.specs.Laws.KnownArray.{known_in, known_size}
 use Rattle.record.specs.Model.Claims.{content_at}
 use Rattle.writer.specs.declared.puts.Put.{Put}

@@ -13,7 +13,7 @@ use Rattle.flow.specs.Tests.{by_cases}
 use Rattle.scalar.specs.declared.Encoding.{Encoding}
 use Rattle.scalar.specs.Scalars.{units, string_at, shortest_string}
 use Rattle.scalar.specs.Answers.{content_read, sized_form}
-use Rattle.scalar.specs.AnswerLaws.{sized_fault, sized_both, sized_other_units, sized_other_bytes}
+use Rattle.scalar.proofs.AnswerLaws.{sized_fault, sized_both, sized_other_units, sized_other_bytes}
 use Rattle.writer.specs.declared.puts.Put.{Put}
 use Rattle.writer.specs.declared.puts.Put.TheVariants as put
 use Rattle.writer.specs.Promises.{PutMet, ContentAt, StringMet}

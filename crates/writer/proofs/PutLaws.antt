@@ -11,7 +11,7 @@ use Rattle.flow.specs.OverlayLaws.{stored_out, stored_sets, length_stored, store
 use Rattle.scalar.specs.declared.Written.{Written}
 use Rattle.scalar.specs.declared.Written.TheVariants.{Stored, NoRoom, NoSuchForm}
 use Rattle.scalar.specs.Answers.{report, report_of, output_of}
-use Rattle.scalar.specs.AnswerLaws.{report_none, report_stored, report_over, output_some}
+use Rattle.scalar.proofs.AnswerLaws.{report_none, report_stored, report_over, output_some}
 use Rattle.writer.specs.declared.puts.Put.{Put}
 use Rattle.writer.specs.declared.puts.Put.TheVariants as put
 use Rattle.writer.specs.Promises.{Puts, put_of, PutMet, over_longest}

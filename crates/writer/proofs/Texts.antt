@@ -12,7 +12,7 @@ use Rattle.scalar.specs.Scalars.{units, string_at, shortest_text}
 use Rattle.record.specs.Model.Items.{Item}
 use Rattle.scalar.specs.Answers.{content_read}
 use Rattle.record.specs.Laws.Claimed.{item_at}
-use Rattle.record.specs.ForWriter.RowItems.{OfText, text_lost, text_item, text_other_units, text_other_length}
+use Rattle.record.proofs.ForWriter.RowItems.{OfText, text_lost, text_item, text_other_units, text_other_length}
 use Rattle.record.specs.declared.Row as code
 use Rattle.writer.specs.declared.puts.Put.{Put}
 use Rattle.writer.specs.declared.puts.Put.TheVariants as put

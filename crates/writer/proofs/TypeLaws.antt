@@ -8,17 +8,19 @@ use native.Mathlib.Omega.{arith}
 use lib.ListN.{length, get_or, set}
 use Rattle.scalar.specs.declared.Encoding.TheVariants.{Utf8}
 use Rattle.scalar.specs.Scalars.{shortest_int}
-use Rattle.record.specs.Model.Items.{Item, Val, Definition, ClassName, FieldName, TypeName, TypeNumber, Known, typed}
+use Rattle.record.specs.Model.Items.{Item, Val, Definition, ClassName, FieldName, TypeName, TypeNumber, Known}
 use Rattle.record.specs.Model.Rows.{item_row}
 use Rattle.record.specs.Model.Answers.{base}
 use Rattle.record.specs.Model.Shortest.{put_type}
-use Rattle.record.specs.ForWriter.RowItems.{type_name_law, type_number_law, first_item, first_none}
-use Rattle.record.specs.ForWriter.WritingAt.{At, WritingAt, WrittenTo, NoMessage, walk, walk_bytes, walk_within}
-use Rattle.record.specs.ForWriter.WrittenNames.{is_type, type_end, type_other, type_name_other, type_name_full}
-use Rattle.record.specs.ForWriter.WrittenNames.{type_name_none}
-use Rattle.record.specs.ForWriter.WrittenNames.{type_number_other, type_number_ungiven, type_number_none}
-use Rattle.record.specs.ForWriter.WrittenNames as types
-use Rattle.record.specs.Laws.KnownArray.{known_in, Kept, known_typed, kept_typed, references_same, types_slot}
+use Rattle.record.proofs.ForWriter.RowItems.{type_spelled, type_numbered, first_item, first_none}
+use Rattle.record.specs.ForWriter.WritingAt.{At, WritingAt, WrittenTo, NoMessage, walk}
+use Rattle.record.proofs.ForWriter.WritingAt.{walk_bytes, walk_within}
+use Rattle.record.proofs.ForWriter.WrittenNames.{is_type, type_end, type_other, type_name_other, type_name_full}
+use Rattle.record.proofs.ForWriter.WrittenNames.{type_name_none}
+use Rattle.record.proofs.ForWriter.WrittenNames.{type_number_other, type_number_ungiven, type_number_none}
+use Rattle.record.proofs.ForWriter.WrittenNames as types
+use Rattle.record.specs.Laws.KnownArray.{known_in, Kept, types_slot}
+use Rattle.record.proofs.Laws.KnownArray.{known_typed, kept_typed, references_same}
 use Rattle.record.specs.declared.Row as code
 use Rattle.writer.specs.declared.rows.Fetched.{Fetched}
 use Rattle.writer.specs.declared.rows.Fetched.TheVariants as fetched
@@ -44,13 +46,13 @@ module _ (source : List ℕ) (r : code.Row) (t : ℕ) (ks : List ℕ) (w : Kept 
   module _ (h : r.kind ≡ 18) where
     pub type_misnumbered : {out' : List ℕ} → (get_or ks types_slot 0 ≡ t → ⊥)
         → TypeRowMet source r t ks out s put.NoRecord ks out'
-    type_misnumbered d = unnamed (λ is k x. text_either type_name_law source r h
+    type_misnumbered d = unnamed (λ is k x. text_either type_spelled source r h
         (λ e. type_end base t (known_in ks) is k (x.lost e))
         (λ cs e. type_name_other base t (known_in ks) is k cs (x.item _ e) d))
 
     pub type_full : {out' : List ℕ} → base.types ≤ get_or ks types_slot 0
         → TypeRowMet source r t ks out s put.NoRecord ks out'
-    type_full l = unnamed (λ is k x. text_either type_name_law source r h
+    type_full l = unnamed (λ is k x. text_either type_spelled source r h
         (λ e. type_end base t (known_in ks) is k (x.lost e))
         (λ cs e. type_name_full base t (known_in ks) is k cs (x.item _ e) l))
 
@@ -70,14 +72,14 @@ module _ (source : List ℕ) (r : code.Row) (t : ℕ) (ks : List ℕ) (w : Kept 
             → WalkSays (walk (put_type base t) (known_in ks) is k) (suc k)
             (known_in (set ks types_slot (get_or ks types_slot 0 + 1))) out s p out'
         go is k x (put.Done s') y =
-            let z = text_put type_name_law source r h y s' refl in (
+            let z = text_put type_spelled source r h y s' refl in (
               z.written,
-              types.type_name_law base t (known_in ks) is k z.content (x.item _ z.item) e l z.written
+              types.type_spelled base t (known_in ks) is k z.content (x.item _ z.item) e l z.written
                   z.form ∙ ap (λ (c : Known). WrittenTo z.written (suc k) c) (sym (known_typed ks w)),
               z.puts,
             )
         go is k x put.NoRecord y =
-            text_not type_name_law source r h y refl
+            text_not type_spelled source r h y refl
             (λ e. type_end base t (known_in ks) is k (x.lost e))
             (λ cs e f. type_name_none base t (known_in ks) is k cs (x.item _ e) f)
 
@@ -85,11 +87,11 @@ module _ (source : List ℕ) (r : code.Row) (t : ℕ) (ks : List ℕ) (w : Kept 
   module _ (h : r.kind ≡ 19) where
     pub type_second_law : {out' : List ℕ} → (r.second ≡ 0 → ⊥) → TypeRowMet source r t ks out s put.NoRecord ks out'
     type_second_law d =
-        unnamed (λ is k x. type_end base t (known_in ks) is k (x.lost (first_none source type_number_law (row_of r) h d)))
+        unnamed (λ is k x. type_end base t (known_in ks) is k (x.lost (first_none source type_numbered (row_of r) h d)))
 
     module _ (z : r.second ≡ 0) where
       numbered : (is : List Item) (k : ℕ) → RowIs source r is k → At is k (TypeNumber r.first)
-      numbered is k x = x.item _ (first_item source type_number_law (row_of r) h z)
+      numbered is k x = x.item _ (first_item source type_numbered (row_of r) h z)
 
       pub type_another : {out' : List ℕ} → (r.first ≡ t → ⊥) → TypeRowMet source r t ks out s put.NoRecord ks out'
       type_another d = unnamed (λ is k x. type_number_other base t (known_in ks) is k r.first (numbered is k x) d)
@@ -109,7 +111,7 @@ module _ (source : List ℕ) (r : code.Row) (t : ℕ) (ks : List ℕ) (w : Kept 
                 → WalkSays (walk (put_type base t) (known_in ks) is k) (suc k) (known_in ks) out s p out'
             go is k x (put.Done s') y = (
               y.0,
-              types.type_number_law base t (known_in ks) is k r.first (numbered is k x) e (omega arith) y.0
+              types.type_numbered base t (known_in ks) is k r.first (numbered is k x) e (omega arith) y.0
                   (ap shortest_int e ∙ y.1),
               y.2,
             )

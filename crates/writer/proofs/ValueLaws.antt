@@ -1,7 +1,7 @@
 -- What the contracts of values.rt ask at each of their ways out.
 use mathlib.Core.Path.{◌≡◌, refl, sym, ap, subst, ◌∙◌}
 use mathlib.Core.Bool.{Bool, true, false}
-use mathlib.Core.Logic.{◌⊎◌, inl, inr, ⊎_elim}
+use mathlib.Core.Logic.{inl, inr, ⊎_elim}
 use mathlib.Core.List.{List, [], ◌∷◌, ◌++◌}
 use mathlib.Core.Option.{Option, none, some}
 use Prim.Native.Nat.{ℕ, suc, ◌+◌, ◌-◌, ◌/◌, ◌%◌, ◌^◌, ◌≤◌, ◌<◌}
@@ -25,17 +25,19 @@ use Rattle.record.specs.Model.Shortest.{put_value}
 use Rattle.record.specs.Model.Answers.{base}
 use Rattle.record.specs.Model.Shortest.{put_plain}
 use Rattle.record.specs.Model.Shortest as spelling
-use Rattle.record.specs.Laws.Claimed.{item_at, claims_back}
-use Rattle.record.specs.Laws.Takes.{value_drops}
+use Rattle.record.specs.Laws.Claimed.{item_at}
+use Rattle.record.proofs.Laws.Claimed.{claims_back}
+use Rattle.record.proofs.Laws.Takes.{value_drops}
 use Rattle.record.specs.ForWriter.WritingAt.{holding, row_at, At, WritingAt, WrittenTo, NoMessage, walk, behind}
-use Rattle.record.specs.ForWriter.WritingAt.{behind_none, behind_behind}
-use Rattle.record.specs.ForWriter.WritingAt.{walk_within}
-use Rattle.record.specs.ForWriter.WrittenItems.{holds, ended, plain_end, plain_full}
-use Rattle.record.specs.ForWriter.WrittenContents.{left, done, Room, room_first, room_next, left_stop, left_over}
-use Rattle.record.specs.ForWriter.WrittenContents.{left_stuck}
-use Rattle.record.specs.ForWriter.WrittenValues.{below, below_none, below_some, written_span}
-use Rattle.record.specs.ForWriter.BareItems.{NoneIn}
-use Rattle.record.specs.ForWriter.WrittenMessages.{Rights, Wrong}
+use Rattle.record.proofs.ForWriter.WritingAt.{behind_none, behind_behind}
+use Rattle.record.proofs.ForWriter.WritingAt.{walk_within}
+use Rattle.record.proofs.ForWriter.WrittenItems.{holds, plain_end, plain_full}
+use Rattle.record.specs.ForWriter.WrittenContents.{left, done}
+use Rattle.record.proofs.ForWriter.WrittenContents.{Room, room_first, room_next, left_stop, left_over}
+use Rattle.record.proofs.ForWriter.WrittenContents.{left_stuck}
+use Rattle.record.specs.ForWriter.WrittenValues.{below}
+use Rattle.record.proofs.ForWriter.WrittenValues.{below_none, below_some, written_span}
+use Rattle.record.specs.ForWriter.WrittenMessages.{Rights}
 use Rattle.record.specs.Laws.KnownArray.{known_in, references_slot}
 use Rattle.record.specs.declared.Row as code
 use Rattle.writer.specs.declared.puts.Put.{Put}
@@ -53,10 +55,10 @@ use Rattle.writer.specs.declared.values.Entered.{Entered}
 use Rattle.writer.specs.declared.values.Entered.TheVariants as entered
 use Rattle.record.specs.Laws.RowLaws.{row_of}
 use Rattle.record.specs.Model.Claims.{content_at}
-use Rattle.writer.specs.Promises.{RowIs, Puts, WalkSays, WalkMet, NoHolderKind, HolderKind, LeafMet, Writable}
-use Rattle.writer.specs.Promises.{WrittenUpTo, StepSays, StepMet, ValueReached, FoundSays, FoundMet, closed}
-use Rattle.writer.specs.Promises.{closing, InteriorLeft, InteriorSays, InteriorMet, ValuesLeft, BeginSays}
-use Rattle.writer.specs.Promises.{BeginMet, BareIn, HolderAt, HolderMet, HeldIn, RowMet, InteriorOf, EnterSays}
+use Rattle.writer.specs.Promises.{RowIs, Puts, WalkSays, WalkMet, NoHolderKind, LeafMet, Writable}
+use Rattle.writer.specs.Promises.{WrittenUpTo, ValueReached, FoundSays, FoundMet, closed}
+use Rattle.writer.specs.Promises.{closing, InteriorSays, ValuesLeft, BeginSays}
+use Rattle.writer.specs.Promises.{BareIn, HolderAt, HolderMet, HeldIn, RowMet, InteriorOf, EnterSays}
 use Rattle.writer.specs.Promises.{EnterMet, ValuesSay, ValuesMet, over_longest}
 use Rattle.writer.proofs.PutLaws.{puts_none, puts_on}
 use Rattle.writer.proofs.FetchLaws.{stands_either}
@@ -130,11 +132,11 @@ holder_holds p e (TypeNumber k) l h = absurd (omega arith)
 module _ (open_from d : ℕ) (source : List ℕ) (is : List Item) (ks out : List ℕ) (k s : ℕ) (r : code.Row)
     (ready : Writable is ks k s) (stands : RowIs source r is k) where
   -- what is written of the value of this row
-  abbrev RowHere_law : WritingAt
-  RowHere_law = walk (put_plain base open_from (below base open_from d)) (known_in ks) is k
+  abbrev RowStanding : WritingAt
+  RowStanding = walk (put_plain base open_from (below base open_from d)) (known_in ks) is k
 
   module _ (p : Put) (out' : List ℕ) (m : LeafMet source r (get_or ks references_slot 0) out s p out') where
-    leaf_says : WalkMet RowHere_law (suc k) (known_in ks) out s p out'
+    leaf_says : WalkMet RowStanding (suc k) (known_in ks) out s p out'
     leaf_says = m.says open_from (below base open_from d) (known_in ks) is k stands refl
 
     pub row_no_leaf : p ≡ put.NoRecord → RowMet open_from d is ks k s out begun.NoRecord ks out'
@@ -143,7 +145,7 @@ module _ (open_from d : ℕ) (source : List ℕ) (is : List Item) (ks out : List
           met =
               record {
                 says =
-                    subst (λ (p : Put). WalkSays RowHere_law (suc k) (known_in ks) out s p out') e leaf_says.says;
+                    subst (λ (p : Put). WalkSays RowStanding (suc k) (known_in ks) out s p out') e leaf_says.says;
               };
           held = tt;
         }
@@ -151,10 +153,10 @@ module _ (open_from d : ℕ) (source : List ℕ) (is : List Item) (ks out : List
     pub row_leaf : NoHolderKind r.kind → (s' : ℕ) → p ≡ put.Done s'
         → RowMet open_from d is ks k s out (begun.Past (record { next = k + 1; size = s' })) ks out'
     row_leaf n s' e =
-        let g : WalkSays RowHere_law (suc k) (known_in ks) out s (put.Done s') out' =
-        subst (λ (p : Put). WalkSays RowHere_law (suc k) (known_in ks) out s p out') e leaf_says.says in
+        let g : WalkSays RowStanding (suc k) (known_in ks) out s (put.Done s') out' =
+        subst (λ (p : Put). WalkSays RowStanding (suc k) (known_in ks) out s p out') e leaf_says.says in
         let w = g.0 in
-        let o : RowHere_law ≡ WrittenTo w (k + 1) (known_in ks) = g.1
+        let o : RowStanding ≡ WrittenTo w (k + 1) (known_in ks) = g.1
         ∙ ap (λ (e : ℕ). WrittenTo w e (known_in ks)) (sym (add-one k)) in
         let l = walk_within (known_in ks) is k (put_plain base open_from (below base open_from d)) w (k + 1)
         (known_in ks) o in
@@ -198,7 +200,7 @@ module _ (open_from d : ℕ) (source : List ℕ) (is : List Item) (ks out : List
   pub row_full : 9 ≤ r.kind → r.kind ≤ 13 → d ≡ 0 → RowMet open_from d is ks k s out begun.NoRecord ks out
   row_full l h e = record { met = record { says = go (item_at (content_at source) (row_of r)) refl }; held = tt }
     where
-      go : (o : Option Item) → item_at (content_at source) (row_of r) ≡ o → RowHere_law ≡ NoMessage
+      go : (o : Option Item) → item_at (content_at source) (row_of r) ≡ o → RowStanding ≡ NoMessage
       go none q = plain_end base open_from (below base open_from d) (known_in ks) is k (stands.lost q)
       go (some i) q =
           let z : (item_row r.place r.after i).kind ≡ r.kind =
@@ -226,13 +228,13 @@ module _ (open_from d : ℕ) (source : List ℕ) (is : List Item) (ks out : List
       inner : spelling.Put
       inner = put_value base open_from (d - 1)
 
-      here : RowHere_law ≡ walk (put_plain base open_from (some inner)) (known_in ks) is k
+      here : RowStanding ≡ walk (put_plain base open_from (some inner)) (known_in ks) is k
       here = ap (λ (o : Option spelling.Put). walk (put_plain base open_from o) (known_in ks) is k)
           (below_some base open_from d l)
 
       go : (b : ValueStart)
           → InteriorSays (λ g. walk (put_plain base open_from (some g)) (known_in ks) is k) is (k + 1) s out b ks' out'
-          → BeginSays RowHere_law open_from d is (k + 1) s out b ks' out'
+          → BeginSays RowStanding open_from d is (k + 1) s out b ks' out'
       go (begun.Past p) z = absurd z
       go (begun.Within x c) z =
           record {

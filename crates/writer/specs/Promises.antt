@@ -1,7 +1,7 @@
 -- What the contracts inside the writer say, over record's laws of the writer at an index of the rows. None of it has
 -- to be believed. A relation XMet tells by cases (XSays) what an answer X means; the functions' own relations, which
 -- the contracts cite, take the lent slices and the arguments as they are.
-use Rattle.std.specs.Prelude.{◌≡◌, Bool, true, false, ◌&&◌, ◌⊎◌, List, [], ◌∷◌, ◌++◌, ℕ, suc, ◌+◌, ◌-◌, ◌*◌, ◌/◌, ◌%◌, ◌≤◌, ◌<◌, min, ltb, eqb, length, take, drop, get_or}
+use Rattle.std.specs.Prelude.{◌≡◌, Bool, true, false, ◌&&◌, ◌⊎◌, List, [], ◌∷◌, ◌++◌, ℕ, suc, ◌+◌, ◌-◌, ◌*◌, ◌%◌, ◌≤◌, ◌<◌, min, ltb, eqb, length, take, drop, get_or}
 use Rattle.std.proofs.Math.Option.{Option, none, some}
 use Rattle.flow.specs.Flow.{pick, stored}
 use Rattle.scalar.specs.declared.Sort.{Sort}
@@ -28,7 +28,8 @@ use Rattle.record.specs.Model.Answers as shorthands
 use Rattle.record.specs.Laws.RowLaws.{row_of}
 use Rattle.record.specs.Laws.Claimed.{item_at}
 use Rattle.record.specs.Laws.Takes.{Drops}
-use Rattle.record.specs.ForWriter.WritingAt.{holding, claimed, row_at, At, End, WritingAt, WrittenTo, NoMessage, walk}
+use Rattle.record.specs.ForWriter.WritingAt.{claimed, row_at, At, End, WritingAt, WrittenTo, NoMessage, walk}
+use Rattle.record.specs.ForWriter.WritingAt.{holding}
 use Rattle.record.specs.ForWriter.WritingAt.{behind}
 use Rattle.record.specs.ForWriter.WrittenItems.{ended}
 use Rattle.record.specs.ForWriter.WrittenContents.{left}

@@ -1,6 +1,6 @@
 -- Each way out has its law in record's NamedContents.
 use borrow.Author.Rules.{rules}
-use Rattle.record.specs.Laws.NamedContents.{text_is, below_names, from_names}
+use Rattle.record.proofs.Laws.NamedContents.{text_is, below_names, from_names}
 use Rattle.hessian.proofs.is_text_kind.Goals as goal
 
 pub returns-then-kind-eq-TEXT : goal.returns-then-kind-eq-TEXT

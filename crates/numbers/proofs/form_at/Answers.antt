@@ -1,6 +1,5 @@
 -- Each arm's callee goes over the forms of its kind.
-use Rattle.std.proofs.Common.{rules}
-use Rattle.scalar.specs.FormLaws.{forms_null, forms_false, forms_true}
+use Rattle.scalar.proofs.FormLaws.{forms_null, forms_false, forms_true}
 use Rattle.numbers.proofs.form_at.Goals as goal
 
 pub returns-in-Null : goal.returns-in-Null

@@ -1,7 +1,6 @@
 -- `numbers::guess` meets its contract: rule by rule.
-use Rattle.std.proofs.Common.{rules}
-use Rattle.scalar.specs.RuleLaws.{guess_exactly, guess_plain, guess_offset, guess_signed}
-use Rattle.scalar.specs.RuleLaws.{guess_minutes, guess_byte, guess_pair, guess_float}
+use Rattle.scalar.proofs.RuleLaws.{guess_exactly, guess_plain, guess_offset, guess_signed}
+use Rattle.scalar.proofs.RuleLaws.{guess_minutes, guess_byte, guess_pair, guess_float}
 use Rattle.numbers.proofs.guess.Goals as goal
 
 pub returns-in-Exactly : goal.returns-in-Exactly
@@ -11,7 +10,7 @@ pub returns-in-Plain : goal.returns-in-Plain
 returns-in-Plain c = rw (c.in-Plain.is, guess_plain)
 
 pub returns-in-Offset : goal.returns-in-Offset
-returns-in-Offset c = rw (c.in-Offset.is, guess_offset) c.wrapping_add_u64.ensures
+returns-in-Offset c = rw (c.in-Offset.is, guess_offset) c.wrapping_add_u64.ensures.value
 
 pub returns-in-Signed : goal.returns-in-Signed
 returns-in-Signed c = rw (c.in-Signed.is, guess_signed)

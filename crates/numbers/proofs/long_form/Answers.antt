@@ -1,7 +1,7 @@
 -- An arm's bytes are those of one form; the others are of none.
 use Rattle.std.proofs.Common.{arith, rules}
 use Rattle.scalar.specs.declared.Sort.TheVariants.{Long}
-use Rattle.scalar.specs.FormLaws.{forms_long}
+use Rattle.scalar.proofs.FormLaws.{forms_long}
 use Rattle.numbers.proofs.Reading.{begins, begins_none}
 use Rattle.numbers.proofs.long_form.Goals as goal
 

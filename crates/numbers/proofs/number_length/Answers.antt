@@ -1,6 +1,5 @@
 -- `numbers::number_length` meets its contract: kind by kind.
-use Rattle.std.proofs.Common.{rules}
-use Rattle.scalar.specs.FormLaws.{forms_null, forms_false, forms_true}
+use Rattle.scalar.proofs.FormLaws.{forms_null, forms_false, forms_true}
 use Rattle.numbers.proofs.LengthLaws.{length_kind, length_forms}
 use Rattle.numbers.proofs.number_length.Goals as goal
 

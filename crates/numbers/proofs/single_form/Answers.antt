@@ -3,7 +3,7 @@ use Rattle.std.proofs.Common.{◌+◌, [], sym, ◌∙◌, arith, rules}
 use Rattle.flow.specs.Tests.{within_yes}
 use Rattle.scalar.specs.declared.Rule.TheVariants.{Exactly}
 use Rattle.scalar.specs.Scalars.{form}
-use Rattle.scalar.specs.NumberLaws.{form_here}
+use Rattle.scalar.proofs.NumberLaws.{form_here}
 use Rattle.numbers.proofs.Reading.{starts, no_form}
 use Rattle.numbers.proofs.single_form.Goals as goal
 

@@ -1,6 +1,5 @@
 -- `numbers::spell` meets its contract: kind by kind.
-use Rattle.std.proofs.Common.{rules}
-use Rattle.scalar.specs.FormLaws.{forms_null, forms_false, forms_true}
+use Rattle.scalar.proofs.FormLaws.{forms_null, forms_false, forms_true}
 use Rattle.numbers.proofs.Writing.{last_found}
 use Rattle.numbers.proofs.spell.Goals as goal
 

@@ -1,6 +1,5 @@
 -- The forms are those of dates.
-use Rattle.std.proofs.Common.{rules}
-use Rattle.scalar.specs.FormLaws.{forms_date}
+use Rattle.scalar.proofs.FormLaws.{forms_date}
 use Rattle.numbers.proofs.Writing.{added_second}
 use Rattle.numbers.proofs.spell_date.Goals as goal
 

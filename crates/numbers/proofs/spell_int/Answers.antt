@@ -1,6 +1,5 @@
 -- The forms are those of ints.
-use Rattle.std.proofs.Common.{rules}
-use Rattle.scalar.specs.FormLaws.{forms_int}
+use Rattle.scalar.proofs.FormLaws.{forms_int}
 use Rattle.numbers.proofs.spell_int.Goals as goal
 
 pub returns : goal.returns

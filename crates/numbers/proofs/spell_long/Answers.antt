@@ -1,6 +1,5 @@
 -- The forms are those of longs.
-use Rattle.std.proofs.Common.{rules}
-use Rattle.scalar.specs.FormLaws.{forms_long}
+use Rattle.scalar.proofs.FormLaws.{forms_long}
 use Rattle.numbers.proofs.Writing.{added}
 use Rattle.numbers.proofs.spell_long.Goals as goal
 

@@ -1,5 +1,5 @@
 -- `numbers::store` meets its contract.
-use Rattle.std.proofs.Common.{◌∙◌, arith, length-set, rules}
+use Rattle.std.proofs.Common.{arith}
 use Rattle.numbers.proofs.Writing.{store_none, store_all}
 use Rattle.numbers.proofs.store.Goals as goal
 
@@ -8,9 +8,6 @@ returns-then-len-at c = store_none _ _ _ _ _ (omega arith)
 
 pub returns-then-len-at-2 : goal.returns-then-len-at-2
 returns-then-len-at-2 c = store_none _ _ _ _ _ (omega arith)
-
-pub shape_of-out : goal.shape_of-out
-shape_of-out c = c.store_number.auto.0 ∙ simp length-set
 
 pub returns : goal.returns
 returns c = store_all _ _ _ _ _ (omega arith) c.store_number.ensures

@@ -1,7 +1,7 @@
 -- Both ways out have their laws in proofs/Writing.antt.
-use Rattle.std.proofs.Common.{sym, ◌∙◌, arith, rules}
+use Rattle.std.proofs.Common.{sym, ◌∙◌, arith}
 use Rattle.scalar.specs.declared.Rule.TheVariants.{WholeByte}
-use Rattle.scalar.specs.RuleLaws.{value_byte, guess_byte}
+use Rattle.scalar.proofs.RuleLaws.{value_byte, guess_byte}
 use Rattle.numbers.proofs.Writing.{held_yes, held_not}
 use Rattle.numbers.proofs.try_byte.Goals as goal
 

@@ -1,7 +1,7 @@
 -- Both ways out have their laws in proofs/Writing.antt.
 use Rattle.std.proofs.Common.{sym, arith}
 use Rattle.scalar.specs.declared.Rule.TheVariants.{Exactly}
-use Rattle.scalar.specs.RuleLaws.{value_exactly, guess_exactly}
+use Rattle.scalar.proofs.RuleLaws.{value_exactly, guess_exactly}
 use Rattle.numbers.proofs.Writing.{held_yes, held_not}
 use Rattle.numbers.proofs.try_exactly.Goals as goal
 

@@ -1,7 +1,7 @@
 -- Both ways out have their laws in proofs/Writing.antt.
-use Rattle.std.proofs.Common.{sym, ◌∙◌, arith, rules}
+use Rattle.std.proofs.Common.{sym, ◌∙◌, arith}
 use Rattle.scalar.specs.declared.Rule.TheVariants.{Minutes}
-use Rattle.scalar.specs.RuleLaws.{value_minutes, guess_minutes}
+use Rattle.scalar.proofs.RuleLaws.{value_minutes, guess_minutes}
 use Rattle.numbers.proofs.Writing.{held_yes, held_not}
 use Rattle.numbers.proofs.try_minutes.Goals as goal
 

@@ -1,9 +1,9 @@
 -- Each arm's callee computes the value of its rule.
-use Rattle.std.proofs.Common.{w64, rules}
+use Rattle.std.proofs.Common.{w64}
 use borrow.Author.Rules.{sfits_of}
 use mir.ValLaws.{to_z-of_z}
-use Rattle.scalar.specs.RuleLaws.{value_exactly, value_plain, value_offset, value_signed}
-use Rattle.scalar.specs.RuleLaws.{value_minutes, value_byte, value_pair, value_float}
+use Rattle.scalar.proofs.RuleLaws.{value_exactly, value_plain, value_offset, value_signed}
+use Rattle.scalar.proofs.RuleLaws.{value_minutes, value_byte, value_pair, value_float}
 use Rattle.numbers.proofs.value_of.Goals as goal
 
 pub less-requires : goal.less-requires
@@ -35,11 +35,11 @@ returns-in-Offset c = rw (c.in-Offset.is, value_offset) c.less.ensures
 
 pub returns-in-Signed : goal.returns-in-Signed
 returns-in-Signed c = rw (
-      c.in-Signed.is,
-      value_signed,
-      ← c.signed_32.ensures,
-      ← to_z-of_z w64 c.signed_32.result (sfits_of c.signed_32.type-inv),
-    )
+  c.in-Signed.is,
+  value_signed,
+  ← c.signed_32.ensures,
+  ← to_z-of_z w64 c.signed_32.result (sfits_of c.signed_32.type_inv),
+)
     c.bits_of.ensures
 
 pub returns-in-Minutes : goal.returns-in-Minutes

@@ -1,6 +1,5 @@
 -- `numbers::write_number` meets its contract: kind by kind.
-use Rattle.std.proofs.Common.{rules}
-use Rattle.scalar.specs.FormLaws.{forms_null, forms_false, forms_true}
+use Rattle.scalar.proofs.FormLaws.{forms_null, forms_false, forms_true}
 use Rattle.numbers.proofs.Writing.{written_kind, written_forms}
 use Rattle.numbers.proofs.write_number.Goals as goal
 

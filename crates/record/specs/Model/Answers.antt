@@ -1,6 +1,6 @@
 -- What the reader and the writer answer, number, count and place; and what a lent table or output then holds.
 use mathlib.Core.{List.List, List.[], List.◌∷◌, List.◌++◌, Option.Option, Option.none, Option.some}
-use Rattle.std.specs.Prelude.{ℕ, zero, suc, ◌+◌, ◌/◌}
+use Rattle.std.specs.Prelude.{ℕ, zero, suc, ◌/◌}
 use lib.{Dec.ltb, ListN.length, ListN.take, ListN.drop, ListN.get_or}
 use Rattle.flow.specs.RefusalNumbers.{wrong_length, no_room, no_record}
 use Rattle.flow.specs.Flow.{pick, on_some, Outcome, Done, Fault, One, items, stored, overlay, Report}

@@ -48,29 +48,29 @@ pub record Keeps (L : Layout) : Type 0 where
 
 -- the table t' holds the record of the message m, accepted with the report a
 pub record Holding (ρ : DoubleRule) (ℓ : Limits) (L : Layout) (m t : List ℕ) (a : Report) (t' : List ℕ) : Type 0 where
-  pub record_of_law : List Item
+  pub the_record : List Item
   -- the grammar reads the message as this record, within the limits, and the lent rows suffice
-  pub grammar : Message ρ ℓ m record_of_law
+  pub grammar : Message ρ ℓ m the_record
   pub short : length m ≤ ℓ.longest
-  pub enough : length record_of_law ≤ lent_rows L t
+  pub enough : length the_record ≤ lent_rows L t
   -- the report has its items and the message's length
-  pub counted : a.count ≡ length record_of_law
+  pub counted : a.count ≡ length the_record
   pub whole : a.place ≡ length m
   -- the rows are those of the reading, in message order, each with the place of its item; they claim the record
-  pub accepts : Accepts ρ ℓ m record_of_law
+  pub accepts : Accepts ρ ℓ m the_record
   pub rows_are : rows_of L a.count t' ≡ rows accepts.entries
-  pub claimed : ClaimAll (content_at m) (rows_of L a.count t') record_of_law
+  pub claimed : ClaimAll (content_at m) (rows_of L a.count t') the_record
   -- request 2026-07: each of them skips what it opens
-  pub skips : Skippable (rows_of L a.count t') record_of_law
+  pub skips : Skippable (rows_of L a.count t') the_record
   -- the numbers past them stay
   pub past : drop (a.count * L.width) t' ≡ drop (a.count * L.width) t
 
 -- the message m, by the main rule, has the record that the first n rows of the table t claim in the source s
 pub record RecordOf (ℓ : Limits) (L : Layout) (s t : List ℕ) (n : ℕ) (m : List ℕ) : Type 0 where
   pub lent : n ≤ lent_rows L t
-  pub record_of_law : List Item
-  pub claimed : ClaimAll (content_at s) (rows_of L n t) record_of_law
-  pub grammar : Message Floats ℓ m record_of_law
+  pub the_record : List Item
+  pub claimed : ClaimAll (content_at s) (rows_of L n t) the_record
+  pub grammar : Message Floats ℓ m the_record
 
 -- so has the message w, and none that has it, of any spelling, is shorter
 pub record ShortestOf (ℓ : Limits) (L : Layout) (s t : List ℕ) (n : ℕ) (w : List ℕ) : Type 0 where

@@ -14,9 +14,9 @@ pub data NameForm (x : List ℕ → Item) : Known → List ℕ → List Item →
 
 -- a type, and its number: a text gets the next one, an int names one given
 pub data TypeForm (ℓ : Limits) : Known → List ℕ → ℕ → List Item → Known → Type 0 where
-  type_name_law : {c : Known} {w cs : List ℕ} → c.types < ℓ.types → Text w cs
+  type_spelled : {c : Known} {w cs : List ℕ} → c.types < ℓ.types → Text w cs
       → TypeForm ℓ c w c.types (TypeName cs ∷ []) (typed c)
-  type_number_law : {c : Known} {w : List ℕ} {k : ℕ} → Int w k → k < c.types → TypeForm ℓ c w k (TypeNumber k ∷ []) c
+  type_numbered : {c : Known} {w : List ℕ} {k : ℕ} → Int w k → k < c.types → TypeForm ℓ c w k (TypeNumber k ∷ []) c
 
 pub data PairForm (G : Phrase Known Item) : Known → List ℕ → List Item → Known → Type 0 where  -- a key and its value
   a_pair : {c c₁ c₂ : Known} {u v : List ℕ} {is js : List Item} → G c u is c₁ → G c₁ v js c₂

@@ -84,24 +84,24 @@ with_type ℓ g = bind (byte_at (type_from ℓ)) g
 -- what its first byte opens
 pub data ValueHead : Type 0 where
   leaf : ValueHead  -- a scalar, or what opens nothing
-  few few_typed_law few_object_law : ℕ → ValueHead  -- a list of n elements, untyped and typed; an object of class k
-  counted counted_typed_law : ValueHead  -- a count follows
-  open_list_law open_typed_law open_map typed_map_law : ValueHead  -- up to 5a
+  few few_of_type few_fields : ℕ → ValueHead  -- a list of n elements, untyped and typed; an object of class k
+  counted counted_typed_head : ValueHead  -- a count follows
+  open_list_head open_typed_head open_map typed_map_head : ValueHead  -- up to 5a
   object reference : ValueHead  -- an int follows: the class, the reference number
 
 -- the containers and the reference of 01's table of first bytes, in its order; else a leaf: 5a, the reserved bytes, and
 -- 43, which the definitions before a value take, are no scalar's, and so refusal 3
 unfoldable pub head_of : ℕ → ValueHead
 head_of b =
-    pick (within 0x70 0x78 b) (few_typed_law (b - 0x70))
-    (pick (eqb b 0x56) counted_typed_law
-    (pick (eqb b 0x55) open_typed_law
+    pick (within 0x70 0x78 b) (few_of_type (b - 0x70))
+    (pick (eqb b 0x56) counted_typed_head
+    (pick (eqb b 0x55) open_typed_head
     (pick (within 0x78 0x80 b) (few (b - 0x78))
     (pick (eqb b 0x58) counted
-    (pick (eqb b 0x57) open_list_law
-    (pick (eqb b 0x4d) typed_map_law
+    (pick (eqb b 0x57) open_list_head
+    (pick (eqb b 0x4d) typed_map_head
     (pick (eqb b 0x48) open_map
-    (pick (within 0x60 0x70 b) (few_object_law (b - 0x60))
+    (pick (within 0x60 0x70 b) (few_fields (b - 0x60))
     (pick (eqb b 0x4f) object
     (pick (eqb b 0x51) reference leaf))))))))))
 
@@ -182,15 +182,15 @@ module _ (ℓ : Limits) where
 module _ (ρ : DoubleRule) (ℓ : Limits) where
   -- a value with no definition before it, by its head, after its first byte b, at p
   unfoldable pub plain_by : Option (Opening One) → ValueHead → Opening One
-  plain_by below (few_typed_law n) p b = few_typed ℓ below p n
-  plain_by below counted_typed_law p b = counted_typed ℓ below p
-  plain_by below open_typed_law p b = open_typed ℓ below p
+  plain_by below (few_of_type n) p b = few_typed ℓ below p n
+  plain_by below counted_typed_head p b = counted_typed ℓ below p
+  plain_by below open_typed_head p b = open_typed ℓ below p
   plain_by below (few n) p b = few_untyped ℓ below p n
   plain_by below counted p b = counted_untyped ℓ below p
-  plain_by below open_list_law p b = open_untyped ℓ below p
-  plain_by below typed_map_law p b = map_of_type ℓ below p
+  plain_by below open_list_head p b = open_untyped ℓ below p
+  plain_by below typed_map_head p b = map_of_type ℓ below p
   plain_by below open_map p b = untyped_map ℓ below p
-  plain_by below (few_object_law k) p b = few_object ℓ below p k
+  plain_by below (few_fields k) p b = few_object ℓ below p k
   plain_by below object p b = any_object ℓ below p
   plain_by below reference p b = reference_from ℓ below p
   plain_by below leaf p b = leaf_from ℓ below p ρ b

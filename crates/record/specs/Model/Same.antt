@@ -15,4 +15,4 @@ pub record SameRow (s t : List ℕ) (x y : Row) : Type 0 where
 
 pub data SameRecord (s t : List ℕ) : List Row → List Row → Type 0 where
   no_more : SameRecord s t [] []
-  same_row_law : {x y : Row} {r q : List Row} → SameRow s t x y → SameRecord s t r q → SameRecord s t (x ∷ r) (y ∷ q)
+  row_same : {x y : Row} {r q : List Row} → SameRow s t x y → SameRecord s t r q → SameRecord s t (x ∷ r) (y ∷ q)

@@ -29,7 +29,7 @@ pub record Accepts (ρ : DoubleRule) (ℓ : Limits) (m : List ℕ) (r : List Ite
   pub entries : List (Entry Item)
   pub known : Known
   pub done : judged ρ ℓ m ≡ Done (length m) tt entries known
-  pub reads_as_law : items entries ≡ r
+  pub reads_record : items entries ≡ r
 
 -- 2026-11: a row read by the main rule, in thousandths. A double whose first byte is 5f has the bits of the thousandths
 -- that its four bytes hold; every other row stays
@@ -49,14 +49,14 @@ write ℓ open_from lent source r = answered_to ℓ lent source (shortest_of ℓ
 
 -- the message m has the record that the rows claim
 pub record Has (ℓ : Limits) (source : List ℕ) (r : List Row) (m : List ℕ) : Type 0 where
-  pub record_of_law : List Item
-  pub claimed : ClaimAll (content_at source) r record_of_law
-  pub read_as : Reads Floats ℓ m record_of_law
+  pub the_record : List Item
+  pub claimed : ClaimAll (content_at source) r the_record
+  pub read_as : Reads Floats ℓ m the_record
 
 -- the rows of an answer are those of a message that is accepted, and they fit
 pub record Holds (ρ : DoubleRule) (ℓ : Limits) (lent : ℕ) (m : List ℕ) (rs : List Row) : Type 0 where
-  pub record_of_law : List Item
-  pub accepts : Accepts ρ ℓ m record_of_law
+  pub the_record : List Item
+  pub accepts : Accepts ρ ℓ m the_record
   pub holds : rs ≡ rows accepts.entries
   pub enough : length accepts.entries ≤ lent
 
@@ -70,7 +70,7 @@ pub record Shortest (ℓ : Limits) (open_from : ℕ) (source : List ℕ) (r : Li
   pub message_of : List ℕ
   pub given_room : (lent : ℕ) → length message_of ≤ lent → write ℓ open_from lent source r ≡ Wrote message_of
   pub has : Has ℓ source r message_of
-  pub accepted : Accepts Floats ℓ message_of has.record_of_law
+  pub accepted : Accepts Floats ℓ message_of has.the_record
   pub none_shorter : (m : List ℕ) → Has ℓ source r m → length message_of ≤ length m
   pub needed : (lent : ℕ) → lent < length message_of → write ℓ open_from lent source r
       ≡ Refused no_room (length message_of)

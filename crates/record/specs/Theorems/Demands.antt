@@ -140,7 +140,7 @@ pub record Demanded (ℓ : Limits) (open_from : ℕ) (L : Layout) : Type 0 where
       → SameRecord s₁ s₂ (rows_of L n₁ t₁) (rows_of L n₂ t₂) ↔ (take a₁.count o₁' ≡ take a₂.count o₂')
   -- request 2026-07: whatever rows hold the record of a message, each of them skips what it opens
   pub skipping : (s t : List ℕ) (n : ℕ) (m : List ℕ) (x : RecordOf ℓ L s t n m)
-      → Skippable (rows_of L n t) x.record_of_law
+      → Skippable (rows_of L n t) x.the_record
 
 -- they hold for all limits under which a message has fewer than 2 ^ 63 bytes, every threshold up to 48, and every
 -- layout that keeps rows of 64-bit numbers

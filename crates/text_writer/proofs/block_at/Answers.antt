@@ -1,8 +1,7 @@
 use native.Mathlib.Omega.{arith}
 use borrow.Author.Rules.{rules}
-use mathlib.Core.Path.{◌≡◌, refl}
-use Prim.Native.Nat.{◌-◌, ◌≤◌}
-use lib.ListN.{length, take, drop, length-drop}
+use mathlib.Core.Path.{refl}
+use lib.ListN.{drop, length-drop}
 use lib.Seq.{get_or-drop}
 use Rattle.text_writer.proofs.Laying.{block_next, block_whole}
 use Rattle.text_writer.proofs.block_at.Goals as goal

@@ -1,11 +1,7 @@
 -- The loop's invariant: the first i bytes of the block are those of the source. The measure is how many are left.
-use native.Mathlib.Omega.{arith}
-use borrow.Author.Rules.{rules}
-use mathlib.Core.Path.{◌≡◌, refl}
+use mathlib.Core.Path.{◌≡◌}
 use Prim.Native.Nat.{◌-◌, ◌≤◌}
-use lib.ListN.{length, take, drop, length-drop}
-use lib.Seq.{get_or-drop}
-use Rattle.text_writer.proofs.Laying.{block_next, block_whole}
+use lib.ListN.{length, take, drop}
 use Rattle.text_writer.proofs.block_at.Given as goal
 
 abbrev pub invariant-loop-i : goal.invariant-loop-i

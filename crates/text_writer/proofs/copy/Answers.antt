@@ -1,7 +1,5 @@
-use Prim.Native.Nat.{◌-◌}
 use native.Mathlib.Omega.{arith}
-use lib.ListN.{length}
-use Rattle.text_writer.specs.Cursor.{Copying, copying_start, copying_below, copying_end, copying_stop, copying_open, open_further, copying_piece, piece_inside, piece_units}
+use Rattle.text_writer.specs.Cursor.{copying_start, copying_below, copying_end, copying_stop, copying_open, open_further, copying_piece, piece_inside, piece_units}
 use Rattle.text_writer.proofs.copy.Goals as goal
 
 pub loop-kind-init : goal.loop-kind-init
@@ -18,11 +16,11 @@ open-next-requires c = omega (arith, c.loop-kind.invariant.going.inside)
 
 pub loop-kind-smaller-then-left-eq0 : goal.loop-kind-smaller-then-left-eq0
 loop-kind-smaller-then-left-eq0 c = let R = c.loop-kind.invariant in
-    omega (arith, open_further R _ c.if-left-eq0.true c.if-last.false c.«open».ensures)
+    omega (arith, open_further R _ c.if-left-eq0.true c.if-last.false c.open-next.ensures)
 
 pub loop-kind-preserved-then-left-eq0 : goal.loop-kind-preserved-then-left-eq0
 loop-kind-preserved-then-left-eq0 c = let R = c.loop-kind.invariant in
-    copying_open R _ c.if-left-eq0.true c.if-last.false c.«open».ensures
+    copying_open R _ c.if-left-eq0.true c.if-last.false c.open-next.ensures
 
 pub overflow_sub-cap : goal.overflow_sub-cap
 overflow_sub-cap c = c.loop-kind.invariant.within

@@ -1,8 +1,7 @@
 -- The loop's invariant: what was passed is stored, where it fits, and what fits is that and what fits of the rest. The measure is how many bytes are left in the source.
 use Prim.Native.Nat.{◌-◌}
-use native.Mathlib.Omega.{arith}
 use lib.ListN.{length}
-use Rattle.text_writer.specs.Cursor.{Copying, copying_start, copying_below, copying_end, copying_stop, copying_open, open_further, copying_piece, piece_inside, piece_units}
+use Rattle.text_writer.specs.Cursor.{Copying}
 use Rattle.text_writer.proofs.copy.Given as goal
 
 abbrev pub invariant-loop-kind : goal.invariant-loop-kind

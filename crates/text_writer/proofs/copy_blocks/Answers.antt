@@ -2,11 +2,8 @@ use native.Mathlib.Omega.{arith}
 use borrow.Author.Rules.{rules}
 use Rattle.flow.specs.OverlayLaws.{stored_sets, length_stored}
 use Rattle.text_writer.proofs.Laying.{length_kept, block_on}
-use mathlib.Core.Path.{◌≡◌, sym}
+use mathlib.Core.Path.{sym}
 use mathlib.Core.List.{[]}
-use Prim.Native.Nat.{◌-◌, ◌≤◌}
-use lib.ListN.{take, drop}
-use Rattle.flow.specs.Flow.{stored}
 use Rattle.text_writer.proofs.copy_blocks.Goals as goal
 
 pub loop-i-init : goal.loop-i-init

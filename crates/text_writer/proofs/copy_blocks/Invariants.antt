@@ -1,10 +1,5 @@
 -- The loop's invariant: the blocks so far are stored. The measure is how many bytes are left.
-use native.Mathlib.Omega.{arith}
-use borrow.Author.Rules.{rules}
-use Rattle.flow.specs.OverlayLaws.{stored_sets, length_stored}
-use Rattle.text_writer.proofs.Laying.{length_kept, block_on}
-use mathlib.Core.Path.{◌≡◌, sym}
-use mathlib.Core.List.{[]}
+use mathlib.Core.Path.{◌≡◌}
 use Prim.Native.Nat.{◌-◌, ◌≤◌}
 use lib.ListN.{take, drop}
 use Rattle.flow.specs.Flow.{stored}

@@ -1,11 +1,9 @@
 use mathlib.Core.Path.{◌≡◌, sym, ap, ◌∙◌}
 use mathlib.Core.List.{[]}
-use Prim.Native.Nat.{◌+◌, ◌-◌, ◌≤◌}
 use native.Mathlib.Omega.{arith}
 use lib.Seq.{get_or-drop}
-use lib.ListN.{length, take, drop, length-take, length-drop}
+use lib.ListN.{length, drop, length-take, length-drop}
 use Rattle.flow.specs.OverlayLaws.{stored_sets, stored_out, length_stored}
-use Rattle.flow.specs.Flow.{stored}
 use Rattle.text_writer.proofs.Laying.{stored_next}
 use Rattle.text_writer.proofs.copy_bytes.Goals as goal
 

@@ -1,13 +1,8 @@
 -- The loop's invariant: the bytes so far are stored. The measure is how many are left.
-use mathlib.Core.Path.{◌≡◌, sym, ap, ◌∙◌}
-use mathlib.Core.List.{[]}
+use mathlib.Core.Path.{◌≡◌}
 use Prim.Native.Nat.{◌+◌, ◌-◌, ◌≤◌}
-use native.Mathlib.Omega.{arith}
-use lib.Seq.{get_or-drop}
-use lib.ListN.{length, take, drop, length-take, length-drop}
-use Rattle.flow.specs.OverlayLaws.{stored_sets, stored_out, length_stored}
+use lib.ListN.{length, take, drop}
 use Rattle.flow.specs.Flow.{stored}
-use Rattle.text_writer.proofs.Laying.{stored_next}
 use Rattle.text_writer.proofs.copy_bytes.Given as goal
 
 abbrev pub invariant-loop-i : goal.invariant-loop-i

@@ -1,7 +1,6 @@
 -- `copy_run` meets its contract.
 use mathlib.Core.Path.{sym}
 use native.Mathlib.Omega.{arith}
-use borrow.Author.Rules.{rules}
 use lib.ListN.{length-take, length-drop}
 use Rattle.flow.specs.OverlayLaws.{stored_out}
 use Rattle.text_writer.proofs.Laying.{run_whole}

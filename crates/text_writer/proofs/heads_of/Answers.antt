@@ -1,7 +1,7 @@
 -- `heads_of` meets its contract.
 use borrow.Author.Rules.{rules}
 use Rattle.scalar.specs.declared.Encoding.TheVariants.{Utf8, Binary}
-use Rattle.scalar.specs.FormLaws.{part_head_law, last_heads_law}
+use Rattle.scalar.proofs.FormLaws.{part_head_law, last_heads_law}
 use Rattle.text_writer.proofs.heads_of.Goals as goal
 
 pub returns-in-Utf8 : goal.returns-in-Utf8

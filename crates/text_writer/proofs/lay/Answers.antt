@@ -1,7 +1,7 @@
 use mathlib.Core.Path.{◌∙◌}
 use borrow.Author.Rules.{rules}
 use Rattle.text_writer.specs.Cursor.{all_copied}
-use Rattle.text_writer.specs.Laying.{Laying, laying_start, part_few, part_within, part_shrinks, part_less, part_first, part_room, part_start, part_end, laying_part, last_behind, last_room, last_start, last_end, laying_last}
+use Rattle.text_writer.specs.Laying.{laying_start, part_few, part_within, part_shrinks, part_less, part_first, part_room, part_start, part_end, laying_part, last_behind, last_room, last_start, last_end, laying_last}
 use Rattle.text_writer.proofs.lay.Goals as goal
 
 pub loop-rest-init : goal.loop-rest-init
@@ -55,11 +55,11 @@ overflow_sub-result c = search (last_behind, rules)
 
 pub shape_of-out : goal.shape_of-out
 shape_of-out c = let R = c.loop-rest.invariant in
-    c.copy.ensures.copies.same ∙ c.put_last_head-h.auto.1.1.0 ∙ R.same
+    c.copy.ensures.copies.same ∙ c.put_last_head-h.auto.out ∙ R.same
 
 pub returns : goal.returns
 returns c = let R = c.loop-rest.invariant in
     let short = c.loop-rest-test.false in
     let head = c.put_last_head-h.ensures in
-    let all = all_copied c.copy.ensures R.units-are _ R.bytes-are in
+    let all = all_copied c.copy.ensures R.units_are _ R.bytes_are in
     laying_last R short _ head.0 _ head.1 _ _ all

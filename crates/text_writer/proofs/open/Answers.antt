@@ -1,5 +1,4 @@
 -- `open` meets its contract.
-use borrow.Author.Rules.{rules}
 use native.Mathlib.Omega.{arith}
 use Rattle.text_writer.specs.Cursor.{opens_none, opens_chunk}
 use Rattle.texts.proofs.Strings.{chunk_says}

@@ -1,11 +1,7 @@
 -- Each way out has its law in proofs/Pieces.antt.
-use native.Mathlib.Omega.{arith}
 use borrow.Author.Rules.{rules}
-use Rattle.text_writer.proofs.Pieces.{pair_short, pair_other, pair_low, pair_told}
+use Rattle.text_writer.proofs.Pieces.{pair_other, pair_low, pair_told}
 use Rattle.text_writer.proofs.pair_here.Goals as goal
-
-pub returns-then-left-lt6 : goal.returns-then-left-lt6
-returns-then-left-lt6 c = pair_short _ _ _ c.requires (omega arith)
 
 pub returns-then-source-here : goal.returns-then-source-here
 returns-then-source-here c = search (pair_other, rules)

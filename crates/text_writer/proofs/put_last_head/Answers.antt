@@ -1,6 +1,5 @@
 -- `put_last_head` meets its contract.
 use native.Mathlib.Omega.{arith}
-use borrow.Author.Rules.{rules}
 use Rattle.text_writer.specs.Heads.{last_one, last_two, last_three}
 use Rattle.text_writer.proofs.Laying.{head_stored}
 use Rattle.text_writer.proofs.put_last_head.Goals as goal

@@ -1,6 +1,5 @@
 -- `put_part_head` meets its contract.
 use native.Mathlib.Omega.{arith}
-use borrow.Author.Rules.{rules}
 use Rattle.text_writer.specs.Heads.{part_three}
 use Rattle.text_writer.proofs.Laying.{head_stored}
 use Rattle.text_writer.proofs.put_part_head.Goals as goal

@@ -1,6 +1,5 @@
 -- What `texts::ascii` promises, or all of the bytes.
 use mathlib.Core.Path.{refl}
-use borrow.Author.Rules.{rules}
 use Rattle.text_writer.specs.Writing.{singles_at}
 use Rattle.text_writer.proofs.singles.Goals as goal
 

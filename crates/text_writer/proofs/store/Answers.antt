@@ -1,5 +1,4 @@
 -- A form of one chunk has its laws in specs/Laying.antt.
-use borrow.Author.Rules.{rules}
 use Rattle.text_writer.specs.Laying.{one_start, one_room, one_fits, laying_one, plain_room, laying_plain}
 use Rattle.text_writer.proofs.store.Goals as goal
 

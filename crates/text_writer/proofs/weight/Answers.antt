@@ -1,8 +1,7 @@
 -- `weight` meets its contract.
 use mathlib.Core.Path.{sym}
 use native.Mathlib.Omega.{arith}
-use borrow.Author.Rules.{rules}
-use Rattle.scalar.specs.TextUnits.{light, single_low, single_high, double}
+use Rattle.scalar.proofs.TextUnits.{light, single_low, single_high, double}
 use Rattle.text_writer.proofs.weight.Goals as goal
 
 pub returns-in-128-to-191 : goal.returns-in-128-to-191

@@ -1,6 +1,5 @@
 -- Each way out has its law in proofs/Contents.antt.
 use native.Mathlib.Omega.{arith}
-use borrow.Author.Rules.{rules}
 use Rattle.text_writer.proofs.Contents.{content_none, content_over, content_room, content_whole}
 use Rattle.text_writer.proofs.write_content.Goals as goal
 
@@ -9,7 +8,7 @@ returns-then-out-bytes c = content_over _ _ _ _ c.find.ensures _ _ _ _ c.in-Ther
 
 pub copy-requires : goal.copy-requires
 copy-requires c = content_room _ _ _ _ c.find.ensures c.args.out.now _ _ _ c.in-There.is
-    (omega (arith, c.if-out-bytes.false)) (omega arith)
+    (omega arith) (omega arith)
 
 pub returns-in-Nothing : goal.returns-in-Nothing
 returns-in-Nothing c = content_none _ _ _ _ c.find.ensures _ c.in-Nothing.is

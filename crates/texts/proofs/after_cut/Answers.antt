@@ -1,5 +1,5 @@
 -- Each way out has its law in proofs/Strings.antt.
-use Rattle.std.proofs.Common.{arith, rules}
+use Rattle.std.proofs.Common.{rules}
 use Rattle.texts.proofs.Strings.{cut_bytes, cut_never, cut_units, cut_there}
 use Rattle.texts.proofs.after_cut.Goals as goal
 

@@ -1,6 +1,6 @@
-use Rattle.std.proofs.Common.{◌-◌, arith, rules, le-ltb, lt-ltb}
+use Rattle.std.proofs.Common.{arith, le-ltb, lt-ltb}
 use native.Mathlib.Nat.{mod-one}
-use Rattle.texts.specs.Ascii.{tells_byte, Counting, counting_few, counting_more, counting_end, counting_stop}
+use Rattle.texts.specs.Ascii.{tells_byte, counting_more, counting_end, counting_stop}
 use Rattle.texts.proofs.ascii_bytes.Goals as goal
 
 pub loop-n-init : goal.loop-n-init

@@ -1,7 +1,6 @@
 -- The loop's invariant: the bytes so far are in the run. The measure is how many are left.
-use Rattle.std.proofs.Common.{◌-◌, arith, rules, le-ltb, lt-ltb}
-use native.Mathlib.Nat.{mod-one}
-use Rattle.texts.specs.Ascii.{tells_byte, Counting, counting_few, counting_more, counting_end, counting_stop}
+use Rattle.std.proofs.Common.{◌-◌}
+use Rattle.texts.specs.Ascii.{Counting}
 use Rattle.texts.proofs.ascii_bytes.Given as goal
 
 abbrev pub invariant-loop-n : goal.invariant-loop-n

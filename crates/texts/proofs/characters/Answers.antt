@@ -1,5 +1,4 @@
 use Rattle.std.proofs.Common.{arith, rules}
-use Rattle.texts.specs.Answers.{Passing}
 use Rattle.texts.specs.Ascii.{few_are, inside_are}
 use Rattle.texts.proofs.Strings.{passing_end, passing_fault, passing_more, char_says}
 use Rattle.texts.proofs.AsciiRuns.{passing_run, steps_few, passing_steps}

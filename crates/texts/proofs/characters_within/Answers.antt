@@ -1,5 +1,4 @@
-use Rattle.std.proofs.Common.{◌≡◌, ◌-◌, ◌≤◌, arith, rules}
-use Rattle.texts.specs.Answers.{Passing}
+use Rattle.std.proofs.Common.{◌≡◌, ◌-◌, arith, rules}
 use Rattle.texts.specs.Ascii.{few_are, inside_are}
 use Rattle.texts.proofs.Strings.{passing_start, char_says, within_fault, within_more, within_over, within_all}
 use Rattle.texts.proofs.AsciiRuns.{within_run}

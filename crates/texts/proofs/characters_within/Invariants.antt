@@ -1,10 +1,7 @@
 -- The loop's invariant: the characters so far are passed, and fit the room. The measure is how many units of the room
 -- are left.
-use Rattle.std.proofs.Common.{◌≡◌, ◌-◌, ◌≤◌, arith, rules}
+use Rattle.std.proofs.Common.{◌-◌, ◌≤◌}
 use Rattle.texts.specs.Answers.{Passing}
-use Rattle.texts.specs.Ascii.{few_are, inside_are}
-use Rattle.texts.proofs.Strings.{passing_start, char_says, within_fault, within_more, within_over, within_all}
-use Rattle.texts.proofs.AsciiRuns.{within_run}
 use Rattle.texts.proofs.characters_within.Given as goal
 
 abbrev pub invariant-loop-used : goal.invariant-loop-used

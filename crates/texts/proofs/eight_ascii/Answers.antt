@@ -1,5 +1,4 @@
 -- A bit of each byte is tested, its highest.
-use Rattle.std.proofs.Common.{rules}
 use Rattle.texts.specs.Ascii.{tells_eight}
 use Rattle.texts.proofs.eight_ascii.Goals as goal
 

@@ -1,6 +1,5 @@
 -- The highest bit of each byte is tested.
 use Rattle.texts.specs.Ascii.{tells_four}
-use Rattle.std.proofs.Common.{rules}
 use Rattle.texts.proofs.four_ascii.Goals as goal
 
 pub returns : goal.returns

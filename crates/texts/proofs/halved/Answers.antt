@@ -1,6 +1,6 @@
 -- Each way out has its law in proofs/Strings.antt.
 use Rattle.std.proofs.Common.{arith, rules}
-use Rattle.texts.proofs.Strings.{lone_low, lone_high, below_low, below_end}
+use Rattle.texts.proofs.Strings.{below_low, below_end}
 use Rattle.texts.proofs.halved.Goals as goal
 
 pub opened-requires : goal.opened-requires
@@ -14,12 +14,6 @@ opened-requires-then-d-lt160 c = search (below_low, rules)
 
 pub returns-then-d-lt160 : goal.returns-then-d-lt160
 returns-then-d-lt160 c = c.opened-then-d-lt160.ensures _ (omega arith)
-
-pub returns-then-d-ge176 : goal.returns-then-d-ge176
-returns-then-d-ge176 c = lone_low _ _ _ (omega arith) (omega arith) c.requires.2 (omega arith) (omega arith)
-
-pub returns-then-left-lt2 : goal.returns-then-left-lt2
-returns-then-left-lt2 c = lone_high _ _ _ (omega arith) (omega arith) c.requires.2 (omega arith) (omega arith) (omega arith)
 
 pub returns : goal.returns
 returns c = c.pair.ensures _ (omega arith)

@@ -1,5 +1,4 @@
 -- Each kind has its table.
-use Rattle.std.proofs.Common.{rules}
 use Rattle.texts.proofs.head_form.Goals as goal
 
 pub returns-in-Utf8 : goal.returns-in-Utf8

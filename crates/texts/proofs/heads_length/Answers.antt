@@ -1,42 +1,12 @@
-use Rattle.std.proofs.Common.{◌≡◌, ◌+◌, ◌-◌, length, take, drop, ⊎_elim, arith, rules}
+use Rattle.std.proofs.Common.{◌≡◌, ◌+◌, take, drop, arith, rules}
 use Rattle.scalar.specs.TextUnits.{weights}
 use Rattle.scalar.specs.Decoded.{decoded}
 use Rattle.scalar.specs.StringLengths.{parts, parts_after}
-use Rattle.texts.specs.Answers.{Cutting}
 use Rattle.texts.proofs.Strings.{cutting_start, parting_filled, on_none, on_fault, on_inside, on_place, on_few}
 use Rattle.texts.proofs.Strings.{on_cuts, on_room, on_cut, on_within, on_size, on_end, on_shrinks, on_more}
 use Rattle.texts.proofs.Strings.{on_heads, on_both, on_heads_met}
 use Rattle.texts.proofs.heads_length.Goals as goal
-
-abbrev calls : lts.Claims
-calls = (
-  chunk-reads.Asked,
-  chunk-reads.Learnt,
-  after-cut-reads.Asked,
-  after-cut-reads.Learnt,
-  last-head-size-reads.Asked,
-  last-head-size-reads.Learnt,
-)
-
-leads : (c : lts.Joined2 calls reads.Pre reads.Post invariant-loop decreases-loop)
-    → let head = c.before.before in
-    let loop = head.before.before.before in
-    let start = loop.before.before.before in
-    parts_after loop.loop.cuts loop.loop.filled
-    (weights start.args.kind
-    (decoded start.args.kind
-    (take head.h.given.0.1.0 (drop (loop.loop.here + head.h.given.0.0) start.args.message.now))))
-    ≡ parts c.if2.cuts c.if2.filled
-leads c =
-    let head = c.before.before in
-    let read = head.before.before in
-    let loop = read.before in
-    let fit = loop.before.before.shared-slice-known.given in
-    let inv = loop.loop.invariant.parting in
-    ⊎_elim
-    (λ w. on_cut inv fit _ read.chunk.ensures _ _ _ _ _ head.h.given.1 _ w.1.ensures _ _ w.2 w.3)
-    (λ w. on_within inv fit _ read.chunk.ensures _ _ _ _ _ head.h.given.1 (omega arith) _ _ w.1 w.2)
-    c.if2.branch
+use Rattle.texts.proofs.heads_length.Goals.{then-filled-units, else-filled-units}
 
 pub returns-then-message-at : goal.returns-then-message-at
 returns-then-message-at c = search (on_none, rules)
@@ -72,16 +42,48 @@ pub overflow_add-here-in-Chunk-2 : goal.overflow_add-here-in-Chunk-2
 overflow_add-here-in-Chunk-2 c = search (on_end, rules)
 
 pub overflow_mul-result : goal.overflow_mul-result
-overflow_mul-result c = search (on_heads, leads c, rules)
+overflow_mul-result c =
+    let e : parts_after c.loop-h.cuts c.loop-h.filled
+    (weights c.args.kind (decoded c.args.kind (take c.in-Chunk.size (drop (c.loop-h.here + c.in-Chunk.h) c.args.message.now))))
+    ≡ parts c.if-filled-units.cuts c.if-filled-units.filled =
+    elim c.if-filled-units.branch [
+      | then-filled-units w ↦ on_cut c.loop-h.invariant.parting c.type_inv.message _ c.chunk.ensures _ _ _ _ _ c.in-Chunk.is _ w.after_cut-filled.ensures _ _ w.cuts-is w.filled-is
+      | else-filled-units w ↦ on_within c.loop-h.invariant.parting c.type_inv.message _ c.chunk.ensures _ _ _ _ _ c.in-Chunk.is (omega arith) _ _ w.cuts-is w.filled-is
+    ] in
+    search (on_heads, e, rules)
 
 pub overflow_add-result : goal.overflow_add-result
-overflow_add-result c = search (on_both, leads c, rules)
+overflow_add-result c =
+    let e : parts_after c.loop-h.cuts c.loop-h.filled
+    (weights c.args.kind (decoded c.args.kind (take c.in-Chunk.size (drop (c.loop-h.here + c.in-Chunk.h) c.args.message.now))))
+    ≡ parts c.if-filled-units.cuts c.if-filled-units.filled =
+    elim c.if-filled-units.branch [
+      | then-filled-units w ↦ on_cut c.loop-h.invariant.parting c.type_inv.message _ c.chunk.ensures _ _ _ _ _ c.in-Chunk.is _ w.after_cut-filled.ensures _ _ w.cuts-is w.filled-is
+      | else-filled-units w ↦ on_within c.loop-h.invariant.parting c.type_inv.message _ c.chunk.ensures _ _ _ _ _ c.in-Chunk.is (omega arith) _ _ w.cuts-is w.filled-is
+    ] in
+    search (on_both, e, rules)
 
 pub returns-then-last : goal.returns-then-last
-returns-then-last c = search (on_heads_met, leads c, rules)
+returns-then-last c =
+    let e : parts_after c.loop-h.cuts c.loop-h.filled
+    (weights c.args.kind (decoded c.args.kind (take c.in-Chunk.size (drop (c.loop-h.here + c.in-Chunk.h) c.args.message.now))))
+    ≡ parts c.if-filled-units.cuts c.if-filled-units.filled =
+    elim c.if-filled-units.branch [
+      | then-filled-units w ↦ on_cut c.loop-h.invariant.parting c.type_inv.message _ c.chunk.ensures _ _ _ _ _ c.in-Chunk.is _ w.after_cut-filled.ensures _ _ w.cuts-is w.filled-is
+      | else-filled-units w ↦ on_within c.loop-h.invariant.parting c.type_inv.message _ c.chunk.ensures _ _ _ _ _ c.in-Chunk.is (omega arith) _ _ w.cuts-is w.filled-is
+    ] in
+    search (on_heads_met, e, rules)
 
 pub loop-h-smaller : goal.loop-h-smaller
 loop-h-smaller c = search (on_shrinks, rules)
 
 pub loop-h-preserved : goal.loop-h-preserved
-loop-h-preserved c = search (on_more, leads c, rules)
+loop-h-preserved c =
+    let e : parts_after c.loop-h.cuts c.loop-h.filled
+    (weights c.args.kind (decoded c.args.kind (take c.in-Chunk.size (drop (c.loop-h.here + c.in-Chunk.h) c.args.message.now))))
+    ≡ parts c.if-filled-units.cuts c.if-filled-units.filled =
+    elim c.if-filled-units.branch [
+      | then-filled-units w ↦ on_cut c.loop-h.invariant.parting c.type_inv.message _ c.chunk.ensures _ _ _ _ _ c.in-Chunk.is _ w.after_cut-filled.ensures _ _ w.cuts-is w.filled-is
+      | else-filled-units w ↦ on_within c.loop-h.invariant.parting c.type_inv.message _ c.chunk.ensures _ _ _ _ _ c.in-Chunk.is (omega arith) _ _ w.cuts-is w.filled-is
+    ] in
+    search (on_more, e, rules)

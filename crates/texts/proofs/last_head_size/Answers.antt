@@ -1,7 +1,7 @@
 -- By the units: heads of one, two and three bytes, and none.
-use Rattle.std.proofs.Common.{arith, rules}
-use Rattle.scalar.specs.TextShort.{last_length, short_few}
-use Rattle.scalar.specs.StringLengths.{last_none}
+use Rattle.std.proofs.Common.{arith}
+use Rattle.scalar.proofs.TextShort.{last_length, short_few}
+use Rattle.scalar.proofs.StringLengths.{last_none}
 use Rattle.texts.proofs.last_head_size.Goals as goal
 
 pub returns-then-units-two_from : goal.returns-then-units-two_from

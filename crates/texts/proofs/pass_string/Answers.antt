@@ -1,5 +1,4 @@
-use Rattle.std.proofs.Common.{◌-◌, length, rules}
-use Rattle.texts.specs.Answers.{Joining}
+use Rattle.std.proofs.Common.{rules}
 use Rattle.texts.proofs.Strings.{joining_start, pass_none, pass_fault, pass_size, pass_end, pass_bytes}
 use Rattle.texts.proofs.Strings.{pass_units, pass_behind, pass_shrinks, pass_last, pass_more}
 use Rattle.texts.proofs.pass_string.Goals as goal

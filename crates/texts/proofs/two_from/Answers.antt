@@ -1,5 +1,4 @@
 -- `two_from` meets its contract.
-use Rattle.std.proofs.Common.{rules}
 use Rattle.texts.proofs.two_from.Goals as goal
 
 pub returns-in-Utf8 : goal.returns-in-Utf8

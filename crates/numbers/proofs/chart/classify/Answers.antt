@@ -1,14 +1,10 @@
 -- Each arm's bytes are a span of what the arm returns.
-use Rattle.std.proofs.Common.{◌≡◌, ℕ, suc, ◌+◌, ◌-◌, ◌<◌, ◌≤◌, Bool, false, ◌||◌, T, List, [], ◌∷◌, sym, refl, subst, inl, inr, ⊎_elim, zero-le, arith}
-use mir.Facts.{or_yes}
-use mir.Val.{has_key}
-use types.Run.{OneOf, hit}
-use Rattle.flow.specs.Tests.{split, every, every_at}
+use Rattle.std.proofs.Common.{◌≡◌, ℕ, suc, ◌<◌, ◌≤◌, sym, refl, ⊎_elim, zero-le, arith}
 use Rattle.scalar.specs.declared.Sort.TheVariants.{Null, False, True, Int, Long, Double, Date}
 use Rattle.scalar.specs.declared.Lead.{Lead}
 use Rattle.scalar.specs.declared.Lead.TheVariants as lead
 use Rattle.scalar.specs.Chart.{lead_of}
-use Rattle.scalar.specs.ChartLaws.{spans, span_at, span_lead}
+use Rattle.scalar.proofs.ChartLaws.{spans, span_at, span_lead}
 use Rattle.numbers.proofs.chart.classify.Goals as goal
 
 range : (x : Lead) (i : ℕ) {b : ℕ} → (span_at (spans x) i).0 ≤ b → b < suc (span_at (spans x) i).1 → x ≡ lead_of b
@@ -17,34 +13,6 @@ range x i h k = sym (span_lead x i h (omega arith))
 only : (x : Lead) (i : ℕ) {b : ℕ} → (span_at (spans x) i).0 ≡ (span_at (spans x) i).1 → b ≡ (span_at (spans x) i).0
     → x ≡ lead_of b
 only x i e k = sym (span_lead x i (omega arith) (omega arith))
-
-abbrev keys : List (List ℕ)
-keys =
-    (0x40 ∷ 0x45 ∷ 0x47 ∷ 0x50 ∷ []) ∷ (0x5a ∷ []) ∷ (0x51 ∷ []) ∷ (0x4f ∷ []) ∷ (0x43 ∷ []) ∷ (0x48 ∷ []) ∷ (0x4d ∷ [])
-    ∷ (0x54 ∷ []) ∷ (0x46 ∷ []) ∷ (0x4e ∷ []) ∷ (0x44 ∷ [])
-    ∷ (0x4c ∷ 0x59 ∷ []) ∷ (0x49 ∷ []) ∷ []
-
-abbrev None : List (List ℕ) → ℕ → Type 0
-None [] b = Unit {0}
-None (k ∷ ks) b = None ks b × (OneOf k b → ⊥)
-
-abbrev is_key : List (List ℕ) → ℕ → Bool
-is_key [] b = false
-is_key (k ∷ ks) b = has_key k b || is_key ks b
-
-no_key : (ks : List (List ℕ)) (b : ℕ) → None ks b → T (is_key ks b) → ⊥
-no_key [] b n t = t
-no_key (k ∷ ks) b n t =
-    elim (or_yes (has_key k b) (is_key ks b) t) [ inl y ↦ n.1 (hit k b y) | inr y ↦ no_key ks b n.0 y ]
-
-past : (lo hi : ℕ) → T (every (hi - lo) (λ i. is_key keys (lo + i))) → {b : ℕ} → lo ≤ b → None keys b → hi ≤ b
-past lo hi t {b} h n = split b hi
-    (λ l. let e : lo + (b - lo) ≡ b = omega arith in
-    absurd
-    (no_key keys b n
-    (subst (λ (m : ℕ). T (is_key keys m)) e
-    (every_at (hi - lo) (λ i. is_key keys (lo + i)) t (b - lo) (omega arith)))))
-    (λ l. l)
 
 pub returns-in-78 : goal.returns-in-78
 returns-in-78 c = only (lead.Number Null) 0 refl c.in-78.is
@@ -77,69 +45,68 @@ returns-in-64 c = ⊎_elim (only lead.Reserved 0 refl)
 
 pub returns-in-74 : goal.returns-in-74
 returns-in-74 c = range (lead.Number Date) 0
-    (past 0x43 0x4a tt c.in-32-to-47.if-b-lt67-own.false
-    c.in-128-to-215.in-128-to-215-own.rest)
-    c.in-74.if-b-lt76-own.true
+    (grind arith)
+    (omega arith)
 
 pub returns-in-120-to-127 : goal.returns-in-120-to-127
-returns-in-120-to-127 c = range lead.List 1 c.in-112-to-119.if-b-lt87-own.false c.in-120-to-127.if-b-lt89-own.true
+returns-in-120-to-127 c = range lead.List 1 (omega arith) (omega arith)
 
 pub returns-in-120-to-127-2 : goal.returns-in-120-to-127-2
-returns-in-120-to-127-2 c = range lead.List 0 c.in-112-to-119.if-b-lt120-own.false c.in-120-to-127.if-b-lt128-own.true
+returns-in-120-to-127-2 c = range lead.List 0 (omega arith) (omega arith)
 
 pub returns-in-112-to-119 : goal.returns-in-112-to-119
-returns-in-112-to-119 c = range lead.TypedList 1 (past 0x54 0x55 tt c.in-0-to-31.if-b-lt84-own.false c.in-128-to-215.in-128-to-215-own.rest) c.in-112-to-119.if-b-lt87-own.true
+returns-in-112-to-119 c = range lead.TypedList 1 (omega arith) (omega arith)
 
 pub returns-in-112-to-119-2 : goal.returns-in-112-to-119-2
-returns-in-112-to-119-2 c = range lead.TypedList 0 c.in-96-to-111.if-b-lt112-own.false c.in-112-to-119.if-b-lt120-own.true
+returns-in-112-to-119-2 c = range lead.TypedList 0 (omega arith) (omega arith)
 
 pub returns-in-32-to-47 : goal.returns-in-32-to-47
-returns-in-32-to-47 c = range lead.Bytes 0 c.in-0-to-31.if-b-lt32-own.false c.in-32-to-47.if-b-lt48-own.true
+returns-in-32-to-47 c = range lead.Bytes 0 (omega arith) (omega arith)
 
 pub returns-in-32-to-47-2 : goal.returns-in-32-to-47-2
-returns-in-32-to-47-2 c = range lead.Bytes 1 c.in-0-to-31.if-b-lt52-own.false c.in-32-to-47.if-b-lt56-own.true
+returns-in-32-to-47-2 c = range lead.Bytes 1 (omega arith) (omega arith)
 
 pub returns-in-32-to-47-3 : goal.returns-in-32-to-47-3
 returns-in-32-to-47-3 c = range lead.Bytes 2
-    (past 0x40 0x41 tt c.in-216-to-255.if-b-lt64-own.false c.in-128-to-215.in-128-to-215-own.rest)
-    c.in-32-to-47.if-b-lt67-own.true
+    (grind arith)
+    (omega arith)
 
 pub returns-in-0-to-31 : goal.returns-in-0-to-31
-returns-in-0-to-31 c = range lead.Text 0 zero-le c.in-0-to-31.if-b-lt32-own.true
+returns-in-0-to-31 c = range lead.Text 0 zero-le (omega arith)
 
 pub returns-in-0-to-31-2 : goal.returns-in-0-to-31-2
-returns-in-0-to-31-2 c = range lead.Text 1 c.in-32-to-47.if-b-lt48-own.false c.in-0-to-31.if-b-lt52-own.true
+returns-in-0-to-31-2 c = range lead.Text 1 (omega arith) (omega arith)
 
 pub returns-in-0-to-31-3 : goal.returns-in-0-to-31-3
 returns-in-0-to-31-3 c = range lead.Text 2
-    (past 0x4c 0x52 tt c.in-74.if-b-lt76-own.false c.in-128-to-215.in-128-to-215-own.rest)
-    c.in-0-to-31.if-b-lt84-own.true
+    (grind arith)
+    (omega arith)
 
 pub returns-in-96-to-111 : goal.returns-in-96-to-111
-returns-in-96-to-111 c = only lead.Object 1 refl c.in-128-to-215.in-128-to-215-own.keys10
+returns-in-96-to-111 c = only lead.Object 1 refl (omega arith)
 
 pub returns-in-96-to-111-2 : goal.returns-in-96-to-111-2
-returns-in-96-to-111-2 c = range lead.Object 0 c.in-91-to-95.if-b-lt96-own.false c.in-96-to-111.if-b-lt112-own.true
+returns-in-96-to-111-2 c = range lead.Object 0 (omega arith) (omega arith)
 
 pub returns-in-128-to-215 : goal.returns-in-128-to-215
-returns-in-128-to-215 c = only (lead.Number Int) 1 refl c.in-128-to-215.in-128-to-215-own.keys1
+returns-in-128-to-215 c = only (lead.Number Int) 1 refl (omega arith)
 
 pub returns-in-128-to-215-2 : goal.returns-in-128-to-215-2
-returns-in-128-to-215-2 c = range (lead.Number Int) 0 c.in-120-to-127.if-b-lt128-own.false c.in-128-to-215.if-b-lt216-own.true
+returns-in-128-to-215-2 c = range (lead.Number Int) 0 (omega arith) (omega arith)
 
 pub returns-in-91-to-95 : goal.returns-in-91-to-95
-returns-in-91-to-95 c = only (lead.Number Double) 1 refl c.in-128-to-215.in-128-to-215-own.keys3
+returns-in-91-to-95 c = only (lead.Number Double) 1 refl (omega arith)
 
 pub returns-in-91-to-95-2 : goal.returns-in-91-to-95-2
 returns-in-91-to-95-2 c = range (lead.Number Double) 0
-    (past 0x59 0x5b tt c.in-120-to-127.if-b-lt89-own.false c.in-128-to-215.in-128-to-215-own.rest) c.in-91-to-95.if-b-lt96-own.true
+    (grind arith) (omega arith)
 
 pub returns-in-216-to-255 : goal.returns-in-216-to-255
-returns-in-216-to-255 c = ⊎_elim (only (lead.Number Long) 3 refl) (only (lead.Number Long) 2 refl) c.in-128-to-215.in-128-to-215-own.keys2
+returns-in-216-to-255 c = ⊎_elim (only (lead.Number Long) 3 refl) (only (lead.Number Long) 2 refl) (grind arith)
 
 pub returns-in-216-to-255-2 : goal.returns-in-216-to-255-2
-returns-in-216-to-255-2 c = range (lead.Number Long) 1 c.in-32-to-47.if-b-lt56-own.false c.in-216-to-255.if-b-lt64-own.true
+returns-in-216-to-255-2 c = range (lead.Number Long) 1 (omega arith) (omega arith)
 
 pub returns-in-216-to-255-3 : goal.returns-in-216-to-255-3
-returns-in-216-to-255-3 c = range (lead.Number Long) 0 c.in-128-to-215.if-b-lt216-own.false
+returns-in-216-to-255-3 c = range (lead.Number Long) 0 (omega arith)
     c.ranges.b.fits

@@ -1,6 +1,5 @@
 -- The table has the entries in the order of the bytes.
-use Rattle.std.proofs.Common.{rules}
-use Rattle.scalar.specs.ChartLaws.{entries}
+use Rattle.scalar.proofs.ChartLaws.{entries}
 use Rattle.numbers.proofs.chart.entry.Goals as goal
 
 pub returns : goal.returns

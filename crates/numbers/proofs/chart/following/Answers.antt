@@ -1,6 +1,6 @@
 -- An entry's last digit is how many bytes follow.
-use Rattle.std.proofs.Common.{ℕ, ◌%◌, ap, ◌∙◌, rules}
-use Rattle.scalar.specs.ChartLaws.{entry_parts}
+use Rattle.std.proofs.Common.{ℕ, ◌%◌, ap, ◌∙◌}
+use Rattle.scalar.proofs.ChartLaws.{entry_parts}
 use Rattle.numbers.proofs.chart.following.Goals as goal
 
 pub returns : goal.returns

@@ -13,6 +13,6 @@ returns c = let a = c.args in
     five_is a.message.now a.at _ _ (omega arith) c.four_at-u.ensures.0
     (rw (
       ← c.signed_32.ensures,
-      ← to_z-of_z w64 c.signed_32.result (sfits_of c.signed_32.type-inv),
+      ← to_z-of_z w64 c.signed_32.result (sfits_of c.signed_32.type_inv),
     )
     c.bits_of.ensures)

@@ -1,7 +1,7 @@
 -- A form by its first byte; the others are read as any number.
-use Rattle.std.proofs.Common.{arith, rules}
+use Rattle.std.proofs.Common.{arith}
 use Rattle.scalar.specs.declared.Sort.TheVariants.{Date}
-use Rattle.scalar.specs.FormLaws.{forms_date}
+use Rattle.scalar.proofs.FormLaws.{forms_date}
 use Rattle.numbers.proofs.Reading.{begins}
 use Rattle.numbers.proofs.Loads.{formed}
 use Rattle.numbers.proofs.direct.pass_date.Goals as goal

@@ -1,7 +1,7 @@
 -- An arm's bytes are those of one form; others are read as any number.
-use Rattle.std.proofs.Common.{arith, rules}
+use Rattle.std.proofs.Common.{arith}
 use Rattle.scalar.specs.declared.Sort.TheVariants.{Long}
-use Rattle.scalar.specs.FormLaws.{forms_long}
+use Rattle.scalar.proofs.FormLaws.{forms_long}
 use Rattle.numbers.proofs.Reading.{begins}
 use Rattle.numbers.proofs.Loads.{formed}
 use Rattle.numbers.proofs.direct.pass_long.Goals as goal

@@ -1,7 +1,7 @@
 -- The only form of each kind.
-use Rattle.std.proofs.Common.{ap, ◌∙◌, rules}
+use Rattle.std.proofs.Common.{ap, ◌∙◌}
 use Rattle.scalar.specs.Scalars.{forms_of}
-use Rattle.scalar.specs.FormLaws.{forms_null, forms_false, forms_true}
+use Rattle.scalar.proofs.FormLaws.{forms_null, forms_false, forms_true}
 use Rattle.numbers.proofs.direct.pass_single.Goals as goal
 
 pub single-requires : goal.single-requires

@@ -1,6 +1,6 @@
 -- `doubles::narrow_magnitude` meets its contract.
-use Rattle.std.proofs.Common.{sym, arith, rules}
-use Rattle.scalar.specs.DoubleLaws.{narrow_top, narrow_normal, narrow_high, narrow_low, narrow_none, narrow_low_lt}
+use Rattle.std.proofs.Common.{sym, arith}
+use Rattle.scalar.proofs.DoubleLaws.{narrow_top, narrow_normal, narrow_high, narrow_low, narrow_none, narrow_low_lt}
 use Rattle.numbers.proofs.doubles.narrow_magnitude.Goals as goal
 
 pub returns-then-x-eq2047 : goal.returns-then-x-eq2047

@@ -1,6 +1,6 @@
 -- `doubles::narrowed` meets its contract.
-use Rattle.std.proofs.Common.{arith, rules}
-use Rattle.scalar.specs.RuleLaws.{narrowed_is}
+use Rattle.std.proofs.Common.{arith}
+use Rattle.scalar.proofs.RuleLaws.{narrowed_is}
 use Rattle.numbers.proofs.doubles.narrowed.Goals as goal
 
 pub returns : goal.returns

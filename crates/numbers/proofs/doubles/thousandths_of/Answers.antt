@@ -1,7 +1,7 @@
 -- `doubles::thousandths_of` meets its contract.
-use Rattle.std.proofs.Common.{sym, arith, w32, rules}
+use Rattle.std.proofs.Common.{sym, w32}
 use mir.ValLaws.{to_z-of_z}
-use Rattle.scalar.specs.Thousandths.{product_no_nan, thousandths_is}
+use Rattle.scalar.proofs.Thousandths.{product_no_nan, thousandths_is}
 use Rattle.numbers.proofs.doubles.thousandths_of.Goals as goal
 
 pub float_to_bits-result : goal.float_to_bits-result

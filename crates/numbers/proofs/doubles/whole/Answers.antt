@@ -1,7 +1,7 @@
 -- `doubles::whole` meets its contract.
-use Rattle.std.proofs.Common.{sym, arith, w16, rules}
+use Rattle.std.proofs.Common.{sym, arith, w16}
 use mir.ValLaws.{to_z-of_z}
-use Rattle.scalar.specs.Ieee.{of_int_no_nan, whole_agrees}
+use Rattle.scalar.proofs.Ieee.{of_int_no_nan, whole_agrees}
 use Rattle.numbers.proofs.doubles.whole.Goals as goal
 
 pub float_to_bits-result : goal.float_to_bits-result

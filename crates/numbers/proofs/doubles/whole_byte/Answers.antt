@@ -1,7 +1,7 @@
 -- `doubles::whole_byte` meets its contract.
-use Rattle.std.proofs.Common.{sym, ap, ◌∙◌, arith, w8, w16, rules}
+use Rattle.std.proofs.Common.{sym, ap, ◌∙◌, arith, w8, w16}
 use mir.ValLaws.{to_z_pos}
-use Rattle.scalar.specs.DoubleLaws.{lowered}
+use Rattle.scalar.proofs.DoubleLaws.{lowered}
 use Rattle.scalar.specs.Scalars.{whole}
 use Rattle.numbers.proofs.doubles.whole_byte.Goals as goal
 

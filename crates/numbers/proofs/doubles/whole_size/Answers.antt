@@ -1,6 +1,6 @@
 -- `doubles::whole_size` meets its contract.
-use Rattle.std.proofs.Common.{sym, arith, rules}
-use Rattle.scalar.specs.DoubleLaws.{size_in, size_high, size_low, size_lt}
+use Rattle.std.proofs.Common.{sym, arith}
+use Rattle.scalar.proofs.DoubleLaws.{size_in, size_high, size_low, size_lt}
 use Rattle.numbers.proofs.doubles.whole_size.Goals as goal
 
 pub returns-then-x-lt1055 : goal.returns-then-x-lt1055

@@ -1,6 +1,6 @@
 -- `doubles::widened` meets its contract.
-use Rattle.std.proofs.Common.{◌%◌, ◌^◌, sym, arith, rules}
-use Rattle.scalar.specs.DoubleLaws.{widened_top, widened_normal, widened_zero, widened_low, scaled_lt}
+use Rattle.std.proofs.Common.{◌%◌, ◌^◌, sym, arith}
+use Rattle.scalar.proofs.DoubleLaws.{widened_top, widened_normal, widened_zero, widened_low, scaled_lt}
 use Rattle.numbers.proofs.doubles.widened.Goals as goal
 
 pub returns-then-x-eq255 : goal.returns-then-x-eq255

@@ -1,5 +1,5 @@
 -- The stores one by one are one of all the bytes: proofs/Writing.antt.
-use Rattle.std.proofs.Common.{arith, length-set, rules}
+use Rattle.std.proofs.Common.{arith, length-set}
 use Rattle.numbers.proofs.Writing.{stores_four}
 use Rattle.numbers.proofs.stores.store_four.Goals as goal
 

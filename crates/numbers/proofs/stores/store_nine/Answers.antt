@@ -1,5 +1,5 @@
 -- Each way out has its law in proofs/Writing.antt.
-use Rattle.std.proofs.Common.{◌∷◌, ◌∙◌, arith, length-set, rules}
+use Rattle.std.proofs.Common.{◌∷◌, arith}
 use Rattle.wire.specs.BigEndian.{be}
 use Rattle.numbers.proofs.Writing.{stores_none, stores_nine}
 use Rattle.numbers.proofs.stores.store_nine.Goals as goal
@@ -9,16 +9,6 @@ returns-then-len-lt9 c = stores_none _ _ (_ ∷ be 8 _) (omega arith)
 
 pub returns-then-len-at : goal.returns-then-len-at
 returns-then-len-at c = stores_none _ _ (_ ∷ be 8 _) (omega arith)
-
-pub store_four-requires : goal.store_four-requires
-store_four-requires c = simp length-set (omega arith)
-
-pub store_four-requires-2 : goal.store_four-requires-2
-store_four-requires-2 c = let kept = rw length-set at c.store_four.auto.0 in
-    omega (arith, kept)
-
-pub shape_of-out : goal.shape_of-out
-shape_of-out c = c.store_four-2.auto.0 ∙ c.store_four.auto.0 ∙ simp length-set
 
 pub returns : goal.returns
 returns c = stores_nine _ _ _ _ (omega arith) c.store_four.ensures c.store_four-2.ensures

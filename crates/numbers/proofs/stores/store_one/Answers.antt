@@ -1,5 +1,5 @@
 -- Each way out has its law in proofs/Writing.antt.
-use Rattle.std.proofs.Common.{[], ◌∷◌, arith, rules}
+use Rattle.std.proofs.Common.{[], ◌∷◌, arith}
 use Rattle.numbers.proofs.Writing.{stores_none, stores_one}
 use Rattle.numbers.proofs.stores.store_one.Goals as goal
 

@@ -1,5 +1,5 @@
 -- Each way out has its law in proofs/Writing.antt.
-use Rattle.std.proofs.Common.{[], ◌∷◌, arith, length-set, rules}
+use Rattle.std.proofs.Common.{[], ◌∷◌, arith, length-set}
 use Rattle.numbers.proofs.Writing.{stores_none, stores_two}
 use Rattle.numbers.proofs.stores.store_two.Goals as goal
 

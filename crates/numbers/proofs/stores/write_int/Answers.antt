@@ -1,5 +1,4 @@
 -- The forms are those of ints.
-use Rattle.std.proofs.Common.{rules}
 use Rattle.numbers.proofs.Shortest.{int_codes}
 use Rattle.numbers.proofs.stores.write_int.Goals as goal
 

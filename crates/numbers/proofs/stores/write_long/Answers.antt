@@ -1,5 +1,4 @@
 -- The forms are those of longs.
-use Rattle.std.proofs.Common.{rules}
 use Rattle.numbers.proofs.Shortest.{long_codes}
 use Rattle.numbers.proofs.stores.write_long.Goals as goal
 

@@ -9,10 +9,10 @@ returns-then-known-ge-CLASSES c = search (class_full, rules)
 
 pub overflow_add-at-in-Content-2 : goal.overflow_add-at-in-Content-2
 overflow_add-at-in-Content-2 c = omega (
-      arith,
-      string_within _ _ _ c.pass_string.ensures
-          c.requires.0.bytes _ _ _ c.in-Content.is,
-    )
+  arith,
+  string_within _ _ _ c.pass_string.ensures
+      c.requires.0.bytes _ _ _ c.in-Content.is,
+)
 
 pub field_count-requires : goal.field_count-requires
 field_count-requires c = search (class_named, rules)

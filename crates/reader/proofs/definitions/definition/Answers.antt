@@ -29,14 +29,8 @@ pub returns-in-Refused-field_names : goal.returns-in-Refused-field_names
 returns-in-Refused-field_names c = search (definition_unnamed, rules)
 
 pub returns-in-Done : goal.returns-in-Done
-returns-in-Done c = let name =
-    c in
-    let end = name.before.before.before.before.before.before.before in
-    let named = end.before.before.before.before.before.before in
-    let class = named.before.before.before.before.before in
-    let start = class.before.before.before.before.before.before.before in
-    definition_done class.before.before.class-head.ensures start.pre.1 class.units.given.1
-    named.field-names.ensures _ end.end.given.1
-    name.store-row.ensures
+returns-in-Done c = definition_done c.class_head.ensures c.requires.1 c.in-Is.is
+    c.field_names.ensures _ c.in-Done.is
+    c.store_row.ensures
     c.store_row-in-Done.ensures
     c.define.ensures

@@ -8,10 +8,10 @@ returns-then-value-gt-FIELDS c = search (fields_wide, rules)
 
 pub overflow_add-result : goal.overflow_add-result
 overflow_add-result c = omega (
-      arith,
-      (count_says c.count_at.ensures
-          c.in-Is.is).3,
-    )
+  arith,
+  (count_says c.count_at.ensures
+      c.in-Is.is).3,
+)
 
 pub returns-in-Refused : goal.returns-in-Refused
 returns-in-Refused c = search (fields_lost, rules)

@@ -1,5 +1,5 @@
-use Rattle.std.proofs.Common.{◌-◌, rules}
-use Rattle.reader.proofs.ClassDefinitions.{ReadingNames, names_start, names_refused, name_fits, name_row}
+use Rattle.std.proofs.Common.{rules}
+use Rattle.reader.proofs.ClassDefinitions.{names_start, names_refused, name_fits, name_row}
 use Rattle.reader.proofs.ClassDefinitions.{names_more, names_done}
 use Rattle.reader.proofs.definitions.field_names.Goals as goal
 

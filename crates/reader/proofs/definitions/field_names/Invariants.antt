@@ -1,8 +1,7 @@
 -- The loop's invariant: what is left reads as the whole does, with the rows so far in front. The measure is how many
 -- names are left.
-use Rattle.std.proofs.Common.{◌-◌, rules}
-use Rattle.reader.proofs.ClassDefinitions.{ReadingNames, names_start, names_refused, name_fits, name_row}
-use Rattle.reader.proofs.ClassDefinitions.{names_more, names_done}
+use Rattle.std.proofs.Common.{◌-◌}
+use Rattle.reader.proofs.ClassDefinitions.{ReadingNames}
 use Rattle.reader.proofs.definitions.field_names.Given as goal
 
 abbrev pub invariant-loop-i : goal.invariant-loop-i

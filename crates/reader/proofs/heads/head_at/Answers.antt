@@ -2,7 +2,7 @@
 use Rattle.reader.proofs.ValueHeads.{lead_at_by, held_left, head_off, head_high, head_number, head_text}
 use Rattle.reader.proofs.ValueHeads.{head_bytes, head_reference, head_definition, head_none, head_full}
 use Rattle.reader.proofs.ValueHeads.{head_object, head_opening}
-use Rattle.std.proofs.Common.{refl, rules}
+use Rattle.std.proofs.Common.{rules}
 use Rattle.reader.proofs.heads.head_at.Goals as goal
 
 pub returns-then-message-at : goal.returns-then-message-at
@@ -30,7 +30,7 @@ pub object_head-requires : goal.object_head-requires
 object_head-requires c = search (lead_at_by, rules)
 
 pub opening-requires : goal.opening-requires
-opening-requires c = search (lead_at_by, held_left, refl, rules)
+opening-requires c = search (lead_at_by, held_left, rules)
 
 pub returns-in-Number : goal.returns-in-Number
 returns-in-Number c = search (head_number, rules)

@@ -1,5 +1,5 @@
 -- Each way out has its law in proofs/StoredRows.antt.
-use Rattle.std.proofs.Common.{refl, arith, length-set, rules}
+use Rattle.std.proofs.Common.{refl, arith, length-set}
 use Rattle.reader.proofs.StoredRows.{number_out, number_in}
 use Rattle.reader.proofs.rows.put_number.Goals as goal
 

@@ -1,5 +1,5 @@
 -- Each way out has its law in proofs/StoredRows.antt.
-use Rattle.std.proofs.Common.{arith, length-set, rules}
+use Rattle.std.proofs.Common.{arith, length-set}
 use Rattle.reader.proofs.StoredRows.{numbers_out, numbers_in}
 use Rattle.reader.proofs.rows.store_numbers.Goals as goal
 

@@ -1,5 +1,5 @@
 -- Each way out has its law in proofs/ThousandthLaws.antt.
-use Rattle.std.proofs.Common.{arith, rules}
+use Rattle.std.proofs.Common.{arith}
 use Rattle.record.specs.Laws.RowLaws.{row_of}
 use Rattle.reader.proofs.ThousandthLaws.{first_other, first_cut, first_byte, first_five}
 use Rattle.reader.proofs.thousandths.first_of.Goals as goal

@@ -1,5 +1,5 @@
 -- The first number is that of `first_of`.
-use Rattle.std.proofs.Common.{ℕ, ap, rules}
+use Rattle.std.proofs.Common.{ℕ, ap}
 use Rattle.record.specs.Model.Rows.{row}
 use Rattle.reader.proofs.thousandths.in_thousandths.Goals as goal
 

@@ -1,7 +1,5 @@
-use Rattle.std.proofs.Common.{◌-◌, arith, rules}
-use Rattle.record.specs.Model.Answers.{as_bytes}
-use Rattle.record.specs.Laws.TableLaws.{bytes_keep}
-use Rattle.reader.proofs.ThousandthLaws.{Retelling, retelling_start, retelling_next, retelling_end}
+use Rattle.std.proofs.Common.{arith}
+use Rattle.reader.proofs.ThousandthLaws.{retelling_start, retelling_next, retelling_end}
 use Rattle.reader.proofs.thousandths.retell_bytes.Goals as goal
 
 pub loop-i-init : goal.loop-i-init

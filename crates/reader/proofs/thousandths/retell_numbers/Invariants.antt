@@ -1,8 +1,8 @@
 -- Each way out has its law in proofs/ThousandthLaws.antt. The rows before i are told.
-use Rattle.std.proofs.Common.{◌-◌, arith, rules}
+use Rattle.std.proofs.Common.{◌-◌}
 use Rattle.record.specs.Model.Answers.{as_numbers}
-use Rattle.record.specs.Laws.TableLaws.{numbers_keep}
-use Rattle.reader.proofs.ThousandthLaws.{Retelling, retelling_start, retelling_next, retelling_end}
+use Rattle.record.proofs.Laws.TableLaws.{numbers_keep}
+use Rattle.reader.proofs.ThousandthLaws.{Retelling}
 use Rattle.reader.proofs.thousandths.retell_numbers.Given as goal
 
 abbrev pub invariant-loop-i : goal.invariant-loop-i

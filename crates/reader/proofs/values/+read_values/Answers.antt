@@ -1,7 +1,6 @@
-use Rattle.std.proofs.Common.{ℕ, ◌-◌, ◌<◌, length, ◌∙◌, arith, rules}
-use Rattle.reader.specs.Promises.{group_of}
+use Rattle.std.proofs.Common.{◌∙◌, arith, rules}
 use Rattle.reader.proofs.Containers.{stores_row_same, holder_row_read}
-use Rattle.reader.proofs.ReadValues.{ReadingValues, values_start, values_stop, values_refused}
+use Rattle.reader.proofs.ReadValues.{values_start, values_stop, values_refused}
 use Rattle.reader.proofs.ReadValues.{leaf_forward, values_leaf}
 use Rattle.reader.proofs.ReadValues.{inner_open, inner_ready, inner_forward, values_inner, values_inner_refused}
 use Rattle.reader.proofs.values.+read_values.Goals as goal
@@ -10,7 +9,7 @@ pub loop-group-init : goal.loop-group-init
 loop-group-init t c = search (values_start, rules)
 
 pub passed-requires : goal.passed-requires
-passed-requires t c = omega (arith, c.type_inv, c.loop-group.invariant.reads.ready.at.within)
+passed-requires t c = omega (arith, c.loop-group.invariant.reads.ready.at.within)
 
 pub shape_of-numbers-then-stop : goal.shape_of-numbers-then-stop
 shape_of-numbers-then-stop t c = search (◌∙◌, rules)
@@ -31,7 +30,7 @@ pub returns-in-Refused : goal.returns-in-Refused
 returns-in-Refused t c = search (values_refused, rules)
 
 pub overflow_add-i : goal.overflow_add-i
-overflow_add-i t c = omega (arith, c.type_inv, c.loop-group.invariant.steps, c.loop-group.invariant.reads.ready.at.within)
+overflow_add-i t c = omega (arith, c.loop-group.invariant.steps, c.loop-group.invariant.reads.ready.at.within)
 
 pub loop-group-smaller-in-Leaf : goal.loop-group-smaller-in-Leaf
 loop-group-smaller-in-Leaf t c = let value = c.begin.ensures in
@@ -59,14 +58,10 @@ read_values-requires t c = let value = c.begin.ensures in
     (omega (arith, open-one), ready)
 
 pub shape_of-numbers-in-Refused-read_values : goal.shape_of-numbers-in-Refused-read_values
-shape_of-numbers-in-Refused-read_values t c = c.numbers-in-Holder-1.given
-    ∙ c.numbers-1.given
-    ∙ c.loop-group.invariant.same_numbers
+shape_of-numbers-in-Refused-read_values t c = cc
 
 pub shape_of-bytes-in-Refused-read_values : goal.shape_of-bytes-in-Refused-read_values
-shape_of-bytes-in-Refused-read_values t c = c.bytes-in-Holder-1.given
-    ∙ c.bytes-1.given
-    ∙ c.loop-group.invariant.same_bytes
+shape_of-bytes-in-Refused-read_values t c = cc
 
 pub returns-in-Refused-read_values : goal.returns-in-Refused-read_values
 returns-in-Refused-read_values t c = let value = c.begin.ensures in
@@ -78,7 +73,7 @@ pub store_lent-requires : goal.store_lent-requires
 store_lent-requires t c = λ z. holder_row_read c.in-Holder.is c.in-Done.is _ c.holder_row-row.ensures
 
 pub overflow_add-i-in-Done : goal.overflow_add-i-in-Done
-overflow_add-i-in-Done t c = omega (arith, c.type_inv, c.loop-group.invariant.steps, c.loop-group.invariant.reads.ready.at.within)
+overflow_add-i-in-Done t c = omega (arith, c.loop-group.invariant.steps, c.loop-group.invariant.reads.ready.at.within)
 
 pub loop-group-smaller : goal.loop-group-smaller
 loop-group-smaller t c = let value = c.begin.ensures in

@@ -1,7 +1,7 @@
 use Rattle.reader.proofs.ReadValues.{begin_defined, begin_undefined, begin_less, begin_more, begin_fits}
 use Rattle.reader.proofs.ReadValues.{begin_begun}
-use Rattle.reader.proofs.ClassDefinitions.{ReadingDefinitions, definitions_start}
-use Rattle.std.proofs.Common.{◌-◌, length, ◌∙◌, rules}
+use Rattle.reader.proofs.ClassDefinitions.{definitions_start}
+use Rattle.std.proofs.Common.{◌∙◌, rules}
 use Rattle.reader.proofs.values.begin.Goals as goal
 
 pub loop-numbers-init : goal.loop-numbers-init

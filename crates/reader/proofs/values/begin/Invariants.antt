@@ -1,9 +1,7 @@
 -- The loop's invariant: what is left is the whole, with the rows of the definitions so far in front. The measure is how
 -- many bytes are left.
-use Rattle.reader.proofs.ReadValues.{begin_defined, begin_undefined, begin_less, begin_more, begin_fits}
-use Rattle.reader.proofs.ReadValues.{begin_begun}
-use Rattle.reader.proofs.ClassDefinitions.{ReadingDefinitions, definitions_start}
-use Rattle.std.proofs.Common.{◌-◌, length, ◌∙◌, rules}
+use Rattle.reader.proofs.ClassDefinitions.{ReadingDefinitions}
+use Rattle.std.proofs.Common.{◌-◌, length}
 use Rattle.reader.proofs.values.begin.Given as goal
 
 abbrev pub invariant-loop-numbers : goal.invariant-loop-numbers

@@ -28,7 +28,12 @@ pub put_field_names-requires : goal.put_field_names-requires
 put_field_names-requires c = (search (head_size, c.requires.0.2, rules), search rules, search (head_inside, c.requires.0.2, rules))
 
 pub overflow_add-next : goal.overflow_add-next
-overflow_add-next c = step_fits (returns-in-Done-put_field_names c)
+overflow_add-next c = step_fits
+    (definition_done _ _ _ _ _ c.requires.0.0.1 _ c.requires.0.2 c.requires.1
+    c.if-class-ne0.false _ c.if-known-ge-CLASSES.false c.if-fields-gt-FIELDS.false
+    _ _ c.put_class.ensures _ c.in-Done.is
+    _ _ c.put_field_names.ensures _ c.in-Done-put_field_names.is
+    c.define.ensures)
     (items_few c.args.numbers.now c.args.bytes.now c.args.rows c.args.source.now)
     (omega (arith, c.ranges.rows))
 

@@ -1,7 +1,5 @@
-use Prim.Native.Nat.{◌-◌}
 use borrow.Author.Rules.{rules}
-use Rattle.writer.specs.Promises.{items_in}
-use Rattle.writer.proofs.Classes.{DefinitionsSoFar, defining_start, defining_end, defining_inside}
+use Rattle.writer.proofs.Classes.{defining_start, defining_end, defining_inside}
 use Rattle.writer.proofs.Classes.{defining_stands, defining_value}
 use Rattle.writer.proofs.Classes.{defining_lost, defining_less, defining_more}
 use Rattle.writer.proofs.definitions.put_definitions.Goals as goal
@@ -17,9 +15,9 @@ returns-then-row-ne-CLASS c = search (defining_value, rules)
 
 pub put_definition-requires : goal.put_definition-requires
 put_definition-requires c = (
-      ((c.requires.0, c.loop-row.invariant.ready), search (defining_inside, rules), search (defining_stands, rules)),
-      search rules,
-    )
+  ((c.requires.0, c.loop-row.invariant.ready), search (defining_inside, rules), search (defining_stands, rules)),
+  search rules,
+)
 
 pub returns-in-NoRecord : goal.returns-in-NoRecord
 returns-in-NoRecord c = search (defining_lost, rules)

@@ -1,12 +1,8 @@
 -- The loop's invariant: what is left is written as the whole is, with the bytes so far before it. The measure is how
--- many
--- rows are left.
+-- many rows are left.
 use Prim.Native.Nat.{◌-◌}
-use borrow.Author.Rules.{rules}
 use Rattle.writer.specs.Promises.{items_in}
-use Rattle.writer.proofs.Classes.{DefinitionsSoFar, defining_start, defining_end, defining_inside}
-use Rattle.writer.proofs.Classes.{defining_stands, defining_value}
-use Rattle.writer.proofs.Classes.{defining_lost, defining_less, defining_more}
+use Rattle.writer.proofs.Classes.{DefinitionsSoFar}
 use Rattle.writer.proofs.definitions.put_definitions.Given as goal
 
 abbrev pub invariant-loop-row : goal.invariant-loop-row

@@ -1,4 +1,4 @@
--- Each way out takes one of the choices of `listCode`.
+-- Each way out takes one of the choices of `list_code`.
 use borrow.Author.Rules.{rules}
 use Rattle.flow.specs.Tests.{picks}
 use Rattle.writer.proofs.holders.list_code.Goals as goal

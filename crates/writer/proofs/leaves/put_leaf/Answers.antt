@@ -16,4 +16,4 @@ pub returns-in-14 : goal.returns-in-14
 returns-in-14 c = search (leaf_reference, rules)
 
 pub returns-in_default : goal.returns-in_default
-returns-in_default c = let n = c.in_default.in_default-own.rest in search (leaf_none, n.0.0.1, n.0.1, n.1, rules)
+returns-in_default c = search (leaf_none, rules)

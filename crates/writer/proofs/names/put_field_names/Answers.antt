@@ -1,7 +1,5 @@
-use Prim.Native.Nat.{◌-◌}
 use borrow.Author.Rules.{rules}
-use Rattle.writer.specs.Promises.{items_in}
-use Rattle.writer.proofs.Classes.{NamesSoFar, names_begin, names_lost, names_room, names_more, names_past}
+use Rattle.writer.proofs.Classes.{names_begin, names_lost, names_room, names_more, names_past}
 use Rattle.writer.proofs.FetchLaws.{items_few}
 use Rattle.writer.proofs.names.put_field_names.Goals as goal
 

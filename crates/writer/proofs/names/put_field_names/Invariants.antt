@@ -1,11 +1,8 @@
 -- The loop's invariant: what is left is written as the whole is, with the bytes so far before it. The measure is how
--- many
--- names are left.
+-- many names are left.
 use Prim.Native.Nat.{◌-◌}
-use borrow.Author.Rules.{rules}
 use Rattle.writer.specs.Promises.{items_in}
-use Rattle.writer.proofs.Classes.{NamesSoFar, names_begin, names_lost, names_room, names_more, names_past}
-use Rattle.writer.proofs.FetchLaws.{items_few}
+use Rattle.writer.proofs.Classes.{NamesSoFar}
 use Rattle.writer.proofs.names.put_field_names.Given as goal
 
 abbrev pub invariant-loop-i : goal.invariant-loop-i

@@ -1,19 +1,10 @@
-use mathlib.Core.Path.{◌∙◌}
 use native.Mathlib.Omega.{arith}
 use borrow.Author.Rules.{rules}
-use Rattle.writer.specs.Promises.{rows_in, items_in}
 use Rattle.writer.proofs.FetchLaws.{items_few}
-use Rattle.writer.proofs.ValueLaws.{ValuesSoFar, running_start, values_stop, values_none, past_less, past_fits}
+use Rattle.writer.proofs.ValueLaws.{running_start, values_stop, values_none, past_less, past_fits}
 use Rattle.writer.proofs.ValueLaws.{running_past, inner_open, inner_less, inner_ready, values_inner_none}
 use Rattle.writer.proofs.ValueLaws.{values_wrong, inside_size, within_less, within_fits, running_within}
-use Prim.Native.Nat.{ℕ, ◌-◌, ◌<◌}
 use Rattle.writer.proofs.values.+write_values.Goals as goal
-
-abbrev allowance : Measures 5 kinds.ps ℕ
-allowance κs a = a.1.1.1.1.1.1.0.allowed
-
-abbrev pre_at : ℕ → In 5 kinds.ps
-pre_at t = and 5 kinds.ps (is 5 kinds.ps allowance t) own.Pre
 
 pub loop-scope-init : goal.loop-scope-init
 loop-scope-init t c = search (running_start, items_few, rules)
@@ -60,20 +51,10 @@ write_values-requires t c = (
         c.loop-scope.invariant _ c.finished.ensures c.if-finished.false
         _ _ _ c.begin.ensures _ _ _ c.in-Within.is,
   ),
-    )
+)
 
 pub returns-in-NoRecord-write_values : goal.returns-in-NoRecord-write_values
 returns-in-NoRecord-write_values t c = search (values_inner_none, rules)
-
-pub shape_of-out-then-end-after : goal.shape_of-out-then-end-after
-shape_of-out-then-end-after t c = let begun = values .before .before .before .before .before .before .before .before .before in
-    let more = begun.before.before.before in
-    search (
-      c.slice_known-in-Within-1,
-      values .before .before .before .before .before .before .before .slice-known2,
-      more.before.before.loop,
-      rules,
-    )
 
 pub returns-then-end-after : goal.returns-then-end-after
 returns-then-end-after t c = search (values_wrong, rules)
@@ -82,29 +63,20 @@ pub close-requires : goal.close-requires
 close-requires t c = search (inside_size, rules)
 
 pub overflow_add-i-in-Done : goal.overflow_add-i-in-Done
-overflow_add-i-in-Done t c = let inner = values .before .before .before .before .before in
-    let begun = inner.before.before.before.before in
-    let more = begun.before.before.before in
-    within_fits _ _ _ _ _ _ _ _ _ _ _ _ _ _ _
-    more.before.before.loop.invariant _ more.before.finished.ensures more.if1.false
-    _ _ _ begun.begin.ensures _ _ _ inner.inside.given.1
-    _ _ _ (values .write-values .ensures) _ c.in-Done.is
+overflow_add-i-in-Done t c = within_fits _ _ _ _ _ _ _ _ _ _ _ _ _ _ _ c.loop-scope.invariant _ c.finished.ensures
+    c.if-finished.false
+    _ _ _ c.begin.ensures _ _ _ c.in-Within.is
+    _ _ _ c.write_values.ensures _ c.in-Done.is
 
 pub loop-scope-smaller : goal.loop-scope-smaller
-loop-scope-smaller t c = let inner = values .before .before .before .before .before in
-    let begun = inner.before.before.before.before in
-    let more = begun.before.before.before in
-    within_less _ _ _ _ _ _ _ _ _ _ _ _ _ _ _
-    more.before.before.loop.invariant _ more.before.finished.ensures more.if1.false
-    _ _ _ begun.begin.ensures _ _ _ inner.inside.given.1
-    _ _ _ (values .write-values .ensures) _ c.in-Done.is
+loop-scope-smaller t c = within_less _ _ _ _ _ _ _ _ _ _ _ _ _ _ _ c.loop-scope.invariant _ c.finished.ensures
+    c.if-finished.false
+    _ _ _ c.begin.ensures _ _ _ c.in-Within.is
+    _ _ _ c.write_values.ensures _ c.in-Done.is
 
 pub loop-scope-preserved : goal.loop-scope-preserved
-loop-scope-preserved t c = let inner = values .before .before .before .before .before in
-    let begun = inner.before.before.before.before in
-    let more = begun.before.before.before in
-    running_within _ _ _ _ _ _ _ _ _ _ _ _ _ _ _
-    more.before.before.loop.invariant _ more.before.finished.ensures more.if1.false
-    _ _ _ begun.begin.ensures _ _ _ inner.inside.given.1
-    _ _ _ (values .write-values .ensures) _ c.in-Done.is
+loop-scope-preserved t c = running_within _ _ _ _ _ _ _ _ _ _ _ _ _ _ _ c.loop-scope.invariant _ c.finished.ensures
+    c.if-finished.false
+    _ _ _ c.begin.ensures _ _ _ c.in-Within.is
+    _ _ _ c.write_values.ensures _ c.in-Done.is
     c.if-end-after.false _ _ c.close.ensures

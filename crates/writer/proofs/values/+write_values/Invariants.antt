@@ -1,14 +1,8 @@
 -- One function that calls itself: the measure is the allowance of open containers. The loop's invariant and the law of
 -- each way out are in proofs/ValueLaws.antt.
-use mathlib.Core.Path.{◌∙◌}
-use native.Mathlib.Omega.{arith}
-use borrow.Author.Rules.{rules}
 use Rattle.writer.specs.Promises.{rows_in, items_in}
-use Rattle.writer.proofs.FetchLaws.{items_few}
-use Rattle.writer.proofs.ValueLaws.{ValuesSoFar, running_start, values_stop, values_none, past_less, past_fits}
-use Rattle.writer.proofs.ValueLaws.{running_past, inner_open, inner_less, inner_ready, values_inner_none}
-use Rattle.writer.proofs.ValueLaws.{values_wrong, inside_size, within_less, within_fits, running_within}
-use Prim.Native.Nat.{ℕ, ◌-◌, ◌<◌}
+use Rattle.writer.proofs.ValueLaws.{ValuesSoFar}
+use Prim.Native.Nat.{◌-◌}
 use Rattle.writer.proofs.values.+write_values.Given as goal
 
 abbrev pub decreases-write_values : goal.decreases-write_values

@@ -9,7 +9,7 @@ begin_row-requires c = (
   (search rules, search (found_ready, rules)),
   search (found_inside, rules),
   search (found_stands, rules),
-    )
+)
 
 pub returns-in-NoRecord : goal.returns-in-NoRecord
 returns-in-NoRecord c = search (begin_none, rules)

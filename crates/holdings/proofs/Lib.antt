@@ -1,0 +1,9 @@
+pub mod EntryLaws
+pub mod FileLaws
+pub mod AdditionLaws
+pub mod BatchLaws
+pub mod NumberLaws
+pub mod FaultLaws
+pub mod Samples
+pub mod VersionSamples
+pub mod Proved

@@ -1,0 +1,9 @@
+pub mod ChartHeads
+pub mod ReadDefinitions
+pub mod ReadLengths
+pub mod ReadLoops
+pub mod ReadMessages
+pub mod ReadParts
+pub mod ReadValues
+pub mod ReadingAt
+pub mod Retelling

@@ -1,0 +1,4 @@
+pub mod Laws
+pub mod ForReader
+pub mod ForWriter
+pub mod Theorems

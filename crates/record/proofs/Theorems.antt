@@ -1,0 +1,9 @@
+pub mod AnswerTheorems
+pub mod CallCases
+pub mod Called
+pub mod HopTheorems
+pub mod ItemTheorems
+pub mod LengthTheorems
+pub mod RowTheorems
+pub mod SameTheorems
+pub mod Samples
