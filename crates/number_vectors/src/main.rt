@@ -12,15 +12,16 @@
 
 ghost use Rattle.std.specs.Prelude.{◌≤◌};
 
-use libc::{STDIN_FILENO, STDOUT_FILENO};
 use numbers::{NumberRead, direct};
 use scalar::{Sort, Written};
+use std::io;
+use std::io::{BufWriter, Read, Write};
 
 // What a buffer holds before anything is stored.
 const BLANK: u8 = 0xee;
 
 // How much is read of standard input.
-const LONGEST: usize = 0x2_0000;
+const LONGEST: u64 = 0x2_0000;
 
 // Where the value is stored in a larger buffer.
 const PLACE: usize = 3;
@@ -46,48 +47,50 @@ fn sort_of(kind: u8) -> Named {
 
 // ---- printing
 
-fn say(text: &[u8]) {
-    io::write_all(STDOUT_FILENO, text);
+fn say(to: &mut impl Write, text: &[u8]) -> io::Result<()> {
+    to.write_all(text)
 }
 
-fn say_number(n: u64) {
-    io::print_decimal(STDOUT_FILENO, n);
+fn say_number(to: &mut impl Write, n: u64) -> io::Result<()> {
+    write!(to, "{n}")
 }
 
 // The `count` bytes from `from` on, in hexadecimal digits.
-fn say_bytes(bytes: &[u8; 16], from: usize, count: usize) {
+fn say_bytes(to: &mut impl Write, bytes: &[u8; 16], from: usize, count: usize) -> io::Result<()> {
     let mut here = from;
     let mut left = count;
     while here < 16 {
         if left == 0 {
-            return;
+            return Ok(());
         }
-        io::print_hex(STDOUT_FILENO, wire::wide(bytes[here]), 2);
+        let byte = bytes[here];
+        write!(to, "{byte:02x}")?;
         here += 1;
         left -= 1;
     }
+    Ok(())
 }
 
 // ---- reading
 
-fn say_read(read: NumberRead) {
+fn say_read(to: &mut impl Write, read: NumberRead) -> io::Result<()> {
     match read {
         NumberRead::Value {
             value,
             size,
             shortest,
         } => {
-            io::print_hex(STDOUT_FILENO, value, 16);
-            say(b" ");
-            say_number(size as u64);
-            say(b" ");
-            say_number(shortest as u64);
+            write!(to, "{value:016x}")?;
+            say(to, b" ")?;
+            say_number(to, size as u64)?;
+            say(to, b" ")?;
+            say_number(to, shortest as u64)
         }
         NumberRead::Refused { number, place } => {
-            say(b"refused ");
-            say_number(wire::wide(number));
-            say(b" ");
-            say_number(place as u64);
+            say(to, b"refused ")?;
+            say_number(to, wire::wide(number))?;
+            say(to, b" ")?;
+            say_number(to, place as u64)
         }
     }
 }
@@ -142,20 +145,21 @@ fn same_directly(read: NumberRead, sort: Sort, message: &[u8], at: usize) -> boo
 }
 
 // The value at the place `at` of the message.
-fn read_message(sort: Sort, message: &[u8], at: usize) {
+fn read_message(to: &mut impl Write, sort: Sort, message: &[u8], at: usize) -> io::Result<()> {
     let read = numbers::read_number(sort, message, at);
-    say_read(read);
+    say_read(to, read)?;
     if !same_directly(read, sort, message, at) {
-        say(b" differs");
+        say(to, b" differs")?;
     }
+    Ok(())
 }
 
 // The same of the message that is the first n bytes of data.
-fn read_case(sort: Sort, data: &[u8], n: usize, at: usize) {
+fn read_case(to: &mut impl Write, sort: Sort, data: &[u8], n: usize, at: usize) -> io::Result<()> {
     if n <= data.len() {
-        read_message(sort, &data[0..n], at);
+        read_message(to, sort, &data[0..n], at)
     } else {
-        say(b"bad");
+        say(to, b"bad")
     }
 }
 
@@ -229,42 +233,57 @@ fn read_again(sort: Sort, value: u64, length: usize, out: &[u8; 16]) -> bool {
 }
 
 // The form that is stored in `out`, and what was kept.
-fn say_stored(sort: Sort, value: u64, length: usize, size: usize, out: &[u8; 16]) {
-    say_bytes(out, PLACE, size);
-    say(b" ");
-    say_number(length as u64);
+fn say_stored(
+    to: &mut impl Write,
+    sort: Sort,
+    value: u64,
+    length: usize,
+    size: usize,
+    out: &[u8; 16],
+) -> io::Result<()> {
+    say_bytes(to, out, PLACE, size)?;
+    say(to, b" ")?;
+    say_number(to, length as u64)?;
     if all_refused(sort, value, length) {
-        say(b" short ok");
+        say(to, b" short ok")?;
     }
     if size < 10 {
         if blank(out, 0, PLACE) && blank(out, PLACE + size, 16) {
-            say(b" rest ok");
+            say(to, b" rest ok")?;
         }
     }
     if read_again(sort, value, length, out) {
-        say(b" back ok");
+        say(to, b" back ok")?;
     }
+    Ok(())
 }
 
-fn say_none(sort: Sort, value: u64, length: usize, out: &[u8; 16]) {
-    say(b"none ");
-    say_number(length as u64);
+fn say_none(
+    to: &mut impl Write,
+    sort: Sort,
+    value: u64,
+    length: usize,
+    out: &[u8; 16],
+) -> io::Result<()> {
+    say(to, b"none ")?;
+    say_number(to, length as u64)?;
     if all_refused(sort, value, length) {
-        say(b" short ok");
+        say(to, b" short ok")?;
     }
     if blank(out, 0, 16) {
-        say(b" rest ok");
+        say(to, b" rest ok")?;
     }
+    Ok(())
 }
 
 // The value's shortest form, stored in a larger buffer.
-fn write_case(sort: Sort, value: u64) {
+fn write_case(to: &mut impl Write, sort: Sort, value: u64) -> io::Result<()> {
     let length = numbers::number_length(sort, value);
     let mut out = [BLANK; 16];
     match numbers::write_number(sort, value, &mut out, PLACE) {
-        Written::Stored { size } => say_stored(sort, value, length, size, &out),
-        Written::NoRoom { needed: _ } => say(b"no room"),
-        Written::NoSuchForm => say_none(sort, value, length, &out),
+        Written::Stored { size } => say_stored(to, sort, value, length, size, &out),
+        Written::NoRoom { needed: _ } => say(to, b"no room"),
+        Written::NoSuchForm => say_none(to, sort, value, length, &out),
     }
 }
 
@@ -291,13 +310,19 @@ fn parse(line: &[u8], case: &mut [u8; 12]) -> bool {
     line[24] == b'\n'
 }
 
-fn answer(operation: u8, sort: Sort, n: usize, data: &[u8; 10]) {
+fn answer(
+    to: &mut impl Write,
+    operation: u8,
+    sort: Sort,
+    n: usize,
+    data: &[u8; 10],
+) -> io::Result<()> {
     match operation {
-        0 => read_case(sort, data, n, 0),
-        1 => write_case(sort, wire::number_at(data, 0, 8, 0)),
-        2 => say_number(wire::wide(numbers::chart::entry(data[0]))),
-        3 => read_case(sort, data, n, wire::wide(data[9]) as usize),
-        _ => say(b"bad"),
+        0 => read_case(to, sort, data, n, 0),
+        1 => write_case(to, sort, wire::number_at(data, 0, 8, 0)),
+        2 => say_number(to, wire::wide(numbers::chart::entry(data[0]))),
+        3 => read_case(to, sort, data, n, wire::wide(data[9]) as usize),
+        _ => say(to, b"bad"),
     }
 }
 
@@ -307,39 +332,42 @@ fn data_of(case: &[u8; 12]) -> [u8; 10] {
     ]
 }
 
-fn run(line: &[u8]) {
+fn run(to: &mut impl Write, line: &[u8]) -> io::Result<()> {
     let mut case = [0u8; 12];
     if parse(line, &mut case) {
         match sort_of(case[0] % 16) {
             Named::As(sort) => answer(
+                to,
                 case[0] / 16,
                 sort,
                 wire::wide(case[1]) as usize,
                 &data_of(&case),
-            ),
-            Named::Unnamed => say(b"bad"),
+            )?,
+            Named::Unnamed => say(to, b"bad")?,
         }
     } else {
-        say(b"bad");
+        say(to, b"bad")?;
     }
-    say(b"\n");
+    say(to, b"\n")
 }
 
-fn run_all(input: &[u8]) {
+fn run_all(to: &mut impl Write, input: &[u8]) -> io::Result<()> {
     let len = input.len();
     let mut at = 0;
     while at < len {
         if len - at < 25 {
-            run(&input[at..]);
-            return;
+            return run(to, &input[at..]);
         }
-        run(&input[at..at + 25]);
+        run(to, &input[at..at + 25])?;
         at += 25;
     }
+    Ok(())
 }
 
-fn main() {
-    let mut input = [0u8; LONGEST];
-    let n = io::read_full(STDIN_FILENO, &mut input);
-    run_all(&input[..n]);
+fn main(rt: HostRuntime) -> io::Result<()> {
+    let mut input = Vec::new(rt.alloc());
+    rt.stdin().take(LONGEST).read_to_end(&mut input)?;
+    let mut to = BufWriter::new(rt.alloc(), rt.stdout())?;
+    run_all(&mut to, &input)?;
+    to.flush()
 }

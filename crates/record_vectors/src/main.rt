@@ -11,11 +11,12 @@
 // and what is to be printed, stdout.
 #![tactic(auto)]
 
-use libc::{STDIN_FILENO, STDOUT_FILENO};
 use reader::ReadAnswer;
 use record::ROW_NUMBERS;
 use record::limits::LONGEST;
 use scalar::refusals::ROOM;
+use std::io;
+use std::io::{BufWriter, Read, Write};
 use vectors::{Scanned, Step};
 
 // The longest message that is looked at, longer than any that is accepted, and the most numbers lent.
@@ -24,7 +25,7 @@ const LARGEST: usize = LONGEST + 8_000;
 const MOST: usize = 8_000;
 
 // The most bytes of cases.
-const MOST_INPUT: usize = 400_000;
+const MOST_INPUT: u64 = 400_000;
 
 #[derive(Clone, Copy)]
 enum Case {
@@ -92,112 +93,133 @@ fn sum(table: &[u64]) -> u64 {
 
 // ---- printing
 
-fn say(text: &[u8]) {
-    io::write_all(STDOUT_FILENO, text);
+fn say(to: &mut impl Write, text: &[u8]) -> io::Result<()> {
+    to.write_all(text)
 }
 
-fn say_number(n: u64) {
-    io::print_decimal(STDOUT_FILENO, n);
+fn say_number(to: &mut impl Write, n: u64) -> io::Result<()> {
+    write!(to, "{n}")
 }
 
 // A refusal has no shortest message: its length is 0.
-fn say_answer(number: u8, count: usize, place: usize, shortest: u64) {
-    say_number(wire::wide(number));
-    say(b" ");
-    say_number(count as u64);
-    say(b" ");
-    say_number(place as u64);
-    say(b" ");
-    say_number(shortest);
-    say(b" ");
+fn say_answer(
+    to: &mut impl Write,
+    number: u8,
+    count: usize,
+    place: usize,
+    shortest: u64,
+) -> io::Result<()> {
+    say_number(to, wire::wide(number))?;
+    say(to, b" ")?;
+    say_number(to, count as u64)?;
+    say(to, b" ")?;
+    say_number(to, place as u64)?;
+    say(to, b" ")?;
+    say_number(to, shortest)?;
+    say(to, b" ")
 }
 
 // The table after an answer: its sum, and whether all from the number `from` on is as it was.
-fn say_table(table: &[u64], from: usize) {
-    say_number(sum(table));
+fn say_table(to: &mut impl Write, table: &[u64], from: usize) -> io::Result<()> {
+    say_number(to, sum(table))?;
     if unchanged(table, from) {
-        say(b" ok");
+        say(to, b" ok")?;
     }
+    Ok(())
 }
 
 // An answer, and the table that it left.
-fn say_read(answer: ReadAnswer, table: &[u64]) {
+fn say_read(to: &mut impl Write, answer: ReadAnswer, table: &[u64]) -> io::Result<()> {
     match answer {
         ReadAnswer::Accepted {
             rows,
             length,
             shortest,
         } => {
-            say_answer(0, rows, length, shortest);
+            say_answer(to, 0, rows, length, shortest)?;
             if rows <= MOST {
-                say_table(table, rows * ROW_NUMBERS);
+                say_table(to, table, rows * ROW_NUMBERS)?;
             }
+            Ok(())
         }
         ReadAnswer::Refused { number, place } => {
-            say_answer(number, 0, place, 0);
-            say_table(table, 0);
+            say_answer(to, number, 0, place, 0)?;
+            say_table(to, table, 0)
         }
         ReadAnswer::TooFew { needed } => {
-            say_answer(ROOM, needed, 0, 0);
-            say_table(table, 0);
+            say_answer(to, ROOM, needed, 0, 0)?;
+            say_table(to, table, 0)
         }
     }
 }
 
 // The lengths of the shortest message that are answered without a table.
-fn say_lengths(message: &[u8]) {
-    say_number(reader::shortest_length(message));
-    say(b" ");
-    say_number(reader::shortest_length_thousandths(message));
+fn say_lengths(to: &mut impl Write, message: &[u8]) -> io::Result<()> {
+    say_number(to, reader::shortest_length(message))?;
+    say(to, b" ")?;
+    say_number(to, reader::shortest_length_thousandths(message))
 }
 
-fn answer(message: &[u8], table: &mut [u64]) {
+fn answer(to: &mut impl Write, message: &[u8], table: &mut [u64]) -> io::Result<()> {
     clear(table);
     let float = reader::read(message, table);
-    say_read(float, table);
-    say(b"; ");
+    say_read(to, float, table)?;
+    say(to, b"; ")?;
     clear(table);
     let thousandths = reader::read_thousandths(message, table);
-    say_read(thousandths, table);
-    say(b"; ");
-    say_lengths(message);
+    say_read(to, thousandths, table)?;
+    say(to, b"; ")?;
+    say_lengths(to, message)
 }
 
 // ---- lines
 
-fn answer_line(line: &[u8], message: &mut [u8], table: &mut [u64]) {
+fn answer_line(
+    to: &mut impl Write,
+    line: &[u8],
+    message: &mut [u8],
+    table: &mut [u64],
+) -> io::Result<()> {
     match parse(line, message) {
-        Case::NoCase => say(b"bad"),
+        Case::NoCase => say(to, b"bad"),
         Case::Of { lent, size } => {
             if message.len() < size {
-                say(b"bad");
+                say(to, b"bad")
             } else if table.len() < lent {
-                say(b"bad");
+                say(to, b"bad")
             } else {
-                answer(&message[0..size], &mut table[0..lent]);
+                answer(to, &message[0..size], &mut table[0..lent])
             }
         }
     }
 }
 
-fn run(line: &[u8], message: &mut [u8], table: &mut [u64]) {
-    answer_line(line, message, table);
-    say(b"\n");
+fn run(to: &mut impl Write, line: &[u8], message: &mut [u8], table: &mut [u64]) -> io::Result<()> {
+    answer_line(to, line, message, table)?;
+    say(to, b"\n")
 }
 
-fn run_all(input: &[u8], message: &mut [u8], table: &mut [u64]) {
+fn run_all(
+    to: &mut impl Write,
+    input: &[u8],
+    message: &mut [u8],
+    table: &mut [u64],
+) -> io::Result<()> {
     let mut at = 0;
     while at < input.len() {
         let end = vectors::line_end(input, at);
-        run(&input[at..end], message, table);
+        run(to, &input[at..end], message, table)?;
         at = end + 1;
     }
+    Ok(())
 }
 
-fn main() {
-    let mut input = [0u8; MOST_INPUT];
-    let n = io::read_full(STDIN_FILENO, &mut input);
+fn main(rt: HostRuntime) -> io::Result<()> {
+    let mut input = Vec::new(rt.alloc());
+    rt.stdin().take(MOST_INPUT).read_to_end(&mut input)?;
     let mut message = [0u8; LARGEST];
     let mut table = [0u64; MOST];
-    run_all(&input[..n], &mut message, &mut table);
+    let mut to = BufWriter::new(rt.alloc(), rt.stdout())?;
+    run_all(&mut to, &input, &mut message, &mut table)?;
+    to.flush()
 }

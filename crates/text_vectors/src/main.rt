@@ -17,10 +17,14 @@
 
 ghost use Rattle.std.specs.Prelude.{◌≤◌, ◌<◌, length};
 
-use libc::{STDIN_FILENO, STDOUT_FILENO};
 use scalar::{Encoding, Written};
+use std::io;
+use std::io::{BufWriter, Read, Write};
 use texts::StringRead;
 use vectors::{Scanned, Step};
+
+// The most bytes of cases.
+const MOST_INPUT: u64 = 65_536;
 
 // Where the form is stored.
 const PLACE: usize = 5;
@@ -97,24 +101,26 @@ fn parse(line: &[u8], message: &mut [u8]) -> Case {
 
 // ---- printing
 
-fn say(text: &[u8]) {
-    io::write_all(STDOUT_FILENO, text);
+fn say(to: &mut impl Write, text: &[u8]) -> io::Result<()> {
+    to.write_all(text)
 }
 
-fn say_number(n: usize) {
-    io::print_decimal(STDOUT_FILENO, n as u64);
+fn say_number(to: &mut impl Write, n: usize) -> io::Result<()> {
+    write!(to, "{n}")
 }
 
 // The first `count` bytes, in hexadecimal digits.
-fn say_bytes(bytes: &[u8], count: usize) {
+fn say_bytes(to: &mut impl Write, bytes: &[u8], count: usize) -> io::Result<()> {
     let mut i = 0;
     while i < bytes.len() {
         if count <= i {
-            return;
+            return Ok(());
         }
-        io::print_hex(STDOUT_FILENO, wire::wide(bytes[i]), 2);
+        let byte = bytes[i];
+        write!(to, "{byte:02x}")?;
         i += 1;
     }
+    Ok(())
 }
 
 // How often the first `width` bytes stand in a row at the start.
@@ -171,31 +177,32 @@ fn first_group(bytes: &[u8]) -> Group
 }
 
 // A group as a segment, or as a part of one.
-fn say_group(bytes: &[u8], g: Group, plain: bool) {
+fn say_group(to: &mut impl Write, bytes: &[u8], g: Group, plain: bool) -> io::Result<()> {
     if OFTEN <= g.times {
-        say(b" ");
-        say_bytes(bytes, g.width);
-        say(b"*");
-        say_number(g.times);
+        say(to, b" ")?;
+        say_bytes(to, bytes, g.width)?;
+        say(to, b"*")?;
+        say_number(to, g.times)
     } else {
         if !plain {
-            say(b" ");
+            say(to, b" ")?;
         }
-        say_bytes(bytes, g.width);
+        say_bytes(to, bytes, g.width)
     }
 }
 
 // The bytes in segments, a space before each.
-fn say_segments(bytes: &[u8]) {
+fn say_segments(to: &mut impl Write, bytes: &[u8]) -> io::Result<()> {
     let len = bytes.len();
     let mut at = 0;
     let mut plain = false;
     while at < len {
         let g = first_group(&bytes[at..]);
-        say_group(&bytes[at..], g, plain);
+        say_group(to, &bytes[at..], g, plain)?;
         plain = g.times < OFTEN;
         at += g.bytes;
     }
+    Ok(())
 }
 
 // ---- reading and writing
@@ -241,22 +248,30 @@ fn read_again(kind: Encoding, out: &[u8], units: usize, bytes: usize, size: usiz
 }
 
 // The form of `size` bytes that is stored in `out`, and what was kept.
-fn say_stored(kind: Encoding, out: &[u8], units: usize, bytes: usize, size: usize) {
+fn say_stored(
+    to: &mut impl Write,
+    kind: Encoding,
+    out: &[u8],
+    units: usize,
+    bytes: usize,
+    size: usize,
+) -> io::Result<()> {
     let len = out.len();
     if LARGEST < size {
-        return;
+        return Ok(());
     }
     let end = PLACE + size;
     if len < end {
-        return;
+        return Ok(());
     }
-    say_segments(&out[PLACE..end]);
+    say_segments(to, &out[PLACE..end])?;
     if vectors::unchanged(&out[0..PLACE], 0) && vectors::unchanged(out, end) {
-        say(b" rest ok");
+        say(to, b" rest ok")?;
     }
     if read_again(kind, out, units, bytes, size) {
-        say(b" back ok");
+        say(to, b" back ok")?;
     }
+    Ok(())
 }
 
 // The string at `at` is stored where `lent` bytes are lent.
@@ -303,45 +318,60 @@ fn room_told(
 }
 
 // The shortest form of the string at `at`, of these units and bytes, stored in `out`.
-fn say_form(kind: Encoding, message: &[u8], at: usize, units: usize, bytes: usize, out: &mut [u8]) {
+fn say_form(
+    to: &mut impl Write,
+    kind: Encoding,
+    message: &[u8],
+    at: usize,
+    units: usize,
+    bytes: usize,
+    out: &mut [u8],
+) -> io::Result<()> {
     let length = text_writer::string_length(kind, message, at);
-    say_number(length);
+    say_number(to, length)?;
     if LARGEST < length {
-        return;
+        return Ok(());
     }
     let end = PLACE + length;
     let lent = end + BEHIND;
     if out.len() < lent {
-        return;
+        return Ok(());
     }
     match text_writer::write_string(kind, message, at, &mut out[0..lent], PLACE) {
-        Written::Stored { size } => say_stored(kind, &out[0..lent], units, bytes, size),
-        Written::NoRoom { needed: _ } => say(b" no room"),
-        Written::NoSuchForm => say(b" none"),
+        Written::Stored { size } => say_stored(to, kind, &out[0..lent], units, bytes, size)?,
+        Written::NoRoom { needed: _ } => say(to, b" no room")?,
+        Written::NoSuchForm => say(to, b" none")?,
     }
     vectors::fill(&mut out[0..lent]);
     if room_told(kind, message, at, length, out, end) {
-        say(b" short ok");
+        say(to, b" short ok")?;
     }
     vectors::fill(&mut out[0..lent]);
+    Ok(())
 }
 
-fn say_content(units: usize, bytes: usize, size: usize, shortest: usize) {
-    say_number(units);
-    say(b" ");
-    say_number(bytes);
-    say(b" ");
-    say_number(size);
-    say(b" ");
-    say_number(shortest);
-    say(b" ");
+fn say_content(
+    to: &mut impl Write,
+    units: usize,
+    bytes: usize,
+    size: usize,
+    shortest: usize,
+) -> io::Result<()> {
+    say_number(to, units)?;
+    say(to, b" ")?;
+    say_number(to, bytes)?;
+    say(to, b" ")?;
+    say_number(to, size)?;
+    say(to, b" ")?;
+    say_number(to, shortest)?;
+    say(to, b" ")
 }
 
-fn say_refused(number: u8, place: usize) {
-    say(b"refused ");
-    io::print_decimal(STDOUT_FILENO, wire::wide(number));
-    say(b" ");
-    say_number(place);
+fn say_refused(to: &mut impl Write, number: u8, place: usize) -> io::Result<()> {
+    say(to, b"refused ")?;
+    write!(to, "{number}")?;
+    say(to, b" ")?;
+    say_number(to, place)
 }
 
 // No string at `at` has a length or is stored.
@@ -360,7 +390,13 @@ fn read(kind: Encoding, message: &[u8], at: usize) -> StringRead {
     }
 }
 
-fn answer(kind: Encoding, message: &[u8], at: usize, out: &mut [u8]) {
+fn answer(
+    to: &mut impl Write,
+    kind: Encoding,
+    message: &[u8],
+    at: usize,
+    out: &mut [u8],
+) -> io::Result<()> {
     match read(kind, message, at) {
         StringRead::Content {
             units,
@@ -368,52 +404,66 @@ fn answer(kind: Encoding, message: &[u8], at: usize, out: &mut [u8]) {
             size,
             shortest,
         } => {
-            say_content(units, bytes, size, shortest);
-            say_form(kind, message, at, units, bytes, out);
+            say_content(to, units, bytes, size, shortest)?;
+            say_form(to, kind, message, at, units, bytes, out)
         }
         StringRead::Refused { number, place } => {
-            say_refused(number, place);
+            say_refused(to, number, place)?;
             if none_told(kind, message, at, out) {
-                say(b" none ok");
+                say(to, b" none ok")?;
             }
+            Ok(())
         }
     }
 }
 
 // ---- lines
 
-fn answer_line(line: &[u8], message: &mut [u8], out: &mut [u8]) {
+fn answer_line(
+    to: &mut impl Write,
+    line: &[u8],
+    message: &mut [u8],
+    out: &mut [u8],
+) -> io::Result<()> {
     match parse(line, message) {
-        Case::NoCase => say(b"bad"),
+        Case::NoCase => say(to, b"bad"),
         Case::Of { kind, at, size } => {
             if message.len() < size {
-                say(b"bad");
+                say(to, b"bad")
             } else {
-                answer(kind, &message[0..size], at, out);
+                answer(to, kind, &message[0..size], at, out)
             }
         }
     }
 }
 
-fn run(line: &[u8], message: &mut [u8], out: &mut [u8]) {
-    answer_line(line, message, out);
-    say(b"\n");
+fn run(to: &mut impl Write, line: &[u8], message: &mut [u8], out: &mut [u8]) -> io::Result<()> {
+    answer_line(to, line, message, out)?;
+    say(to, b"\n")
 }
 
-fn run_all(input: &[u8], message: &mut [u8], out: &mut [u8]) {
+fn run_all(
+    to: &mut impl Write,
+    input: &[u8],
+    message: &mut [u8],
+    out: &mut [u8],
+) -> io::Result<()> {
     let mut at = 0;
     while at < input.len() {
         let end = vectors::line_end(input, at);
-        run(&input[at..end], message, out);
+        run(to, &input[at..end], message, out)?;
         at = end + 1;
     }
+    Ok(())
 }
 
-fn main() {
-    let mut input = io::large_buffer();
-    let n = io::read_full(STDIN_FILENO, &mut input);
+fn main(rt: HostRuntime) -> io::Result<()> {
+    let mut input = Vec::new(rt.alloc());
+    rt.stdin().take(MOST_INPUT).read_to_end(&mut input)?;
     let mut message = [0u8; LARGEST];
     let mut out = [0u8; 270_100];
     vectors::fill(&mut out);
-    run_all(&input[..n], &mut message, &mut out);
+    let mut to = BufWriter::new(rt.alloc(), rt.stdout())?;
+    run_all(&mut to, &input, &mut message, &mut out)?;
+    to.flush()
 }

@@ -9,10 +9,11 @@
 // vectors.py writes the cases, stdin, and what is to be printed, stdout.
 #![tactic(auto)]
 
-use libc::{STDIN_FILENO, STDOUT_FILENO};
 use record::ROW_NUMBERS;
 use record::limits::LONGEST;
 use scalar::refusals::{LENGTH, NO_RECORD, ROOM};
+use std::io;
+use std::io::{BufWriter, Read, Write};
 use vectors::{Scanned, Step};
 use writer::WriteAnswer;
 
@@ -23,7 +24,7 @@ const LARGEST: usize = LONGEST + 8_000;
 const MOST: usize = 10_000;
 
 // The most bytes of cases.
-const MOST_INPUT: usize = 400_000;
+const MOST_INPUT: u64 = 400_000;
 
 // How many bytes are lent, how many rows are claimed, the bytes of the source and the numbers in the table.
 #[derive(Clone, Copy)]
@@ -68,7 +69,7 @@ fn take_row(line: &[u8], at: usize, row: &mut [u64; ROW_NUMBERS]) -> Step {
 // The number i of a row, as the number k of a table: the fifth is counted from its own row.
 fn number_in(n: u64, i: usize, k: usize) -> u64 {
     if i == 4 {
-        return std::num::wrapping_add_u64(n, (k / ROW_NUMBERS) as u64);
+        return n.wrapping_add((k / ROW_NUMBERS) as u64);
     }
     n
 }
@@ -193,41 +194,60 @@ fn parse(line: &[u8], source: &mut [u8], table: &mut [u64]) -> Case {
 
 // ---- printing
 
-fn say(text: &[u8]) {
-    io::write_all(STDOUT_FILENO, text);
+fn say(to: &mut impl Write, text: &[u8]) -> io::Result<()> {
+    to.write_all(text)
 }
 
-fn say_number(n: u64) {
-    io::print_decimal(STDOUT_FILENO, n);
+fn say_number(to: &mut impl Write, n: u64) -> io::Result<()> {
+    write!(to, "{n}")
 }
 
 // An answer, and the output after it, which is to be unchanged from `from` on.
-fn say_answer(number: u8, count: usize, output: &[u8], from: usize) {
-    say_number(wire::wide(number));
-    say(b" ");
-    say_number(count as u64);
-    say(b" 0 ");
-    say_number(vectors::sum(output));
+fn say_answer(
+    to: &mut impl Write,
+    number: u8,
+    count: usize,
+    output: &[u8],
+    from: usize,
+) -> io::Result<()> {
+    say_number(to, wire::wide(number))?;
+    say(to, b" ")?;
+    say_number(to, count as u64)?;
+    say(to, b" 0 ")?;
+    say_number(to, vectors::sum(output))?;
     if vectors::unchanged(output, from) {
-        say(b" ok");
+        say(to, b" ok")?;
     }
+    Ok(())
 }
 
-fn answer(source: &[u8], table: &[u64], claimed: u64, output: &mut [u8]) {
+fn answer(
+    to: &mut impl Write,
+    source: &[u8],
+    table: &[u64],
+    claimed: u64,
+    output: &mut [u8],
+) -> io::Result<()> {
     vectors::fill(output);
     match writer::write(source, table, claimed, output) {
-        WriteAnswer::Written { size } => say_answer(0, size, output, size),
-        WriteAnswer::TooLong => say_answer(LENGTH, 0, output, 0),
-        WriteAnswer::NoRecord => say_answer(NO_RECORD, 0, output, 0),
-        WriteAnswer::TooFew { needed } => say_answer(ROOM, needed, output, 0),
+        WriteAnswer::Written { size } => say_answer(to, 0, size, output, size),
+        WriteAnswer::TooLong => say_answer(to, LENGTH, 0, output, 0),
+        WriteAnswer::NoRecord => say_answer(to, NO_RECORD, 0, output, 0),
+        WriteAnswer::TooFew { needed } => say_answer(to, ROOM, needed, output, 0),
     }
 }
 
 // ---- lines
 
-fn answer_line(line: &[u8], source: &mut [u8], table: &mut [u64], output: &mut [u8]) {
+fn answer_line(
+    to: &mut impl Write,
+    line: &[u8],
+    source: &mut [u8],
+    table: &mut [u64],
+    output: &mut [u8],
+) -> io::Result<()> {
     match parse(line, source, table) {
-        Case::NoCase => say(b"bad"),
+        Case::NoCase => say(to, b"bad"),
         Case::Of {
             lent,
             claimed,
@@ -235,42 +255,58 @@ fn answer_line(line: &[u8], source: &mut [u8], table: &mut [u64], output: &mut [
             numbers,
         } => {
             if source.len() < size {
-                say(b"bad");
+                say(to, b"bad")
             } else if table.len() < numbers {
-                say(b"bad");
+                say(to, b"bad")
             } else if output.len() < lent {
-                say(b"bad");
+                say(to, b"bad")
             } else {
                 answer(
+                    to,
                     &source[0..size],
                     &table[0..numbers],
                     claimed,
                     &mut output[0..lent],
-                );
+                )
             }
         }
     }
 }
 
-fn run(line: &[u8], source: &mut [u8], table: &mut [u64], output: &mut [u8]) {
-    answer_line(line, source, table, output);
-    say(b"\n");
+fn run(
+    to: &mut impl Write,
+    line: &[u8],
+    source: &mut [u8],
+    table: &mut [u64],
+    output: &mut [u8],
+) -> io::Result<()> {
+    answer_line(to, line, source, table, output)?;
+    say(to, b"\n")
 }
 
-fn run_all(input: &[u8], source: &mut [u8], table: &mut [u64], output: &mut [u8]) {
+fn run_all(
+    to: &mut impl Write,
+    input: &[u8],
+    source: &mut [u8],
+    table: &mut [u64],
+    output: &mut [u8],
+) -> io::Result<()> {
     let mut at = 0;
     while at < input.len() {
         let end = vectors::line_end(input, at);
-        run(&input[at..end], source, table, output);
+        run(to, &input[at..end], source, table, output)?;
         at = end + 1;
     }
+    Ok(())
 }
 
-fn main() {
-    let mut input = [0u8; MOST_INPUT];
-    let n = io::read_full(STDIN_FILENO, &mut input);
+fn main(rt: HostRuntime) -> io::Result<()> {
+    let mut input = Vec::new(rt.alloc());
+    rt.stdin().take(MOST_INPUT).read_to_end(&mut input)?;
     let mut source = [0u8; LARGEST];
     let mut table = [0u64; MOST];
     let mut output = [0u8; LARGEST];
-    run_all(&input[..n], &mut source, &mut table, &mut output);
+    let mut to = BufWriter::new(rt.alloc(), rt.stdout())?;
+    run_all(&mut to, &input, &mut source, &mut table, &mut output)?;
+    to.flush()
 }
