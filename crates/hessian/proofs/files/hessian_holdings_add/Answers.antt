@@ -5,4 +5,4 @@ use Rattle.hessian.proofs.files.hessian_holdings_add.Goals as goal
 
 pub returns : goal.returns
 returns c = let called = c.add-a in
-    add_gives _ _ _ _ c.Numbers-of.ensures _ _ _ _ called.ensures
+    add_gives _ _ _ _ c.numbers_of.ensures _ _ _ _ called.ensures
