@@ -1,11 +1,10 @@
 -- What the contracts of `copy_content` and `hessian_content` ask at each of their ways out.
-use mathlib.Core.Path.{◌≡◌, refl, sym, ap, ◌∙◌}
+use mathlib.Core.Path.{◌≡◌, sym, ap, ◌∙◌}
 use mathlib.Core.Bool.{false, true}
 use mathlib.Core.List.{List}
 use mathlib.Core.Option.{Option, none}
 use Prim.Native.Nat.{ℕ}
 use lib.ListN.{length}
-use Rattle.flow.specs.Flow.{Report}
 use Rattle.scalar.specs.declared.Written.{Written}
 use Rattle.scalar.specs.declared.Written.TheVariants.{Stored, NoRoom, NoSuchForm}
 use Rattle.scalar.specs.declared.Encoding.TheVariants.{Utf8, Binary}

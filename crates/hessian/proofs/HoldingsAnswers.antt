@@ -1,5 +1,5 @@
 -- What the contracts of the C functions of the holdings file ask at each of their ways out.
-use mathlib.Core.Path.{◌≡◌, sym, ap, subst, ◌∙◌}
+use mathlib.Core.Path.{◌≡◌, sym, ap, subst}
 use mathlib.Core.List.{List}
 use Prim.Native.Nat.{ℕ}
 use Rattle.flow.specs.Flow.{Report}

@@ -1,12 +1,12 @@
 -- The proofs of the demands: Demands.antt states them.
-use Rattle.std.specs.Prelude.{◌≡◌, refl, List, ◌↔◌, ℕ, ◌+◌, ◌*◌, ◌/◌, ◌%◌, ◌^◌, ◌≤◌, ◌<◌, length}
+use Rattle.std.specs.Prelude.{◌≡◌, refl, List, ◌↔◌, ℕ, ◌/◌, ◌%◌, ◌^◌, ◌≤◌, ◌<◌, length}
 use Rattle.std.proofs.Common.{sym, ap, subst, ◌∙◌, arith}
 use Rattle.scalar.specs.Scalars.{DoubleRule, Floats, Thousandths}
 use Rattle.flow.specs.Flow.{Report}
 use Rattle.record.specs.Model.Claims.{content_of, content_at}
 use Rattle.record.proofs.Laws.NamedContents.{named_content_law}
 use Rattle.scalar.proofs.AnswerLaws.{report_stored, output_some}
-use Rattle.record.specs.Model.Answers.{base, base_open_from, as_numbers, as_bytes, lent_rows, read_report, write_report}
+use Rattle.record.specs.Model.Answers.{base, base_open_from, as_numbers, as_bytes, lent_rows}
 use Rattle.record.specs.Model.Calls.{ReadCall, WriteCall}
 use Rattle.record.proofs.Laws.Bounds.{answer_small, written_small, written_place}
 use Rattle.record.proofs.Laws.TableLaws.{numbers_keep, bytes_keep}

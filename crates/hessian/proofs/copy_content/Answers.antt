@@ -1,5 +1,4 @@
 -- Each way out has its law in proofs/Contents.antt.
-use borrow.Author.Rules.{rules}
 use Rattle.hessian.proofs.Contents.{told_stored, told_room, told_none}
 use Rattle.hessian.proofs.copy_content.Goals as goal
 

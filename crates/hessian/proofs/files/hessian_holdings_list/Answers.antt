@@ -1,5 +1,4 @@
 -- Each way out has its law in proofs/HoldingsAnswers.antt.
-use borrow.Author.Rules.{rules}
 use Rattle.hessian.proofs.HoldingsAnswers.{list_gives}
 use Rattle.hessian.proofs.files.hessian_holdings_list.Goals as goal
 

@@ -1,5 +1,4 @@
 -- Each way out has its law in proofs/HoldingsAnswers.antt.
-use borrow.Author.Rules.{rules}
 use Rattle.hessian.proofs.HoldingsAnswers.{as_accepted, as_refused, as_few}
 use Rattle.hessian.proofs.files.numbers_of.Goals as goal
 

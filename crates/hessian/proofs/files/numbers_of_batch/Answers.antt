@@ -1,5 +1,4 @@
 -- Each way out has its law in proofs/HoldingsAnswers.antt.
-use borrow.Author.Rules.{rules}
 use Rattle.hessian.proofs.HoldingsAnswers.{as_taken, as_stopped, as_unread}
 use Rattle.hessian.proofs.files.numbers_of_batch.Goals as goal
 
