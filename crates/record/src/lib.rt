@@ -1,5 +1,6 @@
-// What a record is, how a message reads, its shortest message, and the theorems stand in specs/: theory, the limits,
-// the kinds of rows and the types that code shares, and the array of what is known.
+// What a record is, how a message reads, its shortest message, and what the theorems say stand in specs/, the laws and
+// the proofs in proofs/: theory, the limits, the kinds of rows and the types that code shares, and the array of what is
+// known.
 #![tactic(auto)]
 
 pub mod kinds;

@@ -1,6 +1,6 @@
 -- The chart: what each first byte opens, and how many bytes follow before any content. The code tells bytes apart by
 -- it; what is read is defined without it (Scalars.antt, and record's Model/Reading.antt), and agrees with it
--- (ChartLaws.antt).
+-- (proofs/ChartLaws.antt, ByChart.antt).
 use mathlib.Core.{List.List, List.[], List.◌∷◌}
 use Rattle.std.specs.Prelude.{ℕ, suc, ◌+◌, ◌*◌}
 use Rattle.flow.specs.Flow.{pick, within}

@@ -45,7 +45,7 @@ unfoldable pub widened : ℕ → ℕ  -- 5f: the double that a float of 32 bits 
 widened u = u / 2 ^ 31 * 2 ^ 63 + magnitude (u / 2 ^ 23 % 2 ^ 8) (u % 2 ^ 23)
 
 -- 2026-11: 'm made an f64, multiplied once by the f64 nearest to 0.001'. That the bits are those of the double nearest
--- to 1/1000: Thousandths.antt
+-- to 1/1000: proofs/Thousandths.antt
 unfoldable pub thousandth : ℕ
 thousandth = 0x3f50_624d_d2f1_a9fc
 
@@ -186,7 +186,7 @@ char_lead b =
 
 -- 2026-04: the character of the halves ed d x and ed y z, in four bytes. Its code point has 21 bits: the five of
 -- d % 16 + 1 (the 1 is the 0x10000 of Unicode's formula), six of x, four of y, six of z; the bytes hold three, six, six
--- and six of them. That this is Unicode's formula, and one to one: Pairs.antt
+-- and six of them. That this is Unicode's formula, and one to one: proofs/Pairs.antt
 unfoldable pub paired : ℕ → ℕ → ℕ → ℕ → List ℕ
 paired d x y z =
     (0xf0 + (d % 16 + 1) / 4)

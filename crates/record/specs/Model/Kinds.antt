@@ -1,5 +1,5 @@
 -- The kinds of rows, each once: the numbers of `enum hessian_kind` in include/hessian.h, and of the code's constants in
--- src/kinds.rt. A single value's kind is given by its sort (scalar's `sort_kind`), which RowLaws.antt holds to these.
+-- src/kinds.rt. A single value's kind is given by its sort (scalar's `sort_kind`), which proofs/Laws/RowLaws.antt holds to these.
 use Rattle.std.specs.Prelude.{ℕ}
 
 abbrev pub null_kind : ℕ

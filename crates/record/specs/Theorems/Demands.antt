@@ -1,5 +1,5 @@
 -- The demands, in their words, of calls that read and write whole messages. Model/Calls.antt has the terms; the proofs
--- are in Called.antt.
+-- are in proofs/Theorems/Called.antt.
 use mathlib.Core.{Path.◌≡◌, Logic.{◌↔◌, ◌⊎◌}, List.List, List.map}
 use Rattle.std.specs.Prelude.{ℕ, ◌^◌, ◌≤◌, ◌<◌, length, take, drop}
 use Rattle.flow.specs.RefusalNumbers.{wrong_length, cut, bytes_after, no_room, no_record}
