@@ -1,4 +1,4 @@
--- A value's head by its first byte: what the contracts of `opening`, `high_head` and `head_at_law` ask at each way out, one
+-- A value's head by its first byte: what the contracts of `opening`, `high_head` and `head_at` ask at each way out, one
 -- law for each.
 use Rattle.std.proofs.Common.{◌≡◌, ℕ, ◌+◌, ◌<◌, ◌≤◌, false, T, eqb, List, [], ◌∷◌, length, get_or, sym, refl, ap, ◌∙◌, subst, arith, ne_eqb}
 use types.Run.{OneOf, miss}

@@ -1,4 +1,4 @@
-// Class definitions. The laws of their meaning are in record's specs/Definitions.antt.
+// Class definitions. The laws of their meaning are in record's proofs/ForReader/ReadDefinitions.antt.
 ghost use Rattle.std.specs.Prelude.{◌≡◌, ◌+◌, ◌^◌, ◌<◌, ◌≤◌, slice_index};
 ghost use Rattle.scalar.specs.declared.Lead.TheVariants as lead;
 ghost use Rattle.record.specs.Model.Answers.{base};

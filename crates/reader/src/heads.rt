@@ -1,5 +1,5 @@
 // What a value begins with, when no class definition stands before it. The laws of its meaning are in record's
-// specs/ForReader/ReadValues.antt.
+// proofs/ForReader/ReadValues.antt.
 ghost use Rattle.std.specs.Prelude.{◌≡◌, length, slice_index};
 ghost use Rattle.scalar.specs.declared.Lead.TheVariants as lead;
 ghost use Rattle.scalar.specs.Scalars.{sort_kind};

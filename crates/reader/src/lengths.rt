@@ -1,6 +1,6 @@
 // 2026-06: the length of the record's shortest message is the sum of the bytes that are each row's own. One or two
 // numbers are too few for a row: lent in place of a table, the first of them is that sum, and no row is stored. The sum
-// wraps; that it never does is known once the message is read (record's specs/ForReader/ReadLengths.antt).
+// wraps; that it never does is known once the message is read (record's proofs/ForReader/ReadLengths.antt).
 ghost use Rattle.std.specs.Prelude.{◌≡◌, ◌<◌, ◌≤◌, length};
 ghost use Rattle.record.specs.Model.Kinds.{text_kind, list_kind, class_name_kind};
 ghost use Rattle.record.specs.Model.Rows.{row};

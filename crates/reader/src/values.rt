@@ -1,5 +1,5 @@
 // Values: class definitions, a head, and the values inside. The laws of their meaning are in record's
-// specs/ForReader/ReadLoops.antt and ReadValues.antt.
+// proofs/ForReader/ReadLoops.antt and ReadValues.antt.
 ghost use Rattle.std.specs.Prelude.{◌≡◌, ◌+◌, ◌^◌, ◌<◌, length, slice_index};
 ghost use Rattle.record.specs.Model.Rows.{item_row};
 ghost use Rattle.record.specs.ForReader.ReadLoops.{closes, stops, past, parts};

@@ -1,4 +1,4 @@
-// Class definitions. The laws of what is written of them are in record's specs/ForWriter/WrittenNames.antt
+// Class definitions. The laws of what is written of them are in record's proofs/ForWriter/WrittenNames.antt
 // and WrittenValues.antt.
 ghost use Rattle.std.specs.Prelude.{◌≡◌, ◌≤◌, ◌<◌, length};
 ghost use Rattle.record.specs.Model.Kinds.{class_kind};

@@ -1,5 +1,5 @@
 // Lists, maps and objects, up to the values inside. The laws of what is written of them are in record's
-// specs/ForWriter/WrittenItems.antt.
+// proofs/ForWriter/WrittenItems.antt.
 ghost use Rattle.std.specs.Prelude.{◌≡◌, ◌≤◌};
 ghost use Rattle.record.specs.Model.Shortest.{object_code};
 ghost use Rattle.record.specs.Laws.KnownArray.{Kept};

@@ -1,4 +1,4 @@
-// Types of lists and maps. The laws of what is written of them are in record's specs/ForWriter/WrittenNames.antt.
+// Types of lists and maps. The laws of what is written of them are in record's proofs/ForWriter/WrittenNames.antt.
 ghost use Rattle.std.specs.Prelude.{◌≡◌, ◌≤◌};
 ghost use Rattle.record.specs.Model.Kinds.{type_name_kind, type_number_kind};
 ghost use Rattle.record.specs.Laws.KnownArray.{Kept};

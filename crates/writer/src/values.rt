@@ -1,5 +1,5 @@
 // Values: class definitions, a row, and the values inside. The laws of what is written of them are in record's
-// specs/ForWriter/WrittenContents.antt and WrittenValues.antt.
+// proofs/ForWriter/WrittenContents.antt and WrittenValues.antt.
 ghost use Rattle.std.specs.Prelude.{◌≡◌, ◌≤◌};
 ghost use Rattle.record.specs.ForWriter.WrittenContents.{done};
 ghost use Rattle.writer.specs.Promises.{WritableIn, TurnIn, Puts, closing, RowBegun, ValueBegun};
