@@ -117,6 +117,11 @@ def table():
     return new
 
 
+def of_source(new):
+    """The names for src/, comments and pages: a function may have the name of a lemma in snake case, and keeps it."""
+    return {k: v for k, v in new.items() if not plain(k)}
+
+
 def kit_names(text):
     """The words that a file takes from the kit's modules."""
     kit = set()
@@ -155,11 +160,12 @@ def in_prose(text, new):
 
 def in_code(text, new, token=TOKEN):
     kit = kit_names(text)
+    prose = of_source(new)
 
     def turned(m):
         t = m[0]
         if t.startswith(("--", "//")):
-            return in_prose(t, new)
+            return in_prose(t, prose)
         if t.startswith(('"', 'b"', "b'")):
             return t
         return t if t in kit else new.get(t, t)
@@ -171,8 +177,7 @@ def main():
     global OWN
     OWN = {p.split("/")[1] for p in glob.glob("crates/*/src")}
     new = table()
-    # a function of src/ may have the name of a lemma in snake case, and keeps it
-    in_source = {k: v for k, v in new.items() if not plain(k)}
+    in_source = of_source(new)
     changed = 0
 
     def put(path, text, old):
@@ -194,14 +199,14 @@ def main():
         put(path, in_code(old, in_source, RUST_TOKEN), old)
     for path in glob.glob("crates/*/must-fail/*.edit"):
         old = read(path)
-        of_source = ".rt" in old.split("file: ")[1].split("\n")[0]
+        is_source = ".rt" in old.split("file: ")[1].split("\n")[0]
         put(path, "".join(
-            (in_code(l, in_source, RUST_TOKEN) if of_source else in_code(l, new))
-            if l.startswith(("old:", "new:")) else in_prose(l, new)
+            (in_code(l, in_source, RUST_TOKEN) if is_source else in_code(l, new))
+            if l.startswith(("old:", "new:")) else in_prose(l, in_source)
             for l in old.splitlines(keepends=True)), old)
     for path in ["README.md", "CONTRIBUTING.md", *glob.glob("docs/*.md")]:
         old = read(path)
-        put(path, in_prose(old, new), old)
+        put(path, in_prose(old, in_source), old)
     print(f"respell: {len(new)} names in {changed} files")
     for k, v in sorted(new.items()):
         if v.endswith("_law") or k in APART:
