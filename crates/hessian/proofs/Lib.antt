@@ -1,3 +1,3 @@
-pub mod Contents
 pub mod Packing
+pub mod Contents
 pub mod HoldingsAnswers

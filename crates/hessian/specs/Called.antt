@@ -9,7 +9,7 @@ use Rattle.scalar.proofs.AnswerLaws.{report_stored, output_some}
 use Rattle.record.specs.Model.Answers.{base, base_open_from, as_numbers, as_bytes, lent_rows}
 use Rattle.record.specs.Model.Calls.{ReadCall, WriteCall}
 use Rattle.record.proofs.Laws.Bounds.{answer_small, written_small, written_place}
-use Rattle.record.proofs.Laws.TableLaws.{numbers_keep, bytes_keep}
+use Rattle.record.specs.Laws.Layouts.{numbers_keep, bytes_keep}
 use Rattle.record.proofs.Theorems.Called.{theorem}
 use Rattle.hessian.specs.Packed.{answer, packed, unpacked, ReadGives, WriteGives}
 use Rattle.hessian.specs.Demands as demands

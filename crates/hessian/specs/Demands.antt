@@ -3,7 +3,7 @@
 -- ReadCall and WriteCall of the answer's report (and length), and for C ReadGives, LengthGives, WriteGives and
 -- ContentGives (Packed.antt). The proofs are in Called.antt.
 use mathlib.Core.{Path.◌≡◌, Logic.◌↔◌, Bool.true, List.List, List.map}
-use Rattle.std.specs.Prelude.{ℕ, ◌≤◌, ◌<◌, length, take}
+use Rattle.std.specs.Prelude.{ℕ, ◌≤◌, ◌<◌, Result, length, take}
 use Rattle.flow.specs.RefusalNumbers.{wrong_length, no_room, no_record}
 use Rattle.flow.specs.Flow.{stored}
 use Rattle.scalar.specs.Scalars.{DoubleRule, Floats, Thousandths}
@@ -16,10 +16,11 @@ use Rattle.record.specs.Model.Same.{SameRecord}
 use Rattle.record.specs.Model.Hops.{Skippable}
 use Rattle.record.specs.Model.Calls.{ReadCall, MeasuredCall, WriteCall, RecordOf, ShortestOf}
 use Rattle.record.specs.Theorems.Demands.{OfRead, OfLength, OfWrite, Demanded}
-use Rattle.reader.specs.declared.FillAnswer.{FillAnswer}
-use Rattle.reader.specs.declared.ReadAnswer.{ReadAnswer}
+use Rattle.reader.specs.declared.Filled.{Filled}
+use Rattle.reader.specs.declared.Accepted.{Accepted}
+use Rattle.reader.specs.declared.ReadError.{ReadError}
 use Rattle.reader.specs.Answers as reader
-use Rattle.writer.specs.declared.WriteAnswer.{WriteAnswer}
+use Rattle.writer.specs.declared.WriteError.{WriteError}
 use Rattle.writer.specs.Answers as writer
 use Rattle.hessian.specs.declared.HessianAnswer.{HessianAnswer}
 use Rattle.hessian.specs.Packed.{unpacked, answer, answer_report, ReadGives, LengthGives, WriteGives}
@@ -27,13 +28,13 @@ use Rattle.hessian.specs.Packed.{ContentGives}
 
 -- ---- reader::read and read_thousandths, each by its rule of 5f, and writer::write, on tables of numbers
 abbrev pub OfReaderRead : Type 0
-OfReaderRead = (ρ : DoubleRule) (m t : List ℕ) (r : ReadAnswer) (t' : List ℕ)
+OfReaderRead = (ρ : DoubleRule) (m t : List ℕ) (r : Result Accepted ReadError) (t' : List ℕ)
     → MeasuredCall ρ base as_numbers m t (reader.report r) (reader.shortest r) t'
     → OfRead ρ base as_numbers m t (reader.report r) t'
     × OfLength ρ base base_open_from as_numbers m (reader.report r) (reader.shortest r) t'
 
 abbrev pub OfWriterWrite : Type 0
-OfWriterWrite = (s t : List ℕ) (n : ℕ) (o : List ℕ) (r : WriteAnswer) (o' : List ℕ)
+OfWriterWrite = (s t : List ℕ) (n : ℕ) (o : List ℕ) (r : Result ℕ WriteError) (o' : List ℕ)
     → WriteCall base base_open_from as_numbers s t n o (writer.report r) o'
     → OfWrite base base_open_from as_numbers s t n o (writer.report r) o'
 
@@ -43,18 +44,18 @@ OfNumbers = Demanded base base_open_from as_numbers
 
 -- ---- reader::read_bytes and read_bytes_thousandths, and writer::write_bytes, on C's tables
 abbrev pub OfReaderReadBytes : Type 0
-OfReaderReadBytes = (ρ : DoubleRule) (m t : List ℕ) (r : ReadAnswer) (t' : List ℕ)
+OfReaderReadBytes = (ρ : DoubleRule) (m t : List ℕ) (r : Result Accepted ReadError) (t' : List ℕ)
     → MeasuredCall ρ base as_bytes m t (reader.report r) (reader.shortest r) t'
     → OfRead ρ base as_bytes m t (reader.report r) t'
     × OfLength ρ base base_open_from as_bytes m (reader.report r) (reader.shortest r) t'
 
 -- reader::fill_bytes and fill_bytes_thousandths, which do not measure
 abbrev pub OfReaderFillBytes : Type 0
-OfReaderFillBytes = (ρ : DoubleRule) (m t : List ℕ) (r : FillAnswer) (t' : List ℕ)
+OfReaderFillBytes = (ρ : DoubleRule) (m t : List ℕ) (r : Result Filled ReadError) (t' : List ℕ)
     → ReadCall ρ base as_bytes m t (reader.fill_report r) t' → OfRead ρ base as_bytes m t (reader.fill_report r) t'
 
 abbrev pub OfWriterWriteBytes : Type 0
-OfWriterWriteBytes = (s t : List ℕ) (n : ℕ) (o : List ℕ) (r : WriteAnswer) (o' : List ℕ)
+OfWriterWriteBytes = (s t : List ℕ) (n : ℕ) (o : List ℕ) (r : Result ℕ WriteError) (o' : List ℕ)
     → WriteCall base base_open_from as_bytes s t n o (writer.report r) o'
     → OfWrite base base_open_from as_bytes s t n o (writer.report r) o'
 

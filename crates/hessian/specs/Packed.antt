@@ -1,5 +1,5 @@
 -- An answer as it crosses to C, and what a call of each C function gives.
-use Rattle.std.specs.Prelude.{◌≡◌, List, ℕ, ◌+◌, ◌*◌, ◌/◌, ◌%◌, ◌^◌, length}
+use Rattle.std.specs.Prelude.{◌≡◌, List, ℕ, ◌+◌, ◌*◌, ◌/◌, ◌%◌, ◌^◌, ◌≤◌, ◌<◌, length}
 use Rattle.scalar.specs.Scalars.{DoubleRule}
 use Rattle.flow.specs.Flow.{Report}
 use Rattle.scalar.specs.Answers.{report_of, output_of}
@@ -19,6 +19,22 @@ packed r = r.number * 2 ^ 48 + r.count * 2 ^ 24 + r.place
 abbrev pub unpacked : ℕ → Report
 unpacked a = answer (a / 2 ^ 48) (a / 2 ^ 24 % 2 ^ 24) (a % 2 ^ 24)
 
+-- ---- an answer as a struct
+abbrev pub answer_report : HessianAnswer → Report
+answer_report r = answer r.number r.count r.place
+
+-- the struct that the code makes of a report; its number is one byte
+pub record Says (a : HessianAnswer) (r : Report) : Type 0 where
+  pub report : answer_report a ≡ r
+  pub small : a.number < 2 ^ 8
+
+-- its parts are small, so that they are packed in 64 bits
+pub record Small (a : HessianAnswer) : Type 0 where
+  pub number : a.number < 2 ^ 8
+  pub count : a.count ≤ base.longest
+  pub place : a.place ≤ base.longest
+
+-- ---- what a call gives
 -- hessian_read, and by the other rule of 5f hessian_read_thousandths, of the message m and the table t answers a and
 -- leaves the table t'
 pub record ReadGives (ρ : DoubleRule) (m t : List ℕ) (a : ℕ) (t' : List ℕ) : Type 0 where
@@ -36,10 +52,6 @@ pub record WriteGives (s t : List ℕ) (n : ℕ) (o : List ℕ) (a : ℕ) (o' : 
   pub report : Report
   pub call : WriteCall base base_open_from as_bytes s t n o report o'
   pub as_one : a ≡ packed report
-
--- ---- the functions that answer number, count and place as a struct
-abbrev pub answer_report : HessianAnswer → Report
-answer_report r = answer r.number r.count r.place
 
 -- hessian_content of the source s, a row's kind k and place p and the output o answers r and leaves the output o':
 -- accepted are 0, the bytes of the content, 0; 9 counts the bytes needed; 10 where the row names no content

@@ -1,316 +1,253 @@
--- What the contracts of src/lib.rt and src/memory.rt ask at each way out.
+-- What the contracts of src/lib.rt ask at each way out.
 use mathlib.Core.Path.{◌≡◌, refl, sym, ◌∙◌, ap, subst}
 use mathlib.Core.Bool.{Bool, true, false, ◌||◌, not}
 use mathlib.Core.List.{List, []}
 use Prim.Native.Nat.{ℕ, ◌/◌, ◌≤◌, ◌<◌}
 use native.Mathlib.Omega.{arith}
-use lib.Dec.{eqb, ltb, leb}
+use lib.Dec.{eqb, ltb}
 use lib.ListN.{length, take}
 use lib.Seq.{length-take-le}
-use borrow.Author.Tests.{lt-ltb, le-ltb, lt-leb, le-leb, ltb-false, ne_eqb}
+use borrow.Author.Tests.{lt-ltb, le-ltb, ne_eqb}
+use Rattle.std.specs.Prelude.{Result, Ok, Err}
 use Rattle.flow.specs.RefusalNumbers.{no_room, cut_entry}
-use Rattle.flow.specs.Tests.{split, pick_true, pick_false}
-use Rattle.flow.specs.Flow.{pick}
+use Rattle.flow.specs.Tests.{pick_true, pick_false}
+use Rattle.flow.specs.Flow.{pick, Report}
 use Rattle.record.specs.Model.Answers.{base, as_numbers, lent_rows}
-use Rattle.record.proofs.Laws.Answering.{never}
-use Rattle.holdings.specs.Files.{Rules, versions, Listing, Lists, Faulty, listing_of, listing}
-use Rattle.holdings.specs.Answers.{Result, Accept, Refuse, answer, with_working, as_pairs, as_pair_bytes, listed_to}
-use Rattle.holdings.specs.Answers.{list_after, Addition, listing_to_extend, added_listed, addition, add_report, file_after}
-use Rattle.holdings.specs.Answers.{Batch, batch_listed, batch_report, batch_file, batch_numbers, ListCall, AddCall}
-use Rattle.holdings.specs.Answers.{AddAllCall}
-use Rattle.holdings.specs.Terms.{Messages, Enough}
-use Rattle.holdings.proofs.FileLaws.{listing_listed}
-use Rattle.holdings_file.specs.declared.HoldingsAnswer.{HoldingsAnswer}
-use Rattle.holdings_file.specs.declared.HoldingsAnswer.TheVariants.{Accepted, Refused, TooFew}
-use Rattle.holdings_file.specs.declared.files.Checked.{Checked}
-use Rattle.holdings_file.specs.declared.files.Checked.TheVariants as checked
+use Rattle.scalar.specs.Refusals.{number_of as number_of_refusal}
+use Rattle.scalar.specs.declared.refusals.Refusal.TheVariants as refusal
+use Rattle.scalar.specs.declared.refusals.Refused.{Refused}
+use Rattle.holdings.specs.Files.{versions, Listing, Lists, Faulty, listing_of, listing}
+use Rattle.holdings.specs.Answers as given
+use Rattle.holdings.specs.Answers.{Accept, Refuse, answer, with_working, ListLayout, listed_to, list_result, list_report}
+use Rattle.holdings.specs.Answers.{list_after, Addition, listing_to_extend, added_listed, addition, add_result, add_report}
+use Rattle.holdings.specs.Answers.{file_after, Batch, batch_listed, batch_result, batch_report, batch_file, batch_numbers}
+use Rattle.holdings.specs.Answers.{ListCall, AddCall, AddAllCall}
+use Rattle.holdings.specs.Terms.{Messages}
 use Rattle.holdings_file.specs.declared.additions.Extent.{Extent}
-use Rattle.holdings_file.specs.declared.BatchAnswer.{BatchAnswer}
-use Rattle.holdings_file.specs.declared.BatchAnswer.TheVariants as batch
+use Rattle.holdings_file.specs.declared.index.Index.{Index}
+use Rattle.holdings_file.specs.declared.Held.{Held}
+use Rattle.holdings_file.specs.declared.HoldingsError.{HoldingsError}
+use Rattle.holdings_file.specs.declared.HoldingsError.TheVariants as holdings
+use Rattle.holdings_file.specs.declared.Taken.{Taken}
+use Rattle.holdings_file.specs.declared.BatchError.{BatchError}
+use Rattle.holdings_file.specs.declared.BatchError.TheVariants as batch
 use Rattle.holdings_file.specs.Answers.{report, report_of_batch}
-use Rattle.holdings_file.specs.Promises.{held_in, newest_rules, is_lent, Filled, check_of, listing_opened, BothListed}
-use Rattle.holdings_file.specs.Index.{CheckMet}
-use Rattle.holdings_file.specs.Extents.{AnswersAddition, AddMet, AddToMet, Extending, batch_of, AddAllMet}
-use Rattle.holdings_file.proofs.EntryWalks.{held_wholes}
-use Rattle.holdings_file.proofs.MemoryParts.{work_within, lent_kept}
-use Rattle.holdings_file.proofs.FileExtents.{extent_held}
+use Rattle.holdings_file.specs.Promises.{held_in, newest_rules, is_lent, UsedMet, listing_opened, filled_by}
+use Rattle.holdings_file.specs.Index.{Listed, CheckMet}
+use Rattle.holdings_file.specs.Extents.{IsExtent, AddMet, batch_of, AddAllMet}
 
 -- ---- working memory
-module _ (work bytes : List ℕ) where
-  abbrev few_rows : Bool
-  few_rows = ltb (lent_rows as_numbers work) base.longest
+not_turned : (b : Bool) → not b ≡ false → b ≡ true
+not_turned true h = refl
+not_turned false h = cc
 
-  abbrev few_bytes : Bool
-  few_bytes = ltb (length bytes) base.longest
+not_turned_back : (b : Bool) → not b ≡ true → b ≡ false
+not_turned_back true h = cc
+not_turned_back false h = refl
 
-  pub lent_not : length work / 5 < base.longest → false ≡ is_lent work bytes
-  lent_not l = sym (ap (λ (t : Bool). not (t || few_bytes)) (lt-ltb (length work / 5) base.longest l))
+module _ (rows bytes : List ℕ) {A : Type 0} (a : given.Result A) where
+  abbrev few : Bool
+  few = ltb (lent_rows as_numbers rows) base.longest || ltb (length bytes) base.longest
 
-  not_ltb : (a b : ℕ) → leb b a ≡ not (ltb a b)
-  not_ltb a b = split a b
-      (λ l. lt-leb b a l ∙ sym (ap not (lt-ltb a b l)))
-      (λ l. le-leb b a l ∙ sym (ap not (le-ltb a b l)))
+  working_few : false ≡ is_lent rows bytes → with_working versions rows bytes a ≡ Refuse no_room 0 0
+  working_few h = pick_true _ _ (not_turned few (sym h))
 
-  pub lent_bytes : base.longest ≤ length work / 5 → leb base.longest (length bytes) ≡ is_lent work bytes
-  lent_bytes l =
-      not_ltb (length bytes) base.longest
-      ∙ sym (ap (λ (t : Bool). not (t || few_bytes)) (le-ltb (length work / 5) base.longest l))
+  working_lent : true ≡ is_lent rows bytes → with_working versions rows bytes a ≡ a
+  working_lent h = pick_false _ _ (not_turned_back few (sym h))
 
-  module _ (r : Bool) (e : r ≡ is_lent work bytes) where
-    neither : (a b : Bool) → not (a || b) ≡ true → (a ≡ false) × (b ≡ false)
-    neither true b h = never cc
-    neither false true h = never cc
-    neither false false h = (refl, refl)
+-- ---- a buffer and its used length
+module _ (file : List ℕ) (used : ℕ) where
+  listing_beyond : (r : Refused) → UsedMet (length file) used (Err r)
+      → listing versions file used ≡ Faulty (number_of_refusal r.refusal) r.place
+  unfolding listing
+  listing_beyond r u = pick_true _ _ (lt-ltb (length file) used u.0)
+      ∙ ap (λ (z : Refused). Faulty (number_of_refusal z.refusal) z.place) (sym u.1)
 
-    pub lent_enough : r ≡ true → Enough versions work bytes
-    lent_enough h =
-        let x = neither few_rows few_bytes (sym e ∙ h) in
-        record {
-          rows_lent = ltb-false (lent_rows as_numbers work) base.longest x.0;
-          bytes_lent = ltb-false (length bytes) base.longest x.1;
-        }
+  listing_within : (k : ℕ) → UsedMet (length file) used (Ok k) → listing versions file used ≡ listing_of versions (take k file)
+  unfolding listing
+  listing_within k u = pick_false _ _ (le-ltb (length file) used u.1)
+      ∙ ap (λ (n : ℕ). listing_of versions (take n file)) (sym u.0)
 
-    either : (b : Bool) → not b ≡ false → b ≡ true
-    either true h = refl
-    either false h = never cc
+  extend_beyond : (r : Refused) → UsedMet (length file) used (Err r)
+      → listing_to_extend versions file used ≡ Faulty (number_of_refusal r.refusal) r.place
+  extend_beyond r u = pick_false _ _ (ne_eqb used 0 (λ z. omega (arith, u.0))) ∙ listing_beyond r u
 
-    pub lent_few : {A : Type 0} (a : Result A) → r ≡ false → with_working versions work bytes a ≡ Refuse no_room 0 0
-    lent_few a h = pick_true _ _ (either (few_rows || few_bytes) (sym e ∙ h))
-
-    pub lent_all : {A : Type 0} (a : Result A) → r ≡ true → with_working versions work bytes a ≡ a
-    lent_all a h =
-        let x = neither few_rows few_bytes (sym e ∙ h) in
-        pick_false _ _ ((λ i. x.0 i || few_bytes) ∙ x.1)
-
--- ---- what a check found
-checked_faulty : (l : Listing) (x p : ℕ) → checked.Faulty x p ≡ check_of l → l ≡ Faulty x p
-checked_faulty (Lists R ms) x p e = never cc
-checked_faulty (Faulty y q) x p e = let a : x ≡ y = cc in let b : p ≡ q = cc in λ i. Faulty (sym a i) (sym b i)
-
-checked_whole : (l : Listing) (n : ℕ) → checked.Whole n ≡ check_of l
-    → (R : Rules) × (ms : Messages) × (l ≡ Lists R ms) × (n ≡ length ms)
-checked_whole (Lists R ms) n e = (R, ms, refl, cc)
-checked_whole (Faulty y q) n e = never cc
+  extend_within : (k : ℕ) → UsedMet (length file) used (Ok k)
+      → listing_to_extend versions file used ≡ listing_opened (take k file)
+  extend_within k u =
+      let n : used ≡ length (take k file) = omega (arith, u, length-take-le k file (omega (arith, u))) in
+      (λ i. pick (eqb (n i) 0) (Lists newest_rules []) (listing versions file used))
+      ∙ ap (pick (eqb (length (take k file)) 0) (Lists newest_rules [])) (listing_within k u)
 
 -- ---- listing
-module _ (f t b : List ℕ) (lent : ℕ) (H : ℕ) (s : Checked) (work' : List ℕ)
-    (x : CheckMet (listing_of versions f) f H s work') where
-  abbrev found : Result Messages
-  found = listed_to lent (listing_of versions f)
+module _ (L : ListLayout) (file : List ℕ) (used : ℕ) (rows bytes list : List ℕ) where
+  abbrev Called : Report → List ℕ → Type 0
+  Called r list' = ListCall versions L file used rows bytes list r list'
 
   -- by what the result is
-  as_found : (a : Result Messages) → found ≡ a → (r : HoldingsAnswer) (t' b' : List ℕ)
-      → BothListed (length f) a t b r t' b' → BothListed (length f) (listed_to lent (listing_of versions f)) t b r t' b'
-  as_found a e r t' b' y = subst (λ (z : Result Messages). BothListed (length f) z t b r t' b') (sym e) y
-
-  pub list_faulty : (y p : ℕ) → s ≡ checked.Faulty y p
-      → BothListed (length f) (listed_to lent (listing_of versions f)) t b (Refused y p) t b
-  list_faulty y p q = as_found (Refuse y 0 p)
-      (ap (listed_to lent) (checked_faulty (listing_of versions f) y p (sym q ∙ x.answer)))
-      (Refused y p) t b (record { answer = refl; pairs = refl; encoded = refl })
-
-  module _ (n : ℕ) (q : s ≡ checked.Whole n) where
-    whole : (R : Rules) × (ms : Messages) × (listing_of versions f ≡ Lists R ms) × (n ≡ length ms)
-    whole = checked_whole (listing_of versions f) n (sym q ∙ x.answer)
-
-    pub list_few : lent < n → BothListed (length f) (listed_to lent (listing_of versions f)) t b (TooFew n) t b
-    list_few l =
-        let y = whole in
-        as_found (Refuse no_room (length y.1) 0)
-        (ap (listed_to lent) y.2 ∙ pick_true _ _ (lt-ltb lent (length y.1) (omega (arith, y.3))))
-        (TooFew n) t b
-        (record { answer = ap (λ (k : ℕ). answer no_room k 0) y.3; pairs = refl; encoded = refl })
-
-    pub list_all : n ≤ lent → (t' b' : List ℕ) → Filled f t b t' b'
-        → BothListed (length f) (listed_to lent (listing_of versions f)) t b (Accepted n (length f)) t' b'
-    list_all l t' b' z =
-        let y = whole in
-        let h : held_in f ≡ y.1 = held_wholes f y.1 (listing_listed versions f y.0 y.1 y.2).entries in
-        as_found (Accept y.1)
-        (ap (listed_to lent) y.2 ∙ pick_false _ _ (le-ltb lent (length y.1) (omega (arith, y.3))))
-        (Accepted n (length f)) t' b'
-        (record {
-          answer = ap (λ (k : ℕ). answer 0 k (length f)) y.3;
-          pairs = z.pairs ∙ ap (λ (ms : Messages). list_after as_pairs t (Accept ms)) h;
-          encoded = z.encoded ∙ ap (λ (ms : Messages). list_after as_pair_bytes b (Accept ms)) h;
-        })
-
--- by a buffer and its used length
-module _ (file : List ℕ) (used : ℕ) (work bytes t b : List ℕ) (lent : ℕ) (r : Bool) (e : r ≡ is_lent work bytes) where
-  abbrev answered : Result Messages
-  answered = with_working versions work bytes (listed_to lent (listing versions file used))
-
-  pub used_few : r ≡ false
-      → BothListed used (with_working versions work bytes (listed_to lent (listing versions file used)))
-      t b (TooFew 0) t b
-  used_few h = subst (λ (z : Result Messages). BothListed used z t b (TooFew 0) t b)
-      (sym (lent_few work bytes r e (listed_to lent (listing versions file used)) h))
-      (record { answer = refl; pairs = refl; encoded = refl })
-
-  module _ (h : r ≡ true) where
-    all : answered ≡ listed_to lent (listing versions file used)
-    all = lent_all work bytes r e (listed_to lent (listing versions file used)) h
-
-    pub used_beyond : length file < used
-        → BothListed used (with_working versions work bytes (listed_to lent (listing versions file used))) t b
-        (Refused cut_entry 0) t b
-    unfolding listing
-    used_beyond l =
-        let z : answered ≡ Refuse cut_entry 0 0 =
-        all ∙ ap (listed_to lent) (pick_true _ _ (lt-ltb (length file) used l)) in
-        subst (λ (z : Result Messages). BothListed used z t b (Refused cut_entry 0) t b) (sym z)
-        (record { answer = refl; pairs = refl; encoded = refl })
-
-    pub used_within : used ≤ length file → (a : HoldingsAnswer) (t' b' : List ℕ)
-        → BothListed (length (take used file)) (listed_to lent (listing_of versions (take used file))) t b a t' b'
-        → BothListed used (with_working versions work bytes (listed_to lent (listing versions file used))) t b a t' b'
-    unfolding listing
-    used_within l a t' b' x =
-        let n : length (take used file) ≡ used = length-take-le used file l in
-        let z : answered ≡ listed_to lent (listing_of versions (take used file)) =
-        all ∙ ap (listed_to lent) (pick_false _ _ (le-ltb (length file) used l)) in
-        subst (λ (k : ℕ). BothListed k answered t b a t' b') n
-        (subst (λ (z : Result Messages). BothListed (length (take used file)) z t b a t' b') (sym z) x)
-
-pub list_numbers : (file : List ℕ) (used : ℕ) (work bytes t b : List ℕ) (r : HoldingsAnswer) (t' b' : List ℕ)
-    → BothListed used (with_working versions work bytes
-    (listed_to (length t / 2) (listing versions file used))) t b r t' b'
-    → ListCall versions as_pairs file used work bytes t (report r) t'
-list_numbers file used work bytes t b r t' b' x = record { report = x.answer; after = x.pairs }
-
-pub list_encoded : (file : List ℕ) (used : ℕ) (work bytes t b : List ℕ) (r : HoldingsAnswer) (t' b' : List ℕ)
-    → BothListed used (with_working versions work bytes
-    (listed_to (length b / 16) (listing versions file used))) t b r t' b'
-    → ListCall versions as_pair_bytes file used work bytes b (report r) b'
-list_encoded file used work bytes t b r t' b' x = record { report = x.answer; after = x.encoded }
-
--- ---- adding to the used bytes
-module _ (file : List ℕ) (used : ℕ) (l : used ≤ length file) (H : ℕ) (s : Checked) (work' : List ℕ)
-    (x : CheckMet (listing_opened (take used file)) (take used file) H s work') where
-  opened : listing_to_extend versions file used ≡ listing_opened (take used file)
-  unfolding listing
-  opened =
-      let n : length (take used file) ≡ used = length-take-le used file l in
-      (λ i. pick (eqb (sym n i) 0) (Lists newest_rules []) (listing versions file used))
-      ∙ ap (pick (eqb (length (take used file)) 0) (Lists newest_rules []))
-      (pick_false _ _ (le-ltb (length file) used l))
-
-  pub extend_faulty : (y p : ℕ) → s ≡ checked.Faulty y p → listing_to_extend versions file used ≡ Faulty y p
-  extend_faulty y p q = opened ∙ checked_faulty (listing_opened (take used file)) y p (sym q ∙ x.answer)
-
-  pub add_faulty : (m : List ℕ) (y p : ℕ) → s ≡ checked.Faulty y p
-      → AddToMet used (addition versions file used m) file (report (Refused y p)) file
-  unfolding addition
-  add_faulty m y p q =
-      let z : addition versions file used m ≡ Refuse y 0 p =
-      ap (added_listed versions file used m) (extend_faulty y p q) in
-      record { answer = ap (add_report used) (sym z); after = ap (file_after file used) (sym z) }
-
-  -- many records
-  pub batch_faulty : (records list : List ℕ) (y p : ℕ) → s ≡ checked.Faulty y p
-      → AddAllMet (batch_listed versions file used records (listing_to_extend versions file used)) file list
-      (batch.Refused y p) file list
-  batch_faulty records list y p q =
-      let z : batch_listed versions file used records (listing_to_extend versions file used) ≡ Refuse y 0 p =
-      ap (batch_listed versions file used records) (extend_faulty y p q) in
-      subst (λ (a : Result Batch). AddAllMet a file list (batch.Refused y p) file list) (sym z)
-      (record { answer = refl; after = refl; numbers = refl })
-
-  pub batch_listed_law : (records list : List ℕ) (n : ℕ) → s ≡ checked.Whole n
-      → (r : BatchAnswer) (file' list' : List ℕ) → AddAllMet (batch_of file used records) file list r file' list'
-      → AddAllMet (batch_listed versions file used records (listing_to_extend versions file used)) file list r file' list'
-  batch_listed_law records list n q r file' list' k =
-      let y = checked_whole (listing_opened (take used file)) n (sym q ∙ x.answer) in
-      subst (λ (a : Result Batch). AddAllMet a file list r file' list')
-      (sym (ap (batch_listed versions file used records) (opened ∙ y.2))) k
-
-  pub extending : (n : ℕ) → s ≡ checked.Whole n → (work bytes bytes' : List ℕ) → Enough versions work bytes
-      → length work' ≡ length work → length bytes' ≡ length bytes
-      → Extending file (record { used = used; count = n; buckets = H }) work' bytes'
-  extending n q work bytes bytes' e u v =
-      let y = checked_whole (listing_opened (take used file)) n (sym q ∙ x.answer) in
-      let h = extent_held file used y.0 y.1 (opened ∙ y.2) in
-      let lent = lent_kept e u v in
-      record {
-        lent = lent;
-        extends = record {
-          within = l;
-          lists = opened ∙ y.2 ∙ (λ i. Lists (sym h.1 i) (sym h.0 i));
-          count = y.3 ∙ ap length (sym h.0);
-          long = work_within work' bytes' lent;
-          indexing = x.indexing n q;
-        };
-      }
-
--- what an addition to the extent answers
-pub add_answers : (file : List ℕ) (x : Extent) (a : Result Addition) (r : HoldingsAnswer) (file' work' : List ℕ)
-    → AddMet file x a r file' work' → AddToMet x.used a file (report r) file'
-add_answers file x a r file' work' y = record { answer = go r y.answers; after = y.after }
-  where
-    go : (r : HoldingsAnswer) → AnswersAddition x.used r a → report r ≡ add_report x.used a
-    go (Accepted n u) z = ap (answer 0 n) z.grown ∙ ap (add_report x.used) (sym z.accepted)
-    go (Refused y p) z = ap (add_report x.used) (sym z)
-    go (TooFew k) z = ap (add_report x.used) (sym z)
-
--- by a buffer and its used length
-module _ (file : List ℕ) (used : ℕ) (m work bytes : List ℕ) (r : Bool) (e : r ≡ is_lent work bytes) where
-  abbrev given : Result Addition
-  given = addition versions file used m
-
-  pub add_few : r ≡ false → AddCall versions file used m work bytes (report (TooFew 0)) file
-  add_few h = let z = lent_few work bytes r e given h in
-      record { report = ap (add_report used) (sym z); after = ap (file_after file used) (sym z) }
-
-  module _ (h : r ≡ true) where
-    pub add_beyond : length file < used → AddCall versions file used m work bytes (report (Refused cut_entry 0)) file
-    unfolding addition listing
-    add_beyond l =
-        let z : with_working versions work bytes given ≡ Refuse cut_entry 0 0 =
-        lent_all work bytes r e given h
-        ∙ ap (added_listed versions file used m)
-        (pick_false _ _ (ne_eqb used 0 (λ z. omega arith)) ∙ pick_true _ _ (lt-ltb (length file) used l)) in
-        record { report = ap (add_report used) (sym z); after = ap (file_after file used) (sym z) }
-
-    pub add_within : (a : HoldingsAnswer) (file' : List ℕ)
-        → AddToMet used (addition versions file used m) file (report a) file'
-        → AddCall versions file used m work bytes (report a) file'
-    add_within a file' x =
-        let z = lent_all work bytes r e given h in
-        record { report = x.answer ∙ ap (add_report used) (sym z); after = x.after ∙ ap (file_after file used) (sym z) }
-
--- many records, by a buffer and its used length
-module _ (file : List ℕ) (used : ℕ) (records work bytes list : List ℕ) (r : Bool) (e : r ≡ is_lent work bytes) where
-  abbrev given_all : Result Batch
-  given_all = batch_listed versions file used records (listing_to_extend versions file used)
-
-  -- by what the result is
-  as_result : (z : Result Batch) → with_working versions work bytes given_all ≡ z
-      → (a : BatchAnswer) (file' list' : List ℕ)
-      → AddAllMet z file list a file' list'
-      → AddAllCall versions file used records work bytes list (report_of_batch a) file' list'
-  as_result z q a file' list' x = record {
-    report = x.answer ∙ ap batch_report (sym q);
-    after = x.after ∙ ap (batch_file file) (sym q);
-    numbers = x.numbers ∙ ap (batch_numbers list) (sym q);
+  listed_as : (a : given.Result Messages) → list_result versions L file used rows bytes list ≡ a → (r : Report)
+      → r ≡ list_report used a → (list' : List ℕ) → list' ≡ list_after L list a → Called r list'
+  listed_as a e r q list' s = record {
+    report = q ∙ ap (list_report used) (sym e);
+    after = s ∙ ap (list_after L list) (sym e);
   }
 
-  pub batch_few : r ≡ false
-      → AddAllCall versions file used records work bytes list (report_of_batch (batch.Refused no_room 0)) file list
-  batch_few h = as_result (Refuse no_room 0 0) (lent_few work bytes r e given_all h) (batch.Refused no_room 0) file list
+  pub list_unlent : false ≡ is_lent rows bytes
+      → ListCall versions L file used rows bytes list (report (Err (holdings.TooFew 0))) list
+  list_unlent h = listed_as (Refuse no_room 0 0)
+      (working_few rows bytes (listed_to (length list / L.width) (listing versions file used)) h)
+      (answer no_room 0 0) refl list refl
+
+  module _ (h : true ≡ is_lent rows bytes) where
+    found : (l : Listing) → listing versions file used ≡ l
+        → list_result versions L file used rows bytes list ≡ listed_to (length list / L.width) l
+    found l e = working_lent rows bytes (listed_to (length list / L.width) (listing versions file used)) h
+        ∙ ap (listed_to (length list / L.width)) e
+
+    list_refused : (r : Refused) → listing versions file used ≡ Faulty (number_of_refusal r.refusal) r.place
+        → Called (report (Err (holdings.Refused r))) list
+    list_refused r e = listed_as (Refuse (number_of_refusal r.refusal) 0 r.place)
+        (found (Faulty (number_of_refusal r.refusal) r.place) e)
+        (answer (number_of_refusal r.refusal) 0 r.place) refl list refl
+
+    pub list_beyond : (r : Refused) → UsedMet (length file) used (Err r)
+        → ListCall versions L file used rows bytes list (report (Err (holdings.Refused r))) list
+    list_beyond r u = list_refused r (listing_beyond file used r u)
+
+    module _ (k : ℕ) (u : UsedMet (length file) used (Ok k)) where
+      pub list_faulty : (r : Refused) (x : Index) → CheckMet (listing_of versions (take k file)) (take k file) (Err r) x
+          → ListCall versions L file used rows bytes list (report (Err (holdings.Refused r))) list
+      list_faulty r x c = list_refused r (listing_within file used k u ∙ c)
+
+      module _ (n : ℕ) (x : Index) (c : Listed (listing_of versions (take k file)) (take k file) n x) where
+        abbrev ms : Messages
+        ms = held_in (take k file)
+
+        lists : list_result versions L file used rows bytes list
+            ≡ listed_to (length list / L.width) (Lists newest_rules ms)
+        lists = found (Lists newest_rules ms) (listing_within file used k u ∙ c.lists)
+
+        pub list_few : length list / L.width < n
+            → ListCall versions L file used rows bytes list (report (Err (holdings.TooFew n))) list
+        list_few l = listed_as (Refuse no_room (length ms) 0)
+            (lists ∙ pick_true _ _ (lt-ltb (length list / L.width) (length ms) (omega (arith, c.count))))
+            (answer no_room n 0) (ap (λ (j : ℕ). answer no_room j 0) c.count) list refl
+
+        pub list_all : n ≤ length list / L.width → (list' : List ℕ) → list' ≡ filled_by L (take k file) list
+            → ListCall versions L file used rows bytes list (report (Ok (record { count = n; used = k }))) list'
+        list_all l list' q = listed_as (Accept ms)
+            (lists ∙ pick_false _ _ (le-ltb (length list / L.width) (length ms) (omega (arith, c.count))))
+            (answer 0 n k) (λ i. answer 0 (c.count i) (u.0 i)) list' q
+
+-- ---- adding
+module _ (file : List ℕ) (used : ℕ) (k : ℕ) (u : UsedMet (length file) used (Ok k)) where
+  -- a file whose entries are all taken can be added to
+  pub extended_file : (n : ℕ) (x : Index) → Listed (listing_opened (take k file)) (take k file) n x
+      → IsExtent file (record { used = k; count = n }) x
+  extended_file n x c = record {
+    within = omega (arith, u);
+    lists = ap (listing_to_extend versions file) u.0 ∙ extend_within file used k u ∙ c.lists;
+    count = c.count;
+    indexing = c.indexing;
+  }
+
+module _ (file : List ℕ) (used : ℕ) (m rows bytes : List ℕ) where
+  -- by what the result is
+  added_as : (a : given.Result Addition) → add_result versions file used m rows bytes ≡ a → (r : Report)
+      → r ≡ add_report used a → (file' : List ℕ) → file' ≡ file_after file used a
+      → AddCall versions file used m rows bytes r file'
+  added_as a e r q file' s = record {
+    report = q ∙ ap (add_report used) (sym e);
+    after = s ∙ ap (file_after file used) (sym e);
+  }
+
+  pub add_unlent : false ≡ is_lent rows bytes
+      → AddCall versions file used m rows bytes (report (Err (holdings.TooFew 0))) file
+  add_unlent h = added_as (Refuse no_room 0 0) (working_few rows bytes (addition versions file used m) h)
+      (answer no_room 0 0) refl file refl
+
+  module _ (h : true ≡ is_lent rows bytes) where
+    add_refused : (r : Refused) → listing_to_extend versions file used ≡ Faulty (number_of_refusal r.refusal) r.place
+        → AddCall versions file used m rows bytes (report (Err (holdings.Refused r))) file
+    unfolding addition
+    add_refused r e = added_as (Refuse (number_of_refusal r.refusal) 0 r.place)
+        (working_lent rows bytes (addition versions file used m) h ∙ ap (added_listed versions file used m) e)
+        (answer (number_of_refusal r.refusal) 0 r.place) refl file refl
+
+    pub add_beyond : (r : Refused) → UsedMet (length file) used (Err r)
+        → AddCall versions file used m rows bytes (report (Err (holdings.Refused r))) file
+    add_beyond r u = add_refused r (extend_beyond file used r u)
+
+    module _ (k : ℕ) (u : UsedMet (length file) used (Ok k)) where
+      pub add_faulty : (r : Refused) (x : Index) → CheckMet (listing_opened (take k file)) (take k file) (Err r) x
+          → AddCall versions file used m rows bytes (report (Err (holdings.Refused r))) file
+      add_faulty r x c = add_refused r (extend_within file used k u ∙ c)
+
+      pub add_within : (n : ℕ) (r : Result Held HoldingsError) (file' : List ℕ) (x : Index)
+          → AddMet file (record { used = k; count = n }) (addition versions file k m) r file' x
+          → AddCall versions file used m rows bytes (report r) file'
+      add_within n r file' x a = go r (subst (λ (j : ℕ). AddMet file (record { used = j; count = n })
+          (addition versions file j m) r file' x) u.0 a)
+        where
+          is : (b : given.Result Addition) → addition versions file used m ≡ b → add_result versions file used m rows bytes ≡ b
+          is b e = working_lent rows bytes (addition versions file used m) h ∙ e
+
+          go : (r : Result Held HoldingsError)
+              → AddMet file (record { used = used; count = n }) (addition versions file used m) r file' x
+              → AddCall versions file used m rows bytes (report r) file'
+          go (Ok o) y = added_as (Accept (record { number = o.count; new = y.new }))
+              (is (Accept (record { number = o.count; new = y.new })) y.accepted)
+              (answer 0 o.count o.used) (ap (answer 0 o.count) y.grown) file' y.after
+          go (Err (holdings.Refused z)) y = added_as (Refuse (number_of_refusal z.refusal) 0 z.place)
+              (is (Refuse (number_of_refusal z.refusal) 0 z.place) y.refused)
+              (answer (number_of_refusal z.refusal) 0 z.place) refl file' y.after
+          go (Err (holdings.TooFew z)) y = added_as (Refuse no_room z 0) (is (Refuse no_room z 0) y.refused)
+              (answer no_room z 0) refl file' y.after
+
+-- many records
+module _ (file : List ℕ) (used : ℕ) (records rows bytes list : List ℕ) where
+  -- by what the result is
+  all_added_as : (a : given.Result Batch) → batch_result versions file used records rows bytes ≡ a
+      → (r : Result Taken BatchError) (file' list' : List ℕ) → AddAllMet a file list r file' list'
+      → AddAllCall versions file used records rows bytes list (report_of_batch r) file' list'
+  all_added_as a e r file' list' x = record {
+    report = x.answer ∙ ap batch_report (sym e);
+    after = x.after ∙ ap (batch_file file) (sym e);
+    numbers = x.numbers ∙ ap (batch_numbers list) (sym e);
+  }
+
+  pub batch_unlent : false ≡ is_lent rows bytes → AddAllCall versions file used records rows bytes list
+      (report_of_batch (Err (batch.Refused (record { refusal = refusal.Room; place = 0 })))) file list
+  batch_unlent h = all_added_as (Refuse no_room 0 0)
+      (working_few rows bytes (batch_listed versions file used records (listing_to_extend versions file used)) h)
+      (Err (batch.Refused (record { refusal = refusal.Room; place = 0 }))) file list
       (record { answer = refl; after = refl; numbers = refl })
 
-  module _ (h : r ≡ true) where
-    pub batch_beyond : length file < used
-        → AddAllCall versions file used records work bytes list (report_of_batch (batch.Refused cut_entry 0)) file list
-    unfolding listing
-    batch_beyond l = as_result (Refuse cut_entry 0 0)
-        (lent_all work bytes r e given_all h
-        ∙ ap (batch_listed versions file used records)
-        (pick_false _ _ (ne_eqb used 0 (λ z. omega arith)) ∙ pick_true _ _ (lt-ltb (length file) used l)))
-        (batch.Refused cut_entry 0) file list (record { answer = refl; after = refl; numbers = refl })
+  module _ (h : true ≡ is_lent rows bytes) where
+    found_all : (l : Listing) → listing_to_extend versions file used ≡ l
+        → batch_result versions file used records rows bytes ≡ batch_listed versions file used records l
+    found_all l e =
+        working_lent rows bytes (batch_listed versions file used records (listing_to_extend versions file used)) h
+        ∙ ap (batch_listed versions file used records) e
 
-    pub batch_within : (a : BatchAnswer) (file' list' : List ℕ)
-        → AddAllMet (batch_listed versions file used records
-        (listing_to_extend versions file used)) file list a file' list'
-        → AddAllCall versions file used records work bytes list (report_of_batch a) file' list'
-    batch_within a file' list' x = as_result given_all (lent_all work bytes r e given_all h) a file' list' x
+    batch_refused : (r : Refused) → listing_to_extend versions file used ≡ Faulty (number_of_refusal r.refusal) r.place
+        → AddAllCall versions file used records rows bytes list (report_of_batch (Err (batch.Refused r))) file list
+    batch_refused r e = all_added_as (Refuse (number_of_refusal r.refusal) 0 r.place)
+        (found_all (Faulty (number_of_refusal r.refusal) r.place) e) (Err (batch.Refused r)) file list
+        (record { answer = refl; after = refl; numbers = refl })
+
+    pub batch_beyond : (r : Refused) → UsedMet (length file) used (Err r)
+        → AddAllCall versions file used records rows bytes list (report_of_batch (Err (batch.Refused r))) file list
+    batch_beyond r u = batch_refused r (extend_beyond file used r u)
+
+    module _ (k : ℕ) (u : UsedMet (length file) used (Ok k)) where
+      pub batch_faulty : (r : Refused) (x : Index) → CheckMet (listing_opened (take k file)) (take k file) (Err r) x
+          → AddAllCall versions file used records rows bytes list (report_of_batch (Err (batch.Refused r))) file list
+      batch_faulty r x c = batch_refused r (extend_within file used k u ∙ c)
+
+      pub batch_within : (n : ℕ) (x : Index) → Listed (listing_opened (take k file)) (take k file) n x
+          → (r : Result Taken BatchError) (file' list' : List ℕ) → AddAllMet (batch_of file k records) file list r file' list'
+          → AddAllCall versions file used records rows bytes list (report_of_batch r) file' list'
+      batch_within n x c r file' list' a = all_added_as (batch_of file used records)
+          (found_all (Lists newest_rules (held_in (take k file))) (extend_within file used k u ∙ c.lists)) r file' list'
+          (subst (λ (j : ℕ). AddAllMet (batch_of file j records) file list r file' list') u.0 a)

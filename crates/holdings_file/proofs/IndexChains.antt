@@ -8,9 +8,11 @@ use Prim.Native.Nat.{ℕ, zero, suc, ◌+◌, ◌-◌, ◌*◌, ◌/◌, ◌%◌
 use native.Mathlib.Omega.{arith}
 use native.Mathlib.Nat.{mod-lt}
 use lib.Dec.{eqb}
-use lib.ListN.{length, take, drop, get_or, get_elem?, set, length-set, length-append, length-drop}
+use lib.ListN.{length, take, drop, get_or, get_elem?, set, replicate, length-set, length-append, length-drop}
+use Rattle.std.proofs.lemmas.List.{get_or-replicate, length-replicate}
 use lib.Seq.{drop-drop, get_or-set_same, get_or-set_other}
 use borrow.Author.Tests.{eqb-true, eqb-false}
+use Rattle.std.specs.Cmp.Lexicographic.{pointwise}
 use Rattle.flow.specs.Tests.{split, by_cases, pick_true, pick_false, pick_either}
 use Rattle.flow.specs.Flow.{pick, same_list}
 use Rattle.wire.specs.BigEndian.{joined}
@@ -21,43 +23,41 @@ use Rattle.holdings.specs.EntryLaws.{wholes}
 use Rattle.holdings.proofs.EntryLaws.{same_is, same_self, number_within, number_found, number_first}
 use Rattle.holdings.proofs.EntryLaws.{distinct_none, distinct_more, entries_first, entries_empty}
 use Rattle.holdings.proofs.FileLaws.{stands, entries_next, placements_more}
+use Rattle.holdings_file.specs.declared.index.Index.{Index}
 use Rattle.holdings_file.specs.Promises.{held_in}
 use Rattle.holdings_file.specs.Index.{hashed, hash_block, hash_factor, hash_modulus, bucket_of, InBucket}
-use Rattle.holdings_file.specs.Index.{entry_numbers, latest, Indexed, Indexing, Cleared, Whole, WholeIndexed}
+use Rattle.holdings_file.specs.Index.{entry_numbers, latest, Indexed, Indexing, Whole, WholeIndexed}
 use Rattle.holdings_file.specs.Index.{Fresh}
-use Rattle.holdings_file.proofs.EntryWalks.{held_wholes}
+use Rattle.holdings_file.proofs.EntryWalks.{same_as, held_wholes}
 
--- ---- the hash, with n blocks left from the place p on
-pub record Hashing (m : List ℕ) (h p n : ℕ) : Type 0 where
-  pub left : hashed (length m / hash_block + 1) 0 m ≡ hashed n h (drop p m)
+-- ---- the hash of a message, where n blocks are in it
+pub record Hashing (m : List ℕ) (h n : ℕ) : Type 0 where
+  pub left : hashed (length m / hash_block + 1) 0 m ≡ hashed (length m / hash_block + 1 - n) h (drop (hash_block * n) m)
   pub low : h < hash_modulus
-  pub at : p + hash_block * n ≡ hash_block * (length m / hash_block + 1)
 
-pub hash_start : (m : List ℕ) → Hashing m 0 0 (length m / hash_block + 1)
-hash_start m = record { left = refl; low = omega arith; at = omega arith }
-
-module _ (m : List ℕ) (h p n : ℕ) (x : Hashing m h p n) where
-  pub hash_next : 0 < n → (v : ℕ) → v ≡ joined 0 (take hash_block (drop p m))
-      → Hashing m ((h * hash_factor + v % hash_modulus) % hash_modulus) (p + hash_block) (n - 1)
+module _ (m : List ℕ) (h n : ℕ) (x : Hashing m h n) where
+  pub hash_next : n < length m / hash_block + 1 → (v : ℕ) → v ≡ joined 0 (take hash_block (drop (hash_block * n) m))
+      → Hashing m ((h * hash_factor + v % hash_modulus) % hash_modulus) (n + 1)
   hash_next l v e =
-      let k : n ≡ suc (n - 1) = omega arith in
+      let k : length m / hash_block + 1 - n ≡ suc (length m / hash_block + 1 - (n + 1)) = omega arith in
       let g = h * hash_factor + v % hash_modulus in
+      let d : drop hash_block (drop (hash_block * n) m) ≡ drop (hash_block * (n + 1)) m =
+      drop-drop hash_block (hash_block * n) m
+      ∙ ap (λ (j : ℕ). drop j m) {x = hash_block * n + hash_block} {y = hash_block * (n + 1)} (omega arith) in
       record {
         left =
             x.left
-            ∙ ap (λ (j : ℕ). hashed j h (drop p m)) k
-            ∙ (λ i. hashed (n - 1) ((h * hash_factor + sym e i % hash_modulus) % hash_modulus)
-            (drop-drop hash_block p m i));
+            ∙ ap (λ (j : ℕ). hashed j h (drop (hash_block * n) m)) k
+            ∙ (λ i. hashed (length m / hash_block + 1 - (n + 1)) ((h * hash_factor + sym e i % hash_modulus) % hash_modulus) (d i));
         low = mod-lt g (omega arith);
-        at = omega (arith, x.at);
       }
 
-  pub hash_done : n ≤ 0 → (H : ℕ) → 0 < H → InBucket H m (h % H)
+  pub hash_done : length m / hash_block + 1 ≤ n → (H : ℕ) → 0 < H → InBucket H m (h % H)
   unfolding bucket_of
   hash_done l H q =
-      let z : n ≡ 0 = omega arith in
+      let z : length m / hash_block + 1 - n ≡ 0 = omega arith in
       record {
-        is = ap (λ (k : ℕ). k % H) (sym (x.left ∙ ap (λ (j : ℕ). hashed j h (drop p m)) z));
+        is = ap (λ (k : ℕ). k % H) (sym (x.left ∙ ap (λ (j : ℕ). hashed j h (drop (hash_block * n) m)) z));
         below = mod-lt h q;
       }
 
@@ -103,18 +103,26 @@ pub record Walking (H : ℕ) (ms : Messages) (m : List ℕ) (c : ℕ) : Type 0 w
   pub chained : (k : ℕ) → c ≡ suc k → bucket_of H (get_or ms k []) ≡ bucket_of H m
   pub passed : (i : ℕ) → c ≤ i → i < length ms → get_or ms i [] ≡ m → ⊥
 
-module _ (f idx : List ℕ) (H : ℕ) (m : List ℕ) (whole : Whole f) (x : Indexed idx H (held_in f)) where
+pub walking_at : {H : ℕ} {ms : Messages} {m : List ℕ} {c k : ℕ} → Walking H ms m c → (1 ≤ c) × (k ≡ c - 1)
+    → Walking H ms m (k + 1)
+walking_at {H} {ms} {m} {c} {k} w x = subst (Walking H ms m) {x = c} {y = k + 1} (omega (arith, x.0, x.1)) w
+
+module _ (f hs cs m : List ℕ) (whole : Whole f) (x : Indexed hs cs (held_in f)) where
+  abbrev H : ℕ
+  H = length hs
+
   abbrev ms : Messages
   ms = held_in f
 
-  pub walk_start : (b : ℕ) → InBucket H m b → Walking H (held_in f) m (get_or idx b 0)
+  pub walk_start : (b : ℕ) → InBucket (length hs) m b → Walking (length hs) (held_in f) m (get_or hs b 0)
   walk_start b q = subst (Walking H ms m) (sym (x.heads b q.below)) (record {
     low = latest_within H ms b (length ms);
     chained = λ k e. latest_in H ms b (length ms) k e ∙ q.is;
     passed = λ i h k e. latest_above H ms b (length ms) i h k (ap (bucket_of H) e ∙ sym q.is);
   })
 
-  pub walk_end : (c n : ℕ) → Walking H (held_in f) m c → c ≤ 0 → n ≡ length (held_in f) → n ≡ number_of m (held_in f)
+  pub walk_end : (c n : ℕ) → Walking (length hs) (held_in f) m c → c ≤ 0 → n ≡ length (held_in f)
+      → n ≡ number_of m (held_in f)
   walk_end c n w z q = split (number_of m ms) (length ms)
       (λ l.
       let e = number_found m ms l in
@@ -123,27 +131,27 @@ module _ (f idx : List ℕ) (H : ℕ) (m : List ℕ) (whole : Whole f) (x : Inde
       absurd (w.passed (number_of m ms) (omega arith) l (cc)))
       (λ l. omega (arith, number_within m ms))
 
-  module _ (c : ℕ) (w : Walking H (held_in f) m c) (h : 0 < c) where
-    abbrev slot : ℕ
-    slot = H + entry_numbers * (c - 1)
-
+  module _ (k : ℕ) (w : Walking (length hs) (held_in f) m (k + 1)) where
     abbrev place : ℕ
-    place = get_or idx slot 0
+    place = get_or cs (entry_numbers * k) 0
 
     abbrev size : ℕ
-    size = get_or idx (slot + 1) 0
+    size = get_or cs (entry_numbers * k + 1) 0
 
     abbrev there : List ℕ
-    there = get_or ms (c - 1) []
+    there = get_or ms k []
 
-    inside : c - 1 < length ms
+    inside : k < length ms
     inside = omega (arith, w.low)
 
-    pub stands_there : StandsAt f (placement (get_or idx (H + entry_numbers * (c - 1)) 0)
-        (get_or idx (H + entry_numbers * (c - 1) + 1) 0)) (get_or (held_in f) (c - 1) [])
+    pub slot_inside : entry_numbers * k + 2 < length cs
+    slot_inside = omega (arith, inside, x.room)
+
+    pub stands_there : StandsAt f (placement (get_or cs (entry_numbers * k) 0) (get_or cs (entry_numbers * k + 1) 0))
+        (get_or (held_in f) k [])
     stands_there =
-        let y = stands f header_size ms whole (c - 1) there (elem_get ms (c - 1) inside) in
-        let p = x.places (c - 1) inside in
+        let y = stands f header_size ms whole k there (elem_get ms k inside) in
+        let p = x.places k inside in
         let e = y.1 in
         let q : y.0 ≡ placement place size = cc in
         subst (λ s. StandsAt f s there) q y.2
@@ -153,45 +161,46 @@ module _ (f idx : List ℕ) (H : ℕ) (m : List ℕ) (whole : Whole f) (x : Inde
         let n : place + size - place ≡ size = omega arith in
         ap (λ (k : ℕ). take k (drop place f)) n ∙ stands_there.there
 
-    module _ (r : Bool) (e : r ≡ same_list m (take (place + size - place) (drop place f))) where
-      pub walk_found : r ≡ true → c - 1 ≡ number_of m (held_in f)
+    module _ (r : Bool) (e : r ≡ pointwise eqb m (take (place + size - place) (drop place f))) where
+      same : r ≡ same_list m (take (place + size - place) (drop place f))
+      same = same_as m (take (place + size - place) (drop place f)) e
+
+      pub walk_found : r ≡ true → k ≡ number_of m (held_in f)
       walk_found t =
-          let q : there ≡ m = sym part_is ∙ sym (same_is m (take (place + size - place) (drop place f)) (sym e ∙ t)) in
-          let g : get_elem? ms (c - 1) ≡ some m = elem_get ms (c - 1) inside ∙ ap {B = Option (List ℕ)} some q in
-          let l : number_of m ms < length ms = omega (arith, number_first m ms (c - 1) g, inside) in
-          x.distinct (c - 1) (number_of m ms) m g (number_found m ms l)
+          let q : there ≡ m = sym part_is ∙ sym (same_is m (take (place + size - place) (drop place f)) (sym same ∙ t)) in
+          let g : get_elem? ms k ≡ some m = elem_get ms k inside ∙ ap {B = Option (List ℕ)} some q in
+          let l : number_of m ms < length ms = omega (arith, number_first m ms k g, inside) in
+          x.distinct k (number_of m ms) m g (number_found m ms l)
 
       other : r ≡ false → there ≡ m → ⊥
       other t q =
           let z : same_list m (take (place + size - place) (drop place f)) ≡ true =
           ap (λ (s : List ℕ). same_list m s) (part_is ∙ q) ∙ same_self m in
-          let w : ◌≡◌ {A = Bool} true false = sym z ∙ sym e ∙ t in
+          let w : ◌≡◌ {A = Bool} true false = sym z ∙ sym same ∙ t in
           let v : ◌≡◌ {A = ℕ} 0 1 = cc in
           omega arith
 
-      pub walk_next : r ≡ false → Walking H (held_in f) m (get_or idx (H + entry_numbers * (c - 1) + 2) 0)
+      pub walk_next : r ≡ false → Walking (length hs) (held_in f) m (get_or cs (entry_numbers * k + 2) 0)
       walk_next t =
           let b = bucket_of H there in
-          let q : bucket_of H there ≡ bucket_of H m = w.chained (c - 1) (omega arith) in
-          subst (Walking H ms m) (sym (x.nexts (c - 1) inside)) (record {
-            low = omega (arith, latest_within H ms b (c - 1), w.low);
-            chained = λ j e. latest_in H ms b (c - 1) j e ∙ q;
-            passed = λ i l r e. split i (c - 1)
-                (λ z. latest_above H ms b (c - 1) i l z (ap (bucket_of H) e ∙ sym q))
-                (λ z. split i c
-                (λ y. let v : i ≡ c - 1 = omega arith in other t (ap (λ (j : ℕ). get_or ms j []) (sym v) ∙ e))
+          let q : bucket_of H there ≡ bucket_of H m = w.chained k (omega arith) in
+          subst (Walking H ms m) (sym (x.nexts k inside)) (record {
+            low = omega (arith, latest_within H ms b k, w.low);
+            chained = λ j e. latest_in H ms b k j e ∙ q;
+            passed = λ i l r e. split i k
+                (λ z. latest_above H ms b k i l z (ap (bucket_of H) e ∙ sym q))
+                (λ z. split i (k + 1)
+                (λ y. let v : i ≡ k = omega arith in other t (ap (λ (j : ℕ). get_or ms j []) (sym v) ∙ e))
                 (λ y. w.passed i y r e));
           })
 
-    pub walk_less : get_or idx (H + entry_numbers * (c - 1) + 2) 0 < c
-    walk_less = omega (arith, x.nexts (c - 1) inside, latest_within H ms (bucket_of H there) (c - 1))
+    pub walk_less : get_or cs (entry_numbers * k + 2) 0 < k + 1
+    walk_less = omega (arith, x.nexts k inside, latest_within H ms (bucket_of H there) k)
 
 -- ---- by the index, where it is complete
-pub complete_index : (f idx : List ℕ) (H n : ℕ) → WholeIndexed f n idx H → (H ≡ 0 → ⊥)
-    → n ≤ (length idx - H) / entry_numbers → Indexed idx H (held_in f)
-complete_index f idx H n x z l =
-    x.indexing.complete (split 0 H (λ h. h) (λ h. absurd (z (omega arith))))
-    (omega (arith, x.count, x.indexing.within))
+pub complete_index : (f : List ℕ) (x : Index) (n : ℕ) → WholeIndexed f n x → 0 < length x.heads.now
+    → n ≤ length x.chains.now / entry_numbers → Indexed x.heads.now x.chains.now (held_in f)
+complete_index f x n y h l = y.indexing.complete h (omega (arith, y.count))
 
 -- ---- one entry more
 get_append : (ms : Messages) (m : List ℕ) (k : ℕ) → k < length ms → get_or (ms ++ (m ∷ [])) k [] ≡ get_or ms k []
@@ -214,49 +223,33 @@ latest_append H ms m b zero l = refl
 latest_append H ms m b (suc n) l =
     λ i. pick (eqb (bucket_of H (get_append ms m n l i)) b) (suc n) (latest_append H ms m b n (omega arith) i)
 
--- four numbers set, the last below the others
-module _ (l : List ℕ) (at b p q r s : ℕ) (h : at + 2 < length l) (k : b < at) where
-  abbrev three : List ℕ
+-- three numbers set
+module _ (l : List ℕ) (at p q r : ℕ) (h : at + 2 < length l) where
+  abbrev pub three : List ℕ
   three = set (set (set l at p) (at + 1) q) (at + 2) r
 
-  abbrev pub four : List ℕ
-  four = set (set (set (set l at p) (at + 1) q) (at + 2) r) b s
+  three_length : length three ≡ length l
+  three_length = simp length-set
 
-  four_length : length four ≡ length l
-  four_length = simp length-set
+  three_other : (j : ℕ) → j < at → get_or three j 0 ≡ get_or l j 0
+  three_other j y =
+      get_or-set_other (set (set l at p) (at + 1) q) (at + 2) j r 0 (λ e. omega arith)
+      ∙ get_or-set_other (set l at p) (at + 1) j q 0 (λ e. omega arith)
+      ∙ get_or-set_other l at j p 0 (λ e. omega arith)
 
-  four_b : get_or four b 0 ≡ s
-  four_b = get_or-set_same three b s 0 (simp length-set (omega arith))
-
-  four_other : (j : ℕ) → (j ≡ b → ⊥) → (j < at) ⊎ (at + 2 < j) → get_or four j 0 ≡ get_or l j 0
-  four_other j x y =
-      get_or-set_other three b j s 0 x
-      ∙ get_or-set_other (set (set l at p) (at + 1) q) (at + 2) j r 0
-      (λ e. apart y (at + 2) (omega arith) (omega arith) e)
-      ∙ get_or-set_other (set l at p) (at + 1) j q 0 (λ e. apart y (at + 1) (omega arith) (omega arith) e)
-      ∙ get_or-set_other l at j p 0 (λ e. apart y at (omega arith) (omega arith) e)
-    where
-      apart : (j < at) ⊎ (at + 2 < j) → (i : ℕ) → at ≤ i → i ≤ at + 2 → j ≡ i → ⊥
-      apart (inl y) i u v e = omega arith
-      apart (inr y) i u v e = omega arith
-
-  four_at : get_or four at 0 ≡ p
-  four_at =
-      get_or-set_other three b at s 0 (λ e. omega arith)
-      ∙ get_or-set_other (set (set l at p) (at + 1) q) (at + 2) at r 0 (λ e. omega arith)
+  three_at : get_or three at 0 ≡ p
+  three_at =
+      get_or-set_other (set (set l at p) (at + 1) q) (at + 2) at r 0 (λ e. omega arith)
       ∙ get_or-set_other (set l at p) (at + 1) at q 0 (λ e. omega arith)
       ∙ get_or-set_same l at p 0 (omega arith)
 
-  four_one : get_or four (at + 1) 0 ≡ q
-  four_one =
-      get_or-set_other three b (at + 1) s 0 (λ e. omega arith)
-      ∙ get_or-set_other (set (set l at p) (at + 1) q) (at + 2) (at + 1) r 0 (λ e. omega arith)
+  three_one : get_or three (at + 1) 0 ≡ q
+  three_one =
+      get_or-set_other (set (set l at p) (at + 1) q) (at + 2) (at + 1) r 0 (λ e. omega arith)
       ∙ get_or-set_same (set l at p) (at + 1) q 0 (simp length-set (omega arith))
 
-  four_two : get_or four (at + 2) 0 ≡ r
-  four_two =
-      get_or-set_other three b (at + 2) s 0 (λ e. omega arith)
-      ∙ get_or-set_same (set (set l at p) (at + 1) q) (at + 2) r 0 (simp length-set (omega arith))
+  three_two : get_or three (at + 2) 0 ≡ r
+  three_two = get_or-set_same (set (set l at p) (at + 1) q) (at + 2) r 0 (simp length-set (omega arith))
 
 -- the last message stands at the file's end
 last_place : (f : List ℕ) (at : ℕ) (ms : Messages) (m : List ℕ) → entries_in (drop at f) ≡ wholes (ms ++ (m ∷ []))
@@ -274,12 +267,12 @@ last_place f at (y ∷ ms) m e p q =
     let x = entries_first (drop at f) y (wholes (ms ++ (m ∷ []))) e in
     last_place f (at + (length_size + length y)) ms m (entries_next f at y (wholes (ms ++ (m ∷ []))) x) p q
 
-module _ (f : List ℕ) (p n : ℕ) (idx : List ℕ) (H : ℕ) (x : Fresh f p n idx H) where
+module _ (f w : List ℕ) (n : ℕ) (i : Index) (x : Fresh f w n i) where
+  abbrev N : ℕ
+  N = length i.heads.now
+
   abbrev before : Messages
   before = x.before
-
-  abbrev w : List ℕ
-  w = x.message
 
   abbrev after : Messages
   after = before ++ (w ∷ [])
@@ -290,178 +283,130 @@ module _ (f : List ℕ) (p n : ℕ) (idx : List ℕ) (H : ℕ) (x : Fresh f p n 
   more : length after ≡ suc (length before)
   more = length-append before (w ∷ []) ∙ omega arith
 
-  last_stands : get_elem? (placements header_size after) (length before) ≡ some (placement p (length w))
-  last_stands = last_place f header_size before w x.entries p x.place
-
-  last_message : take (length f - p) (drop p f) ≡ w
-  last_message =
-      let y = stands f header_size after x.entries (length before) w (elem_last_is before w) in
-      let e = y.1 in
-      let s = last_stands in
-      let q : y.0 ≡ placement p (length w) = cc in
-      let z = subst (λ v. StandsAt f v w) q y.2 in
-      let n : length f - p ≡ length w = omega (arith, x.place) in
-      ap (λ (k : ℕ). take k (drop p f)) n ∙ z.there
+  last_stands : get_elem? (placements header_size after) (length before)
+      ≡ some (placement (length f - length w) (length w))
+  last_stands = last_place f header_size before w x.entries (length f - length w) (omega (arith, x.long))
 
   -- with no buckets, and with no room, nothing is promised
-  pub insert_none : H ≡ 0 → Indexing idx H (held_in f)
-  insert_none z = record { within = x.indexing.within; complete = λ h l. absurd (omega arith) }
+  pub insert_none : length i.heads.now ≡ 0 → Indexing i (held_in f)
+  insert_none z = record { complete = λ h l. absurd (omega arith) }
 
-  pub insert_full : (length idx - H) / entry_numbers ≤ n → Indexing idx H (held_in f)
-  insert_full l = record {
-    within = x.indexing.within;
-    complete = λ h k. absurd (omega (arith, ap length fresh_held, more, x.number, x.indexing.within));
-  }
+  pub insert_full : length i.chains.now / entry_numbers ≤ n → Indexing i (held_in f)
+  insert_full l = record { complete = λ h k. absurd (omega (arith, ap length fresh_held, more, x.number)) }
 
-  module _ (z : H ≡ 0 → ⊥) (room : n < (length idx - H) / entry_numbers) (b : ℕ)
-      (q : InBucket H (take (length f - p) (drop p f)) b) where
-    abbrev slot_at : ℕ
-    slot_at = H + entry_numbers * n
+  module _ (some_buckets : 0 < length i.heads.now) (room : n < length i.chains.now / entry_numbers) (b : ℕ)
+      (q : InBucket (length i.heads.now) w b) where
+    pub big : entry_numbers * n + 2 < length i.chains.now
+    big = omega arith
 
-    some_buckets : 0 < H
-    some_buckets = split 0 H (λ h. h) (λ h. absurd (z (omega arith)))
+    abbrev chains : List ℕ
+    chains = three i.chains.now (entry_numbers * n) (length f - length w) (length w) (get_or i.heads.now b 0) big
 
-    pub big : H + entry_numbers * n + 2 < length idx
-    big = omega (arith, x.indexing.within)
+    abbrev heads : List ℕ
+    heads = set i.heads.now b (n + 1)
 
-    pub low : b < H + entry_numbers * n
-    low = omega (arith, q.below)
-
-    abbrev stored_index : List ℕ
-    stored_index = four idx (H + entry_numbers * n) b p (length f - p) (get_or idx b 0) (n + 1) big low
-
-    was : Indexed idx H before
+    was : Indexed i.heads.now i.chains.now before
     was = x.indexing.complete some_buckets (omega (arith, x.number))
 
-    bucket_is : b ≡ bucket_of H w
-    bucket_is = q.is ∙ ap (bucket_of H) last_message
+    as_many : length heads ≡ N
+    as_many = length-set i.heads.now b (n + 1)
 
-    kept : (j : ℕ) → (j ≡ b → ⊥) → (j < slot_at) ⊎ (slot_at + 2 < j) → get_or stored_index j 0 ≡ get_or idx j 0
-    kept = four_other idx slot_at b p (length f - p) (get_or idx b 0) (n + 1) big low
-
-    size_is : length f - p ≡ length w
-    size_is = omega (arith, x.place)
-
-    heads_after : (c : ℕ) → c < H → get_or stored_index c 0 ≡ latest H after c (length after)
+    heads_after : (c : ℕ) → c < N → get_or heads c 0 ≡ latest N after c (length after)
     unfolding latest
     heads_after c l =
         let k = x.number in
-        let y : latest H after c (length after)
-        ≡ pick (eqb (bucket_of H w) c) (suc (length before)) (latest H before c (length before)) =
-        ap (latest H after c) more
-        ∙ (λ i. pick (eqb (bucket_of H (get_last before w i)) c) (suc (length before))
-        (latest_append H before w c (length before) (omega arith) i)) in
-        by_cases (eqb (bucket_of H w) c)
+        let y : latest N after c (length after)
+        ≡ pick (eqb (bucket_of N w) c) (suc (length before)) (latest N before c (length before)) =
+        ap (latest N after c) more
+        ∙ (λ t. pick (eqb (bucket_of N (get_last before w t)) c) (suc (length before))
+        (latest_append N before w c (length before) (omega arith) t)) in
+        by_cases (eqb (bucket_of N w) c)
         (λ t.
-        let e : c ≡ b = sym (eqb-true (bucket_of H w) c t) ∙ sym bucket_is in
-        ap (λ (j : ℕ). get_or stored_index j 0) e
-        ∙ four_b idx slot_at b p (length f - p) (get_or idx b 0) (n + 1) big low
-        ∙ omega (arith, y, pick_true (suc (length before)) (latest H before c (length before)) t))
+        let e : c ≡ b = sym (eqb-true (bucket_of N w) c t) ∙ sym q.is in
+        ap (λ (j : ℕ). get_or heads j 0) e
+        ∙ get_or-set_same i.heads.now b (n + 1) 0 q.below
+        ∙ omega (arith, y, pick_true (suc (length before)) (latest N before c (length before)) t))
         (λ t.
-        let e : c ≡ b → ⊥ = λ v. eqb-false (bucket_of H w) c t (sym bucket_is ∙ sym v) in
-        kept c e (inl (omega arith)) ∙ was.heads c l
-        ∙ sym (y ∙ pick_false (suc (length before)) (latest H before c (length before)) t))
+        let e : c ≡ b → ⊥ = λ v. eqb-false (bucket_of N w) c t (sym q.is ∙ sym v) in
+        get_or-set_other i.heads.now b c (n + 1) 0 e ∙ was.heads c l
+        ∙ sym (y ∙ pick_false (suc (length before)) (latest N before c (length before)) t))
 
     places_after : (k : ℕ) → k < length after → get_elem? (placements header_size after) k
-        ≡ some (placement (get_or stored_index (H + entry_numbers * k) 0) (get_or stored_index (H + entry_numbers * k + 1) 0))
+        ≡ some (placement (get_or chains (entry_numbers * k) 0) (get_or chains (entry_numbers * k + 1) 0))
     places_after k h = split k (length before)
         (λ y.
         let j = x.number in
-        let a = kept (H + entry_numbers * k) (λ v. omega (arith, q.below)) (inl (omega arith)) in
-        let a' = kept (H + entry_numbers * k + 1) (λ v. omega (arith, q.below)) (inl (omega arith)) in
+        let a = three_other i.chains.now (entry_numbers * n) (length f - length w) (length w) (get_or i.heads.now b 0) big
+        (entry_numbers * k) (omega arith) in
+        let a' = three_other i.chains.now (entry_numbers * n) (length f - length w) (length w) (get_or i.heads.now b 0) big
+        (entry_numbers * k + 1) (omega arith) in
         placements_more header_size before (w ∷ []) k (get_or before k []) (elem_get before k y)
         ∙ was.places k y
-        ∙ (λ i. some (placement (sym a i) (sym a' i))))
+        ∙ (λ t. some (placement (sym a t) (sym a' t))))
         (λ y.
         let e : k ≡ length before = omega (arith, more) in
-        let g : H + entry_numbers * k ≡ slot_at = omega (arith, x.number) in
-        let a = ap (λ (j : ℕ). get_or stored_index j 0) g
-        ∙ four_at idx slot_at b p (length f - p) (get_or idx b 0) (n + 1) big low in
-        let a' = ap (λ (j : ℕ). get_or stored_index (j + 1) 0) g
-        ∙ four_one idx slot_at b p (length f - p) (get_or idx b 0) (n + 1) big low ∙ size_is in
-        ap (get_elem? (placements header_size after)) e ∙ last_stands ∙ (λ i. some (placement (sym a i) (sym a' i))))
+        let g : entry_numbers * k ≡ entry_numbers * n = omega (arith, x.number) in
+        let a = ap (λ (j : ℕ). get_or chains j 0) g
+        ∙ three_at i.chains.now (entry_numbers * n) (length f - length w) (length w) (get_or i.heads.now b 0) big in
+        let a' = ap (λ (j : ℕ). get_or chains (j + 1) 0) g
+        ∙ three_one i.chains.now (entry_numbers * n) (length f - length w) (length w) (get_or i.heads.now b 0) big in
+        ap (get_elem? (placements header_size after)) e ∙ last_stands ∙ (λ t. some (placement (sym a t) (sym a' t))))
 
     nexts_after : (k : ℕ) → k < length after
-        → get_or stored_index (H + entry_numbers * k + 2) 0 ≡ latest H after (bucket_of H (get_or after k [])) k
+        → get_or chains (entry_numbers * k + 2) 0 ≡ latest N after (bucket_of N (get_or after k [])) k
     nexts_after k h = split k (length before)
         (λ y.
         let j = x.number in
-        kept (H + entry_numbers * k + 2) (λ v. omega (arith, q.below)) (inl (omega arith))
+        three_other i.chains.now (entry_numbers * n) (length f - length w) (length w) (get_or i.heads.now b 0) big
+        (entry_numbers * k + 2) (omega arith)
         ∙ was.nexts k y
-        ∙ sym (ap (λ (v : List ℕ). latest H after (bucket_of H v) k) (get_append before w k y)
-        ∙ latest_append H before w (bucket_of H (get_or before k [])) k (omega arith)))
+        ∙ sym (ap (λ (v : List ℕ). latest N after (bucket_of N v) k) (get_append before w k y)
+        ∙ latest_append N before w (bucket_of N (get_or before k [])) k (omega arith)))
         (λ y.
         let e : k ≡ length before = omega (arith, more) in
-        let g : H + entry_numbers * k ≡ slot_at = omega (arith, x.number) in
-        ap (λ (j : ℕ). get_or stored_index (j + 2) 0) g
-        ∙ four_two idx slot_at b p (length f - p) (get_or idx b 0) (n + 1) big low
+        let g : entry_numbers * k ≡ entry_numbers * n = omega (arith, x.number) in
+        ap (λ (j : ℕ). get_or chains (j + 2) 0) g
+        ∙ three_two i.chains.now (entry_numbers * n) (length f - length w) (length w) (get_or i.heads.now b 0) big
         ∙ was.heads b q.below
-        ∙ sym (ap (λ (j : ℕ). latest H after (bucket_of H (get_or after j [])) j) e
-        ∙ ap (λ (v : List ℕ). latest H after (bucket_of H v) (length before)) (get_last before w)
-        ∙ latest_append H before w (bucket_of H w) (length before) (omega arith)
-        ∙ ap (λ (j : ℕ). latest H before j (length before)) (sym bucket_is)))
+        ∙ sym (ap (λ (j : ℕ). latest N after (bucket_of N (get_or after j [])) j) e
+        ∙ ap (λ (v : List ℕ). latest N after (bucket_of N v) (length before)) (get_last before w)
+        ∙ latest_append N before w (bucket_of N w) (length before) (omega arith)
+        ∙ ap (λ (j : ℕ). latest N before j (length before)) (sym q.is)))
 
-    index_after : Indexed stored_index H after
+    index_after : Indexed heads chains after
     index_after =
-        let l = four_length idx slot_at b p (length f - p) (get_or idx b 0) (n + 1) big low in
+        let l = three_length i.chains.now (entry_numbers * n) (length f - length w) (length w) (get_or i.heads.now b 0) big in
         let k = x.number in
         record {
-          buckets = some_buckets;
-          room = omega (arith, more, x.indexing.within);
-          heads = heads_after;
+          buckets = omega (arith, as_many);
+          room = omega (arith, more);
+          heads = λ c h. heads_after c (omega (arith, as_many))
+              ∙ ap (λ (j : ℕ). latest j after c (length after)) (sym as_many);
           places = places_after;
-          nexts = nexts_after;
+          nexts = λ j h. nexts_after j h ∙ ap (λ (v : ℕ). latest v after (bucket_of v (get_or after j [])) j) (sym as_many);
           distinct = distinct_more before w was.distinct x.new;
         }
 
-    pub inserted : Indexing stored_index H (held_in f)
-    inserted = record {
-      within = omega (
-        arith,
-        four_length idx slot_at b p (length f - p) (get_or idx b 0) (n + 1) big low,
-        x.indexing.within,
-      );
-      complete = λ h l. subst (Indexed stored_index H) (sym fresh_held) index_after;
+    pub inserted : (i' : Index)
+        → i'.heads.now ≡ set i.heads.now b (n + 1)
+        → i'.chains.now ≡ three i.chains.now (entry_numbers * n) (length f - length w) (length w) (get_or i.heads.now b 0) big
+        → Indexing i' (held_in f)
+    inserted i' u v = record {
+      complete = λ h l. subst (λ (ms : Messages). Indexed i'.heads.now i'.chains.now ms) (sym fresh_held)
+          (subst (λ (s : List ℕ). Indexed s i'.chains.now after) (sym u)
+          (subst (λ (s : List ℕ). Indexed heads s after) (sym v) index_after));
     }
 
 -- ---- the empty index
-pub clear_next : (l : List ℕ) (i : ℕ) → i < length l → Cleared i l → Cleared (i + 1) (set l i 0)
-clear_next l i h f b k = split b i
-    (λ z. get_or-set_other l i b 0 0 (λ e. omega arith) ∙ f b z)
-    (λ z.
-    let e : b ≡ i = omega arith in
-    ap (λ (j : ℕ). get_or (set l i 0) j 0) e ∙ get_or-set_same l i 0 0 h)
-
-pub empty_index : (idx : List ℕ) (H : ℕ) → H ≤ length idx → Cleared H idx → Indexing idx H []
+pub empty_index : (i : Index) → (n : ℕ) → i.heads.now ≡ replicate n 0 → Indexing i []
 unfolding latest
-empty_index idx H l f = record {
-  within = l;
+empty_index i n e = record {
   complete = λ p h. record {
     buckets = p;
     room = omega arith;
-    heads = f;
+    heads = λ b h. ap (λ (s : List ℕ). get_or s b 0) e ∙ get_or-replicate n b 0 0 (omega (arith, ap length e, length-replicate {A = ℕ} n 0));
     places = λ k h. absurd (omega arith);
     nexts = λ k h. absurd (omega arith);
     distinct = distinct_none;
   };
 }
-
--- the buckets below i are empty
-pub record Clearing (H : ℕ) (idx₀ idx : List ℕ) (i : ℕ) : Type 0 where
-  pub low : i ≤ H
-  pub as_long : length idx ≡ length idx₀
-  pub so_far : Cleared i idx
-
-pub clearing_start : (H : ℕ) (idx : List ℕ) → Clearing H idx idx 0
-clearing_start H idx = record { low = omega arith; as_long = refl; so_far = λ b l. absurd (omega arith) }
-
-module _ (H : ℕ) (idx₀ idx : List ℕ) (i : ℕ) (x : Clearing H idx₀ idx i) where
-  pub clearing_next : i < H → i < length idx → Clearing H idx₀ (set idx i 0) (i + 1)
-  clearing_next l h = record {
-    low = omega arith;
-    as_long = length-set idx i 0 ∙ x.as_long;
-    so_far = clear_next idx i h x.so_far;
-  }
-
-  pub clearing_done : H ≤ i → Cleared H idx
-  clearing_done l b h = x.so_far b (omega arith)

@@ -1,8 +1,8 @@
 pub mod EntryWalks
-pub mod MemoryParts
-pub mod ShortMessages
+pub mod Stores
 pub mod IndexChains
+pub mod ShortMessages
 pub mod FileChecks
 pub mod FileExtents
-pub mod Calls
 pub mod Batches
+pub mod Calls

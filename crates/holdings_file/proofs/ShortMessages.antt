@@ -8,11 +8,17 @@ use native.Mathlib.Omega.{arith}
 use lib.ListN.{length, take, drop, length-map}
 use lib.Seq.{length-take-le}
 use borrow.Author.Tests.{le-ltb}
-use Rattle.flow.specs.RefusalNumbers.{no_room, refused_entry, not_shortest, repeated_entry}
+use Rattle.std.specs.Prelude.{Result, Ok, Err}
+use Rattle.std.specs.Cmp.Lexicographic.{pointwise}
+use lib.Dec.{eqb}
+use Rattle.flow.specs.RefusalNumbers.{no_room, not_shortest, repeated_entry}
 use Rattle.flow.specs.Tests.{pick_true, pick_false}
 use Rattle.flow.specs.OverlayLaws.{stored_take, length_stored, length_overlay}
 use Rattle.flow.specs.Flow.{pick, on_some, same_list, Bytes, Entry, Outcome, Done, Fault, One, items, stored, Report}
 use Rattle.scalar.specs.Scalars.{Floats}
+use Rattle.scalar.specs.Refusals.{number_of}
+use Rattle.scalar.specs.declared.refusals.Refusal.TheVariants as refusal
+use Rattle.scalar.specs.declared.refusals.Refused.{Refused}
 use Rattle.record.specs.Model.Items.{Item, Known}
 use Rattle.record.specs.Model.Rows.{rows}
 use Rattle.record.specs.Model.Claims.{content_at}
@@ -32,20 +38,18 @@ use Rattle.record.proofs.Theorems.CallCases.{WriteCases, long_source, beyond, no
 use Rattle.record.proofs.Theorems.CallCases.{answer, write_cases, entries_length}
 use Rattle.record.proofs.Theorems.ItemTheorems.{no_longer}
 use Rattle.record.proofs.Theorems.RowTheorems.{judged_done, own_reads, own_record}
-use Rattle.reader.specs.declared.ReadAnswer.{ReadAnswer}
-use Rattle.reader.specs.declared.ReadAnswer.TheVariants as reading
+use Rattle.reader.specs.declared.Accepted.{Accepted}
+use Rattle.reader.specs.declared.ReadError.{ReadError}
+use Rattle.reader.specs.declared.ReadError.TheVariants as reading
 use Rattle.reader.specs.Answers as reader
-use Rattle.writer.specs.declared.WriteAnswer.{WriteAnswer}
-use Rattle.writer.specs.declared.WriteAnswer.TheVariants as writing
+use Rattle.writer.specs.declared.WriteError.{WriteError}
+use Rattle.writer.specs.declared.WriteError.TheVariants as writing
 use Rattle.writer.specs.Answers as writer
 use Rattle.holdings.specs.Files.{versions, reads_by, is_message, is_held, fault_by, fault_of}
 use Rattle.holdings.specs.Terms.{Messages, Enough}
 use Rattle.holdings.proofs.AdditionLaws.{shortest_is}
-use Rattle.holdings_file.specs.Promises.{newest_rules, work_numbers, RowsOf, ShortIn, Shortened}
-use Rattle.holdings_file.specs.Index.{ShortenMet, FaultAloneMet}
-use Rattle.holdings_file.proofs.MemoryParts.{lent_kept, rows_within, rows_enough, rows_again, index_kept}
-use Rattle.holdings_file.specs.declared.messages.Short.{Short}
-use Rattle.holdings_file.specs.declared.messages.Short.TheVariants as short
+use Rattle.holdings_file.specs.Promises.{newest_rules, RowsOf, ShortIn, Shortened, FaultAlone}
+use Rattle.holdings_file.proofs.EntryWalks.{same_as}
 
 -- ---- what is read of an accepted message: some rows, no more than bytes
 module _ (m : List ℕ) (b : Bytes m) (n : ℕ) (es : List (Entry Item)) (c : Known)
@@ -150,33 +154,21 @@ module _ (m t : List ℕ) (a : Report) (t' : List ℕ) (g : ReadCall Floats base
             lent = omega (arith, i, rows_length es, few, lent, ap (λ (k : ℕ). k / 5) s);
           }
 
--- ---- the same of the reader's answer, where the table is the rows of working memory
-module _ (m t out : List ℕ) (x : Enough versions t out) (k : ℕ) (e : k ≡ work_numbers) (r : ReadAnswer) (n : ℕ)
-    (part : List ℕ) (g : MeasuredCall Floats base as_numbers m (take k t) (reader.report r) n part)
-    (l : length part ≡ length (take k t)) where
-  within : k ≤ length t
-  within = rows_within t out x k e
+-- ---- the same of the reader's answer
+module _ (m t out : List ℕ) (x : Enough versions t out) (r : Result Accepted ReadError) (n : ℕ) (t' : List ℕ)
+    (g : MeasuredCall Floats base as_numbers m t (reader.report r) n t') where
+  pub read_rows : (a : Accepted) → r ≡ Ok a → RowsOf m t' a.rows
+  read_rows a h = accepted_rows m t (reader.report r) t' g.call x.rows_lent a.rows a.length (ap reader.report h)
 
-  lent : base.longest ≤ lent_rows as_numbers (take k t)
-  lent = (rows_enough t out x k e).rows_lent
+  module _ (e : ReadError) (h : r ≡ Err e) where
+    pub read_refused : (y : Refused) → e ≡ reading.Refused y
+        → reads_by newest_rules m ≡ Fault (number_of y.refusal) y.place
+    read_refused y q = refused_is m t (reader.report r) t' g.call x.rows_lent (number_of y.refusal) y.place
+        (ap reader.report h ∙ ap (λ (z : ReadError). reader.report (Err z)) q)
 
-  pub shorten_rows : (c w s : ℕ) → r ≡ reading.Accepted c w s → RowsOf m (take k (part ++ drop k t)) c
-  shorten_rows c w s h = subst (λ (u : List ℕ). RowsOf m u c) (sym (rows_again t part k e within l))
-      (accepted_rows m (take k t) (reader.report r) part g.call lent c w (ap reader.report h))
-
-  pub shorten_enough : Enough versions (take k (part ++ drop k t)) out
-  shorten_enough = lent_kept (rows_enough t out x k e) (ap length (rows_again t part k e within l) ∙ l) refl
-
-  pub shorten_met : (s : Short) (out' : List ℕ) → Shortened m s out' → ShortenMet m t s (part ++ drop k t) out'
-  shorten_met s out' y = record { short = y; kept = index_kept t part k e within l }
-
-  pub shorten_refused : (y p : ℕ) → r ≡ reading.Refused y p → (out' : List ℕ)
-      → ShortenMet m t (short.Refused y p) (part ++ drop k t) out'
-  shorten_refused y p h out' = shorten_met (short.Refused y p) out'
-      (refused_is m (take k t) (reader.report r) part g.call lent y p (ap reader.report h))
-
-  pub shorten_few : (c : ℕ) → r ≡ reading.TooFew c → ⊥
-  shorten_few c h = few_never m (take k t) (reader.report r) part g.call lent c (ap reader.report h)
+    pub read_few : (c : ℕ) → e ≡ reading.TooFew c → ⊥
+    read_few c q = few_never m t (reader.report r) t' g.call x.rows_lent c
+        (ap reader.report h ∙ ap (λ (z : ReadError). reader.report (Err z)) q)
 
 -- ---- each way out of writing the rows of a message, with bytes enough
 module _ (m t : List ℕ) (n : ℕ) (out : List ℕ) (x : RowsOf m t n) (lent : base.longest ≤ length out) (a : Report)
@@ -253,79 +245,40 @@ module _ (m t : List ℕ) (n : ℕ) (out : List ℕ) (x : RowsOf m t n) (lent : 
   written_zero = ap (λ (r : Report). r.number) writes.told
 
 -- ---- the same of the writer's answer
-module _ (m t : List ℕ) (n : ℕ) (out : List ℕ) (x : RowsOf m t n) (lent : Enough versions t out) (r : WriteAnswer)
-    (out' : List ℕ) (g : WriteCall base base_open_from as_numbers m t n out (writer.report r) out') where
-  pub written_is : (k : ℕ) → r ≡ writing.Written k → ShortIn m k out'
+module _ (m t : List ℕ) (n : ℕ) (out : List ℕ) (x : RowsOf m t n) (lent : Enough versions t out)
+    (r : Result ℕ WriteError) (out' : List ℕ)
+    (g : WriteCall base base_open_from as_numbers m t n out (writer.report r) out') where
+  pub written_is : (k : ℕ) → r ≡ Ok k → ShortIn m k out'
   written_is k h = short_written m t n out x lent.bytes_lent (writer.report r) out' g k (ap writer.report h)
 
-  not_zero : (s : WriteAnswer) → r ≡ s → (writer.report s).number ≡ 0
-  not_zero s h = ap (λ (z : WriteAnswer). (writer.report z).number) (sym h)
-      ∙ written_zero m t n out x lent.bytes_lent (writer.report r) out' g
-
-  pub written_long : r ≡ writing.TooLong → ⊥
-  written_long h = omega (arith, not_zero writing.TooLong h)
-
-  pub written_none : r ≡ writing.NoRecord → ⊥
-  written_none h = omega (arith, not_zero writing.NoRecord h)
-
-  pub written_few : (k : ℕ) → r ≡ writing.TooFew k → ⊥
-  written_few k h = omega (arith, not_zero (writing.TooFew k) h)
-
--- ---- what a shortened message is
-module _ (m out : List ℕ) (r : Short) (h : Shortened m r out) where
-  pub short_refused : (x p : ℕ) → r ≡ short.Refused x p → reads_by newest_rules m ≡ Fault x p
-  short_refused x p q = subst (λ (s : Short). Shortened m s out) q h
-
-  module _ (n : ℕ) (q : r ≡ short.Is n) where
-    pub short_in : ShortIn m n out
-    short_in = subst (λ (s : Short). Shortened m s out) q h
-
-    pub short_fits : n ≤ length out
-    short_fits = short_in.fits
-
-    pub short_length : n ≡ length (take n out)
-    short_length = sym (length-take-le n out short_in.fits)
+  pub written_always : (e : WriteError) → r ≡ Err e → ⊥
+  written_always e h = go e (ap (λ (z : Result ℕ WriteError). (writer.report z).number) (sym h)
+      ∙ written_zero m t n out x lent.bytes_lent (writer.report r) out' g)
+    where
+      go : (e : WriteError) → (writer.report (Err e)).number ≡ 0 → ⊥
+      go writing.TooLong h = omega arith
+      go writing.NoRecord h = omega arith
+      go (writing.TooFew k) h = omega arith
 
 -- ---- what is wrong with a message by itself
-module _ (m t t' out : List ℕ) (s : Short) (x : ShortenMet m t s t' out) where
-  abbrev h : Shortened m s out
-  h = x.short
+pub alone_refused : (m : List ℕ) (x p : ℕ) → reads_by newest_rules m ≡ Fault x p
+    → FaultAlone m (Err refusal.RefusedEntry)
+unfolding fault_of
+alone_refused m x p q = λ before. ap (fault_by newest_rules before m) q
 
-  pub alone_refused : (y p : ℕ) → s ≡ short.Refused y p → FaultAloneMet m t refused_entry t'
+module _ (m out : List ℕ) (n : ℕ) (y : ShortIn m n out) (r : Bool) (e : r ≡ pointwise eqb (take n out) m) where
+  compared : (before : Messages)
+      → fault_of newest_rules before m ≡ pick r (pick (is_held m before) repeated_entry 0) not_shortest
   unfolding fault_of
-  alone_refused y p q = record {
-    alone = record {
-      faulty = λ before z. sym (ap (fault_by newest_rules before m) (short_refused m out s h y p q));
-      faultless = λ before z. absurd (omega arith);
-    };
-    kept = x.kept;
-  }
+  compared before =
+      ap (fault_by newest_rules before m) y.shortens.accepted
+      ∙ ap (λ (o : Option (List ℕ)). pick (is_message m o) (pick (is_held m before) repeated_entry 0) not_shortest)
+      y.shortens.short
+      ∙ ap (λ (t : Bool). pick t (pick (is_held m before) repeated_entry 0) not_shortest)
+      (sym (same_as (take n out) m e))
 
-  module _ (n : ℕ) (q : s ≡ short.Is n) (r : Bool) (e : r ≡ same_list (take n out) m) where
-    compared : (before : Messages)
-        → fault_of newest_rules before m ≡ pick r (pick (is_held m before) repeated_entry 0) not_shortest
-    unfolding fault_of
-    compared before =
-        let y = (short_in m out s h n q).shortens in
-        ap (fault_by newest_rules before m) y.accepted
-        ∙ ap (λ (o : Option (List ℕ)). pick (is_message m o) (pick (is_held m before) repeated_entry 0) not_shortest)
-        y.short
-        ∙ ap (λ (t : Bool). pick t (pick (is_held m before) repeated_entry 0) not_shortest) (sym e)
+  pub alone_longer : r ≡ false → FaultAlone m (Err refusal.NotShortest)
+  alone_longer t = λ before. compared before ∙ pick_false _ _ t
 
-    pub alone_longer : r ≡ false → FaultAloneMet m t not_shortest t'
-    alone_longer t = record {
-      alone = record {
-        faulty = λ before z. sym (compared before ∙ pick_false _ _ t);
-        faultless = λ before z. absurd (omega arith);
-      };
-      kept = x.kept;
-    }
-
-    pub alone_none : r ≡ true → FaultAloneMet m t 0 t'
-    alone_none t = record {
-      alone = record {
-        faulty = λ before z. absurd (z refl);
-        faultless = λ before z. compared before ∙ pick_true _ _ t;
-      };
-      kept = x.kept;
-    }
+  pub alone_none : r ≡ true → FaultAlone m (Ok tt)
+  alone_none t = λ before. compared before ∙ pick_true _ _ t

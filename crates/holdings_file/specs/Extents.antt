@@ -1,32 +1,39 @@
 -- A file that records are added to, as the contracts of src/additions.rt cite it.
 use Rattle.std.specs.Prelude.{◌≡◌, List, [], ◌∷◌, ℕ, ◌+◌, ◌≤◌, ltb, length, take}
+use Rattle.std.specs.Prelude.{Result, Ok, Err}
 use Rattle.std.proofs.Math.Option.{some}
 use Rattle.flow.specs.RefusalNumbers.{no_room}
-use Rattle.flow.specs.Flow.{pick, Report}
+use Rattle.flow.specs.Flow.{pick, stored}
+use Rattle.scalar.specs.Refusals.{number_of as number_of_refusal}
+use Rattle.scalar.specs.declared.refusals.Refusal.{Refusal}
+use Rattle.scalar.specs.declared.refusals.Refusal.TheVariants as refusal
 use Rattle.record.specs.Model.Answers.{base}
 use Rattle.holdings.specs.Files.{versions, entries_in, number_of, fault_of, Lists}
-use Rattle.holdings.specs.Answers.{Result, Accept, Refuse, Addition, listing_to_extend, added_short, add_report, file_after}
+use Rattle.holdings.specs.Answers as given
+use Rattle.holdings.specs.Answers.{Accept, Refuse, Addition, listing_to_extend, added_short}
 use Rattle.holdings.specs.Answers.{Batch, additions, batch_report, batch_file, batch_numbers}
-use Rattle.holdings.specs.Terms.{Messages, Enough}
+use Rattle.holdings.specs.Terms.{Messages}
 use Rattle.holdings_file.specs.declared.additions.Extent.{Extent}
-use Rattle.holdings_file.specs.declared.BatchAnswer.{BatchAnswer}
-use Rattle.holdings_file.specs.declared.HoldingsAnswer.{HoldingsAnswer}
-use Rattle.holdings_file.specs.declared.HoldingsAnswer.TheVariants.{Accepted, Refused, TooFew}
+use Rattle.holdings_file.specs.declared.index.Index.{Index}
+use Rattle.holdings_file.specs.declared.Held.{Held}
+use Rattle.holdings_file.specs.declared.HoldingsError.{HoldingsError}
+use Rattle.holdings_file.specs.declared.HoldingsError.TheVariants as holdings
+use Rattle.holdings_file.specs.declared.Taken.{Taken}
+use Rattle.holdings_file.specs.declared.BatchError.{BatchError}
 use Rattle.holdings_file.specs.Answers.{report_of_batch}
-use Rattle.holdings_file.specs.Promises.{held_in, newest_rules, work_numbers}
-use Rattle.holdings_file.specs.Index.{Indexing, index_in}
+use Rattle.holdings_file.specs.Promises.{held_in, newest_rules}
+use Rattle.holdings_file.specs.Index.{Indexing}
 
 -- the messages of the used bytes
 abbrev pub held_used : List ℕ → ℕ → Messages
 held_used file used = held_in (take used file)
 
 -- the file lists, or is new; the extent has its used length and its entries; they are in the index
-pub record IsExtent (file : List ℕ) (x : Extent) (work : List ℕ) : Type 0 where
+pub record IsExtent (file : List ℕ) (x : Extent) (i : Index) : Type 0 where
   pub within : x.used ≤ length file
   pub lists : listing_to_extend versions file x.used ≡ Lists newest_rules (held_used file x.used)
   pub count : x.count ≡ length (held_used file x.used)
-  pub long : work_numbers ≤ length work
-  pub indexing : Indexing (index_in work) x.buckets (held_used file x.used)
+  pub indexing : Indexing i (held_used file x.used)
 
 -- w is a record's shortest message: an entry of it is faultless where no entry before has it
 pub record ShortMessage (w : List ℕ) : Type 0 where
@@ -37,49 +44,49 @@ pub record ShortMessage (w : List ℕ) : Type 0 where
 abbrev pub count_after : ℕ → ℕ → ℕ
 count_after k n = pick (ltb n k) k (k + 1)
 
-abbrev pub extended : Extent → ℕ → ℕ → Extent
-extended x n used = record { used = used; count = count_after x.count n; buckets = x.buckets }
+abbrev pub extended : Extent → Held → Extent
+extended x h = record { used = h.used; count = count_after x.count h.count }
 
--- an addition is accepted with the number n and the used length u
-pub record AcceptedAs (used n u : ℕ) (a : Result Addition) : Type 0 where
-  pub new : List ℕ
-  pub accepted : a ≡ Accept (record { number = n; new = new })
-  pub grown : u ≡ used + length new
+-- an addition is accepted with a number and a used length: the file and the index then
+pub record Added (file : List ℕ) (x : Extent) (a : given.Result Addition) (h : Held) (file' : List ℕ) (i' : Index) : Type 0
+  where
+    pub new : List ℕ
+    pub accepted : a ≡ Accept (record { number = h.count; new = new })
+    pub grown : h.used ≡ x.used + length new
+    pub after : file' ≡ stored file x.used new
+    pub extends : IsExtent file' (extended x h) i'
 
--- an answer says what an addition gives
-abbrev pub AnswersAddition : ℕ → HoldingsAnswer → Result Addition → Type 0
-AnswersAddition used (Accepted n u) a = AcceptedAs used n u a
-AnswersAddition used (Refused x p) a = a ≡ Refuse x 0 p
-AnswersAddition used (TooFew k) a = a ≡ Refuse no_room k 0
+-- or it is refused, and the file stays
+abbrev pub refuse : {A : Type 0} → HoldingsError → given.Result A
+refuse (holdings.Refused r) = Refuse (number_of_refusal r.refusal) 0 r.place
+refuse (holdings.TooFew needed) = Refuse no_room needed 0
 
--- the answer, and the file and working memory afterwards
-pub record AddMet (file : List ℕ) (x : Extent) (a : Result Addition) (r : HoldingsAnswer) (file' work' : List ℕ)
-    : Type 0 where
-  pub answers : AnswersAddition x.used r a
-  pub after : file' ≡ file_after file x.used a
-  pub extends : (n used : ℕ) → r ≡ Accepted n used → IsExtent file' (extended x n used) work'
+pub record NotAdded (file : List ℕ) (a : given.Result Addition) (e : HoldingsError) (file' : List ℕ) : Type 0 where
+  pub refused : a ≡ refuse e
+  pub after : file' ≡ file
+
+abbrev pub AddMet : List ℕ → Extent → given.Result Addition → Result Held HoldingsError → List ℕ → Index → Type 0
+AddMet file x a (Ok h) file' i' = Added file x a h file' i'
+AddMet file x a (Err e) file' i' = NotAdded file a e file'
 
 -- of a message in the file
-abbrev pub placed : List ℕ → Extent → List ℕ → Result Addition
+abbrev pub placed : List ℕ → Extent → List ℕ → given.Result Addition
 placed file x w = added_short versions file x.used (held_used file x.used) (some w)
 
-pub record AddToMet (used : ℕ) (a : Result Addition) (file : List ℕ) (r : Report) (file' : List ℕ) : Type 0 where
-  pub answer : r ≡ add_report used a
-  pub after : file' ≡ file_after file used a
-
--- with working memory
-pub record Extending (file : List ℕ) (x : Extent) (work bytes : List ℕ) : Type 0 where
-  pub lent : Enough versions work bytes
-  pub extends : IsExtent file x work
-
 -- many records
-abbrev pub batch_of : List ℕ → ℕ → List ℕ → Result Batch
+abbrev pub batch_of : List ℕ → ℕ → List ℕ → given.Result Batch
 batch_of file used records = Accept (additions versions file used (entries_in records))
 
-pub record AddAllMet (a : Result Batch) (file list : List ℕ) (r : BatchAnswer) (file' list' : List ℕ) : Type 0 where
+pub record AddAllMet (a : given.Result Batch) (file list : List ℕ) (r : Result Taken BatchError) (file' list' : List ℕ)
+    : Type 0 where
   pub answer : report_of_batch r ≡ batch_report a
   pub after : file' ≡ batch_file file a
   pub numbers : list' ≡ batch_numbers list a
+
+-- the refusal of one record
+abbrev pub refusal_in : HoldingsError → Refusal
+refusal_in (holdings.Refused r) = r.refusal
+refusal_in (holdings.TooFew needed) = refusal.Room
 
 -- a number in a list
 abbrev pub one : ℕ → List ℕ

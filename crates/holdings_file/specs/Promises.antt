@@ -2,32 +2,31 @@
 --
 -- f is a file's bytes, p a place in them, m a message, ms are messages; t and b are lists of numbers and of bytes, and
 -- t', b' the same afterwards.
-use Rattle.std.specs.Prelude.{◌≡◌, Bool, ◌||◌, not, List, [], ◌∷◌, ◌++◌, ℕ, ◌+◌, ◌*◌, ◌≤◌, eqb, leb, ltb, length, take, drop}
+use Rattle.std.specs.Prelude.{◌≡◌, Bool, ◌||◌, not, List, [], ◌∷◌, ◌++◌, ℕ, ◌+◌, ◌-◌, ◌*◌, ◌≤◌, ◌<◌, eqb, ltb, length, take, drop}
+use Rattle.std.specs.Prelude.{None, Some, Result, Ok, Err}
+use Rattle.std.specs.declared.option.Option as code
 use Rattle.std.proofs.Math.Option.{none, some}
 use Rattle.flow.specs.RefusalNumbers.{repeated_entry}
-use Rattle.flow.specs.Flow.{pick, Bytes, Entry, Done, Fault, stored, overlay}
+use Rattle.flow.specs.Flow.{pick, Bytes, Entry, Done, Fault, One, stored, overlay}
 use Rattle.wire.specs.BigEndian.{joined}
+use Rattle.scalar.specs.Refusals.{number_of, fault}
+use Rattle.scalar.specs.declared.refusals.Refusal.{Refusal}
+use Rattle.scalar.specs.declared.refusals.Refusal.TheVariants as refusal
+use Rattle.scalar.specs.declared.refusals.Refused.{Refused}
 use Rattle.record.specs.Model.Items.{Item, Known}
 use Rattle.record.specs.Model.Rows.{rows}
 use Rattle.record.specs.Model.Answers.{base, as_numbers, lent_rows, rows_of}
-use Rattle.holdings.specs.Files.{Rules, versions, reads_by, header_size, mark_size, version_size, entry_of, entry_size}
-use Rattle.holdings.specs.Files.{entries_in, is_held, fault_of, Listing, Lists, Faulty, listing_of}
-use Rattle.holdings.specs.Answers.{Result, ListLayout, as_pairs, as_pair_bytes, placements, begun, list_report, list_after}
+use Rattle.holdings.specs.Files.{Rules, versions, reads_by, header_size, mark_size, version_size, length_size, entry_of}
+use Rattle.holdings.specs.Files.{message_size, entry_size, entries_in, is_held, fault_of, Listing, Lists, listing_of}
+use Rattle.holdings.specs.Answers.{ListLayout, placements, begun}
 use Rattle.holdings.specs.Terms.{Messages, ShortensTo}
 use Rattle.holdings.specs.EntryLaws.{Entries}
-use Rattle.holdings_file.specs.declared.messages.Short.{Short}
-use Rattle.holdings_file.specs.declared.messages.Short.TheVariants.{Is, Refused}
-use Rattle.holdings_file.specs.declared.files.Checked.{Checked}
-use Rattle.holdings_file.specs.declared.files.Checked.TheVariants as checked
-use Rattle.holdings_file.specs.declared.HoldingsAnswer.{HoldingsAnswer}
-use Rattle.holdings_file.specs.Answers.{report}
+use Rattle.holdings_file.specs.declared.entries.Entry as one
+use Rattle.holdings_file.specs.declared.entries.Entries as walk
+use Rattle.holdings_file.specs.declared.HoldingsError.{HoldingsError}
+use Rattle.holdings_file.specs.declared.HoldingsError.TheVariants as holdings
 
 -- ---- entries
--- two lists of one length are the same in their first n numbers
-pub record AsFar (n : ℕ) (a b : List ℕ) : Type 0 where
-  pub sized : length a ≡ length b
-  pub same : take n a ≡ take n b
-
 -- the messages of the whole entries
 abbrev pub messages_of : Entries → Messages
 messages_of [] = []
@@ -42,26 +41,50 @@ held_from f p = messages_of (entries_in (drop p f))
 abbrev pub held_in : List ℕ → Messages
 held_in f = held_from f header_size
 
--- where the entry at a place ends; 0 where it is cut
-abbrev pub end_of : List ℕ → ℕ → ℕ
-end_of f p = pick (leb (entry_size (drop p f)) (length (drop p f))) (p + entry_size (drop p f)) 0
+-- the entry at a place is cut
+abbrev pub IsCut : List ℕ → ℕ → Type 0
+IsCut f p = length (drop p f) < entry_size (drop p f)
+
+-- it is whole, and ends at e
+pub record EndsAt (f : List ℕ) (p e : ℕ) : Type 0 where
+  pub is : e ≡ p + entry_size (drop p f)
+  pub within : e ≤ length f
+
+abbrev pub EndMet : List ℕ → ℕ → code.Option ℕ → Type 0
+EndMet f p None = IsCut f p
+EndMet f p (Some e) = EndsAt f p e
+
+-- an entry that is read
+pub record EntryAt (f : List ℕ) (p : ℕ) (x : one.Entry) : Type 0 where
+  pub inside : p < length f
+  pub at : x.at ≡ p
+  pub ends : EndsAt f p x.end
+  pub message : x.message.now ≡ take (x.end - (p + length_size)) (drop (p + length_size) f)
+
+-- a step of the iterator: none at the end; the last, where it is cut; or one more
+pub record CutAt (f : List ℕ) (p : ℕ) (r : Refused) : Type 0 where
+  pub inside : p < length f
+  pub cut : IsCut f p
+  pub refused : r ≡ record { refusal = refusal.CutEntry; place = p }
+
+pub record EntryThen (s : walk.Entries) (x : one.Entry) (t : walk.Entries) : Type 0 where
+  pub entry : EntryAt s.bytes.now s.at x
+  pub rest : t.bytes.now ≡ s.bytes.now
+  pub next : t.at ≡ x.end
+
+abbrev pub EntryGives : walk.Entries → code.Option (Result one.Entry Refused) → walk.Entries → Type 0
+EntryGives s None t = length s.bytes.now ≤ s.at
+EntryGives s (Some (Err r)) t = CutAt s.bytes.now s.at r
+EntryGives s (Some (Ok x)) t = EntryThen s x t
 
 -- a list with the placements of a file's messages
 abbrev pub filled_by : ListLayout → List ℕ → List ℕ → List ℕ
 filled_by L f t = overlay L.width L.encode t 0 (placements header_size (held_in f))
 
-pub record Filled (f t b t' b' : List ℕ) : Type 0 where
-  pub pairs : t' ≡ filled_by as_pairs f t
-  pub encoded : b' ≡ filled_by as_pair_bytes f b
-
 -- ---- one message
 -- the rules of the one version that there is
 abbrev pub newest_rules : Rules
 newest_rules = versions.newest
-
--- the numbers that rows of the longest message take, which are the first of those lent; the others serve as an index
-unfoldable pub work_numbers : ℕ
-work_numbers = base.longest * as_numbers.width
 
 -- working memory has rows and bytes for the longest message
 abbrev pub is_lent : List ℕ → List ℕ → Bool
@@ -83,37 +106,28 @@ pub record ShortIn (m : List ℕ) (n : ℕ) (out : List ℕ) : Type 0 where
   pub fits : n ≤ length out
   pub bounded : n ≤ base.longest
 
-abbrev pub Shortened : List ℕ → Short → List ℕ → Type 0
-Shortened m (Is n) out = ShortIn m n out
-Shortened m (Refused x p) out = reads_by newest_rules m ≡ Fault x p
+abbrev pub Shortened : List ℕ → Result ℕ Refused → List ℕ → Type 0
+Shortened m (Ok n) out = ShortIn m n out
+Shortened m (Err r) out = reads_by newest_rules m ≡ Fault (number_of r.refusal) r.place
 
--- what is wrong with a message by itself, and what then with it after others
-pub record FaultAlone (m : List ℕ) (x : ℕ) : Type 0 where
-  pub faulty : (before : Messages) → (x ≡ 0 → ⊥) → x ≡ fault_of newest_rules before m
-  pub faultless : (before : Messages) → x ≡ 0
-      → fault_of newest_rules before m ≡ pick (is_held m before) repeated_entry 0
+-- what is wrong with a message by itself, whatever is before it; where nothing is, it may be there already
+abbrev pub FaultAlone : List ℕ → Result One Refusal → Type 0
+FaultAlone m (Ok u) = (before : Messages) → fault_of newest_rules before m ≡ pick (is_held m before) repeated_entry 0
+FaultAlone m (Err x) = (before : Messages) → fault_of newest_rules before m ≡ number_of x
 
 -- ---- a file's bytes
--- its version; 0 where it is cut
-abbrev pub version_of : List ℕ → ℕ
-version_of f = pick (ltb (length f) header_size) 0 (joined 0 (take version_size (drop mark_size f)))
-
--- what a check answers
-abbrev pub check_of : Listing → Checked
-check_of (Lists R ms) = checked.Whole (length ms)
-check_of (Faulty x p) = checked.Faulty x p
+-- its version; none where it is cut
+abbrev pub version_of : List ℕ → code.Option ℕ
+version_of f = pick (ltb (length f) header_size) None (Some (joined 0 (take version_size (drop mark_size f))))
 
 -- as a file to extend: no bytes are a new file
 abbrev pub listing_opened : List ℕ → Listing
 listing_opened f = pick (eqb (length f) 0) (Lists newest_rules []) (listing_of versions f)
 
--- ---- lists
--- an answer with both lists
-pub record BothListed (used : ℕ) (a : Result Messages) (t b : List ℕ) (r : HoldingsAnswer) (t' b' : List ℕ) : Type 0
-  where
-    pub answer : report r ≡ list_report used a
-    pub pairs : t' ≡ list_after as_pairs t a
-    pub encoded : b' ≡ list_after as_pair_bytes b a
+-- a used length within a buffer of n bytes
+abbrev pub UsedMet : ℕ → ℕ → Result ℕ Refused → Type 0
+UsedMet n used (Ok k) = (k ≡ used) × (used ≤ n)
+UsedMet n used (Err r) = (n < used) × (r ≡ record { refusal = refusal.CutEntry; place = 0 })
 
 -- ---- an entry stored
 -- the file may be shorter than the place, by a header
@@ -121,14 +135,24 @@ pub record Placeable (file : List ℕ) (p : ℕ) (m : List ℕ) : Type 0 where
   pub near : p ≤ length file + header_size
   pub small : length m ≤ base.longest
 
--- the bytes `new` from a place on, where they fit; r is their end
-pub record Stored (file : List ℕ) (p : ℕ) (new : List ℕ) (r : ℕ) (file' : List ℕ) : Type 0 where
-  pub end : r ≡ p + length new
+-- the bytes `new` from a place on, where they fit, and their end; or how long the file would have to be
+pub record StoredTo (file : List ℕ) (p : ℕ) (new : List ℕ) (end : ℕ) (file' : List ℕ) : Type 0 where
+  pub ends : end ≡ p + length new
+  pub fits : p + length new ≤ length file
   pub after : file' ≡ stored file p new
 
-abbrev pub EntryStored : List ℕ → ℕ → List ℕ → ℕ → List ℕ → Type 0
+pub record Unstored (file : List ℕ) (p : ℕ) (new : List ℕ) (e : HoldingsError) (file' : List ℕ) : Type 0 where
+  pub needed : e ≡ holdings.TooFew (p + length new)
+  pub short : length file < p + length new
+  pub after : file' ≡ file
+
+abbrev pub Stored : List ℕ → ℕ → List ℕ → Result ℕ HoldingsError → List ℕ → Type 0
+Stored file p new (Ok end) file' = StoredTo file p new end file'
+Stored file p new (Err e) file' = Unstored file p new e file'
+
+abbrev pub EntryStored : List ℕ → ℕ → List ℕ → Result ℕ HoldingsError → List ℕ → Type 0
 EntryStored file p m r file' = Stored file p (entry_of m) r file'
 
 -- behind the used bytes; in a new file behind its header
-abbrev pub Appended : List ℕ → ℕ → List ℕ → ℕ → List ℕ → Type 0
+abbrev pub Appended : List ℕ → ℕ → List ℕ → Result ℕ HoldingsError → List ℕ → Type 0
 Appended file used m r file' = Stored file used (begun versions used ++ entry_of m) r file'

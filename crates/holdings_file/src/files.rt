@@ -1,129 +1,103 @@
 // A file's bytes checked: its mark and version, then its entries, which get into an index on the way.
 ghost use Rattle.std.specs.Prelude.{◌≡◌, [], ◌≤◌, length, take, drop};
 ghost use Rattle.flow.specs.Flow.{same_list};
-ghost use Rattle.holdings.specs.Files.{mark, mark_size, header_size, entries_in, versions, lists_from, listing_of};
-ghost use Rattle.holdings_file.specs.Promises.{newest_rules, version_of, listing_opened};
-ghost use Rattle.holdings_file.specs.Index.{Ready, Underway, FaultMet, CheckMet};
+ghost use Rattle.holdings.specs.Files.{mark, mark_size, header_size, entries_in, versions, fault_of, lists_from, listing_of};
+ghost use Rattle.holdings_file.specs.Promises.{held_in, newest_rules, version_of, listing_opened};
+ghost use Rattle.holdings_file.specs.Index.{Indexing, WholeIndexed, FaultIs, CheckMet};
 
-use crate::layout::{HEADER_SIZE, LENGTH_SIZE, MARK, MARK_SIZE, NEWEST_VERSION, VERSION_SIZE};
-use crate::{entries, index, messages};
-use scalar::refusals;
-
-// Whether a file is whole, with how many entries; or a refusal's number and place.
-#[derive(Clone, Copy)]
-pub(crate) enum Checked {
-    Whole { entries: usize },
-    Faulty { number: u8, place: usize },
-}
+use crate::index::Index;
+use crate::layout::{HEADER_SIZE, MARK, MARK_SIZE, NEWEST_VERSION, VERSION_SIZE};
+use crate::memory::Memory;
+use crate::{entries, messages};
+use scalar::{Refusal, Refused};
 
 // Whether the file begins with the mark.
 fn is_marked(file: &[u8]) -> bool
     ensures { result ≡ same_list (take mark_size file.now) mark }
 {
-    if file.len() < MARK_SIZE {
-        return false;
-    }
-    let mark = MARK;
-    entries::same(&file[..MARK_SIZE], &mark)
+    file.starts_with(&MARK)
 }
 
-// The file's version; 0 where it is cut.
-fn version(file: &[u8]) -> u64
+// The file's version; none where it is cut.
+fn version(file: &[u8]) -> Option<u64>
     ensures { result ≡ version_of file.now }
 {
     if file.len() < HEADER_SIZE {
-        return 0;
+        return None;
     }
-    wire::number_at(file, MARK_SIZE, VERSION_SIZE, 0)
+    Some(wire::number_at(file, MARK_SIZE, VERSION_SIZE, 0))
 }
 
-// What is wrong with the message of an entry after the `count` entries of `earlier`; 0 is nothing.
+// What is wrong with the message of an entry after the `count` entries of `earlier`.
 fn entry_fault(
     earlier: &[u8],
     count: usize,
     message: &[u8],
-    rows: &mut [u64],
-    bytes: &mut [u8],
-    buckets: usize,
-) -> u8
-    requires { Underway earlier.now count rows.old bytes.old buckets }
-    ensures { FaultMet earlier.now message.now rows.old result rows.new }
+    memory: &mut Memory,
+    index: &Index,
+) -> Result<(), Refusal>
+    requires { WholeIndexed earlier.now count index.now }
+    ensures { FaultIs (fault_of newest_rules (held_in earlier.now) message.now) result }
 {
-    let fault = messages::fault_alone(message, rows, bytes);
-    if fault != 0 {
-        return fault;
+    messages::fault_alone(message, memory)?;
+    if index.number_of(earlier, count, message) < count {
+        return Err(Refusal::RepeatedEntry);
     }
-    if index::number_of(earlier, count, rows, buckets, message) < count {
-        return refusals::REPEATED_ENTRY;
-    }
-    0
+    Ok(())
 }
 
-// Checks the entries, one by one.
-fn check_entries(file: &[u8], rows: &mut [u64], bytes: &mut [u8], buckets: usize) -> Checked
-    requires { Ready rows.old bytes.old buckets × (header_size ≤ length file.now) }
+// Checks the entries, one by one. How many there are.
+fn check_entries(file: &[u8], memory: &mut Memory, index: &mut Index) -> Result<usize, Refused>
+    requires { Indexing index.old [] × (header_size ≤ length file.now) }
     ensures { CheckMet
         (lists_from newest_rules header_size [] (entries_in (drop header_size file.now)))
-        file.now buckets
-        result rows.new }
+        file.now
+        result index.new }
 {
-    let mut at: usize = HEADER_SIZE;
     let mut n: usize = 0;
-    while at < file.len() {
-        let end = entries::entry_end(file, at);
-        if end == 0 {
-            return Checked::Faulty {
-                number: refusals::CUT_ENTRY,
-                place: at,
-            };
+    for entry in entries::entries_of(file) {
+        let entry = entry?;
+        let place = entry.at;
+        if let Err(refusal) = entry_fault(&file[..place], n, entry.message, memory, index) {
+            return Err(Refused { refusal, place });
         }
-        let place = at + LENGTH_SIZE;
-        let fault = entry_fault(&file[..at], n, &file[place..end], rows, bytes, buckets);
-        if fault != 0 {
-            return Checked::Faulty {
-                number: fault,
-                place: at,
-            };
-        }
-        index::insert(&file[..end], place, n, rows, buckets);
-        at = end;
+        index.insert(&file[..entry.end], entry.message, n);
         n += 1;
     }
-    Checked::Whole { entries: n }
+    Ok(n)
 }
 
-// Checks a file's bytes.
-pub(crate) fn check(file: &[u8], rows: &mut [u64], bytes: &mut [u8], buckets: usize) -> Checked
-    requires { Ready rows.old bytes.old buckets }
-    ensures { CheckMet (listing_of versions file.now) file.now buckets result rows.new }
+// Checks a file's bytes. How many entries it has.
+pub(crate) fn check(file: &[u8], memory: &mut Memory, index: &mut Index) -> Result<usize, Refused>
+    requires { Indexing index.old [] }
+    ensures { CheckMet (listing_of versions file.now) file.now result index.new }
 {
     if !is_marked(file) {
-        return Checked::Faulty {
-            number: refusals::MARK,
+        return Err(Refused {
+            refusal: Refusal::Mark,
             place: 0,
-        };
+        });
     }
-    if version(file) != NEWEST_VERSION {
-        return Checked::Faulty {
-            number: refusals::VERSION,
+    if version(file) != Some(NEWEST_VERSION) {
+        return Err(Refused {
+            refusal: Refusal::Version,
             place: 0,
-        };
+        });
     }
-    check_entries(file, rows, bytes, buckets)
+    check_entries(file, memory, index)
 }
 
 // The same before an addition: no bytes are a new file.
 pub(crate) fn check_to_extend(
     file: &[u8],
-    rows: &mut [u64],
-    bytes: &mut [u8],
-    buckets: usize,
-) -> Checked
-    requires { Ready rows.old bytes.old buckets }
-    ensures { CheckMet (listing_opened file.now) file.now buckets result rows.new }
+    memory: &mut Memory,
+    index: &mut Index,
+) -> Result<usize, Refused>
+    requires { Indexing index.old [] }
+    ensures { CheckMet (listing_opened file.now) file.now result index.new }
 {
-    if file.len() == 0 {
-        return Checked::Whole { entries: 0 };
+    if file.is_empty() {
+        return Ok(0);
     }
-    check(file, rows, bytes, buckets)
+    check(file, memory, index)
 }

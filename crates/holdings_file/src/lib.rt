@@ -9,110 +9,111 @@ pub(crate) mod index;
 pub(crate) mod layout;
 pub(crate) mod memory;
 pub(crate) mod messages;
+pub(crate) mod pairs;
 
 ghost use Rattle.std.specs.Prelude.{◌≡◌, ◌≤◌, length};
-ghost use Rattle.holdings.specs.Files.{versions, listing_of, listing};
-ghost use Rattle.holdings.specs.Answers.{as_pairs, as_pair_bytes, with_working, listed_to, addition, ListCall, AddCall};
-ghost use Rattle.holdings.specs.Answers.{listing_to_extend, batch_listed, AddAllCall};
-ghost use Rattle.holdings.specs.Terms.{Enough};
+ghost use Rattle.holdings.specs.Files.{versions};
+ghost use Rattle.holdings.specs.Answers.{as_pairs, as_pair_bytes, ListCall, AddCall, AddAllCall};
 ghost use Rattle.holdings_file.specs.Answers.{report, report_of_batch};
-ghost use Rattle.holdings_file.specs.Promises.{BothListed};
-ghost use Rattle.holdings_file.specs.Extents.{AddToMet, AddAllMet};
+ghost use Rattle.holdings_file.specs.Promises.{UsedMet};
+ghost use Rattle.holdings_file.specs.declared.HoldingsError.TheVariants as holdings;
+ghost use Rattle.holdings_file.specs.declared.BatchError.TheVariants as batch;
 
 use crate::additions::Extent;
-use crate::entries::{PAIR_BYTES, PAIR_NUMBERS};
-use crate::files::Checked;
-use scalar::refusals::{CUT_ENTRY, ROOM};
+use crate::index::Index;
+use crate::pairs::PairCell;
+use scalar::{Refusal, Refused};
 
-// What listing or adding comes to: the entries listed, or the entry's number, and the used length afterwards; a
-// refusal's number and place; the entries or bytes needed, where fewer are lent, or 0 where working memory is.
-#[derive(Clone, Copy)]
-pub enum HoldingsAnswer {
-    Accepted { count: usize, used: usize },
-    Refused { number: u8, place: usize },
+// What listing or adding comes to: the entries listed, or the entry's number; and the used length afterwards.
+#[derive(Clone, Copy, PartialEq, Eq)]
+pub struct Held {
+    pub count: usize,
+    pub used: usize,
+}
+
+// Why not: what is refused, and its place; or the entries or bytes needed, where fewer are lent, or 0 where working
+// memory is.
+#[derive(Clone, Copy, PartialEq, Eq)]
+pub enum HoldingsError {
+    Refused(Refused),
     TooFew { needed: usize },
 }
 
-// What adding many records comes to: all of them taken, with the used length afterwards; the number of the refusal of
-// one, the records taken before it, and the used length then; a refusal of the file, or of working memory, with its
-// place.
-#[derive(Clone, Copy)]
-pub enum BatchAnswer {
-    Taken {
-        records: usize,
-        used: usize,
-    },
-    Stopped {
-        number: u8,
-        records: usize,
-        used: usize,
-    },
-    Refused {
-        number: u8,
-        place: usize,
-    },
-}
+impl From<Refused> for HoldingsError {
+    ghost from_gives = { λ r e. e ≡ holdings.Refused r };
 
-// Lists the entries of a file's bytes in both lists, with so many placements lent.
-fn list_into(
-    file: &[u8],
-    rows: &mut [u64],
-    bytes: &mut [u8],
-    pairs: &mut [u64],
-    encoded: &mut [u8],
-    lent: usize,
-) -> HoldingsAnswer
-    requires { Enough versions rows.old bytes.old }
-    ensures { BothListed
-        (length file.now) (listed_to lent (listing_of versions file.now))
-        pairs.old encoded.old
-        result pairs.new encoded.new }
-{
-    let buckets = index::begin(rows, file.len());
-    match files::check(file, rows, bytes, buckets) {
-        Checked::Faulty { number, place } => HoldingsAnswer::Refused { number, place },
-        Checked::Whole { entries: count } => {
-            if lent < count {
-                return HoldingsAnswer::TooFew { needed: count };
-            }
-            entries::fill(file, pairs, encoded);
-            HoldingsAnswer::Accepted {
-                count,
-                used: file.len(),
-            }
-        }
+    fn from(refused: Refused) -> HoldingsError {
+        HoldingsError::Refused(refused)
     }
 }
 
-// The same for a buffer and its used length.
-fn list_used(
+// What adding many records comes to, where all of them are taken: how many, and the used length afterwards.
+#[derive(Clone, Copy, PartialEq, Eq)]
+pub struct Taken {
+    pub records: usize,
+    pub used: usize,
+}
+
+// Where not: the refusal of one, the records taken before it, and the used length then; a refusal of the file, or of
+// working memory, with its place.
+#[derive(Clone, Copy, PartialEq, Eq)]
+pub enum BatchError {
+    Stopped {
+        refusal: Refusal,
+        records: usize,
+        used: usize,
+    },
+    Refused(Refused),
+}
+
+impl From<Refused> for BatchError {
+    ghost from_gives = { λ r e. e ≡ batch.Refused r };
+
+    fn from(refused: Refused) -> BatchError {
+        BatchError::Refused(refused)
+    }
+}
+
+// The used length, where the buffer is so long.
+fn used_within(length: usize, used: u64) -> Result<usize, Refused>
+    ensures { UsedMet length used result }
+{
+    if (length as u64) < used {
+        return Err(Refused {
+            refusal: Refusal::CutEntry,
+            place: 0,
+        });
+    }
+    Ok(used as usize)
+}
+
+// Lists the entries of a file, the first `used` bytes of a buffer, in either layout of a list.
+fn list_in<C: PairCell>(
     file: &[u8],
     used: u64,
     rows: &mut [u64],
     bytes: &mut [u8],
-    pairs: &mut [u64],
-    encoded: &mut [u8],
-    lent: usize,
-) -> HoldingsAnswer
-    ensures { BothListed
-        used
-        (with_working versions rows.old bytes.old
-        (listed_to lent (listing versions file.now used)))
-        pairs.old encoded.old
-        result pairs.new encoded.new }
+    list: &mut [C],
+) -> Result<Held, HoldingsError>
+    ensures { ListCall versions C.layout
+        file.now used rows.old bytes.old (C.numbers list.old)
+        (report result) (C.numbers list.new) }
 {
-    if !memory::is_lent(rows, bytes) {
-        return HoldingsAnswer::TooFew { needed: 0 };
+    let Some((mut memory, numbers)) = memory::lend(rows, bytes) else {
+        return Err(HoldingsError::TooFew { needed: 0 });
+    };
+    let used = used_within(file.len(), used)?;
+    let mut index = Index::begin(numbers, used);
+    let count = files::check(&file[..used], &mut memory, &mut index)?;
+    if C::pairs(list) < count {
+        return Err(HoldingsError::TooFew { needed: count });
     }
-    if (file.len() as u64) < used {
-        return HoldingsAnswer::Refused {
-            number: CUT_ENTRY,
-            place: 0,
-        };
-    }
-    let end = used as usize;
-    list_into(&file[..end], rows, bytes, pairs, encoded, lent)
+    entries::fill(&file[..used], list);
+    Ok(Held { count, used })
 }
+
+// The file, its used length and what is lent stay parameters, as C hands them over, and list and list_bytes two functions,
+// since the promise of each names its layout.
 
 // Lists the entries of a file, the first `used` bytes of a buffer: a message's place and its length, two numbers an
 // entry. Working memory is left open.
@@ -122,14 +123,12 @@ pub fn list(
     rows: &mut [u64],
     bytes: &mut [u8],
     list: &mut [u64],
-) -> HoldingsAnswer
+) -> Result<Held, HoldingsError>
     ensures { ListCall versions as_pairs
         file.now used rows.old bytes.old list.old
         (report result) list.new }
 {
-    let lent = list.len() / PAIR_NUMBERS;
-    let mut none = [0u8; 1];
-    list_used(file, used, rows, bytes, list, &mut none[..0], lent)
+    list_in(file, used, rows, bytes, list)
 }
 
 // The same in 16 bytes an entry, each number as eight bytes, the highest first.
@@ -139,42 +138,12 @@ pub fn list_bytes(
     rows: &mut [u64],
     bytes: &mut [u8],
     list: &mut [u8],
-) -> HoldingsAnswer
+) -> Result<Held, HoldingsError>
     ensures { ListCall versions as_pair_bytes
         file.now used rows.old bytes.old list.old
         (report result) list.new }
 {
-    let lent = list.len() / PAIR_BYTES;
-    let mut none = [0u64; 1];
-    list_used(file, used, rows, bytes, &mut none[..0], list, lent)
-}
-
-// Adds a record to the file of the used bytes, with working memory enough.
-fn add_used(
-    file: &mut [u8],
-    used: usize,
-    record: &[u8],
-    rows: &mut [u64],
-    bytes: &mut [u8],
-) -> HoldingsAnswer
-    requires { Enough versions rows.old bytes.old × (used ≤ length file.old) }
-    ensures { AddToMet
-        used (addition versions file.old used «record».now)
-        file.old
-        (report result) file.new }
-{
-    let buckets = index::begin(rows, used);
-    match files::check_to_extend(&file[..used], rows, bytes, buckets) {
-        Checked::Faulty { number, place } => HoldingsAnswer::Refused { number, place },
-        Checked::Whole { entries: count } => {
-            let extent = Extent {
-                used,
-                count,
-                buckets,
-            };
-            additions::add_record(file, extent, record, rows, bytes)
-        }
-    }
+    list_in(file, used, rows, bytes, list)
 }
 
 // Adds a record, by a message of it, to a file, the first `used` bytes of a buffer. Working memory is left open.
@@ -184,51 +153,24 @@ pub fn add(
     record: &[u8],
     rows: &mut [u64],
     bytes: &mut [u8],
-) -> HoldingsAnswer
+) -> Result<Held, HoldingsError>
     ensures { AddCall versions
         file.old used «record».now rows.old bytes.old
         (report result) file.new }
 {
-    if !memory::is_lent(rows, bytes) {
-        return HoldingsAnswer::TooFew { needed: 0 };
-    }
-    if (file.len() as u64) < used {
-        return HoldingsAnswer::Refused {
-            number: CUT_ENTRY,
-            place: 0,
-        };
-    }
-    add_used(file, used as usize, record, rows, bytes)
-}
-
-// Adds records to the file of the used bytes, with working memory enough.
-fn add_all_used(
-    file: &mut [u8],
-    used: usize,
-    records: &[u8],
-    rows: &mut [u64],
-    bytes: &mut [u8],
-    numbers: &mut [u64],
-) -> BatchAnswer
-    requires { Enough versions rows.old bytes.old × (used ≤ length file.old) }
-    ensures { AddAllMet
-        (batch_listed versions file.old used records.now
-        (listing_to_extend versions file.old used))
-        file.old numbers.old
-        result file.new numbers.new }
-{
-    let buckets = index::begin(rows, used / 2 + records.len() / 2);
-    match files::check_to_extend(&file[..used], rows, bytes, buckets) {
-        Checked::Faulty { number, place } => BatchAnswer::Refused { number, place },
-        Checked::Whole { entries: count } => {
-            let extent = Extent {
-                used,
-                count,
-                buckets,
-            };
-            additions::add_records(file, extent, records, rows, bytes, numbers)
-        }
-    }
+    let Some((mut memory, numbers)) = memory::lend(rows, bytes) else {
+        return Err(HoldingsError::TooFew { needed: 0 });
+    };
+    let used = used_within(file.len(), used)?;
+    let mut index = Index::begin(numbers, used);
+    let count = files::check_to_extend(&file[..used], &mut memory, &mut index)?;
+    additions::add_record(
+        file,
+        Extent { used, count },
+        record,
+        &mut memory,
+        &mut index,
+    )
 }
 
 // Adds records, laid out as entries, one after the other up to the first refusal. The numbers of their entries are
@@ -240,22 +182,26 @@ pub fn add_all(
     rows: &mut [u64],
     bytes: &mut [u8],
     numbers: &mut [u64],
-) -> BatchAnswer
+) -> Result<Taken, BatchError>
     ensures { AddAllCall versions
         file.old used records.now rows.old bytes.old numbers.old
         (report_of_batch result) file.new numbers.new }
 {
-    if !memory::is_lent(rows, bytes) {
-        return BatchAnswer::Refused {
-            number: ROOM,
+    let Some((mut memory, rest)) = memory::lend(rows, bytes) else {
+        return Err(BatchError::Refused(Refused {
+            refusal: Refusal::Room,
             place: 0,
-        };
-    }
-    if (file.len() as u64) < used {
-        return BatchAnswer::Refused {
-            number: CUT_ENTRY,
-            place: 0,
-        };
-    }
-    add_all_used(file, used as usize, records, rows, bytes, numbers)
+        }));
+    };
+    let used = used_within(file.len(), used)?;
+    let mut index = Index::begin(rest, used / 2 + records.len() / 2);
+    let count = files::check_to_extend(&file[..used], &mut memory, &mut index)?;
+    additions::add_records(
+        file,
+        Extent { used, count },
+        records,
+        &mut memory,
+        &mut index,
+        numbers,
+    )
 }

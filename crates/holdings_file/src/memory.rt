@@ -1,24 +1,30 @@
-// Working memory: rows and bytes for the longest message; numbers lent beyond those rows serve as an index.
-ghost use Rattle.std.specs.Prelude.{◌≡◌};
-ghost use Rattle.holdings_file.specs.Promises.{work_numbers, is_lent};
+// Working memory: rows and bytes for the longest message; the numbers lent beyond those rows serve as an index.
+ghost use Rattle.std.specs.Prelude.{◌≡◌, is_some};
+ghost use Rattle.holdings.specs.Files.{versions};
+ghost use Rattle.holdings.specs.Terms.{Enough};
+ghost use Rattle.holdings_file.specs.Promises.{is_lent};
 
 use record::ROW_NUMBERS;
 use record::limits::LONGEST;
 
-// Whether it has rows and bytes for the longest message.
-pub(crate) fn is_lent(rows: &[u64], bytes: &[u8]) -> bool
-    ensures { result ≡ is_lent rows.now bytes.now }
-{
-    if rows.len() / ROW_NUMBERS < LONGEST {
-        return false;
-    }
-    LONGEST <= bytes.len()
+// The rows and the bytes.
+#[derive(Drop)]
+pub(crate) struct Memory<'a> {
+    pub rows: &'a mut [u64],
+    pub bytes: &'a mut [u8],
+    ghost lent: { Enough versions rows.now bytes.now },
 }
 
-// So many numbers take the rows of the longest message: the first of those lent. A function, not a constant, so that
-// proofs see a name and not a large number.
-pub(crate) fn work_numbers() -> usize
-    ensures { result ≡ work_numbers }
+// The rows and the bytes, and the numbers for an index, where enough are lent.
+pub(crate) fn lend<'a>(
+    rows: &'a mut [u64],
+    bytes: &'a mut [u8],
+) -> Option<(Memory<'a>, &'a mut [u64])>
+    ensures { is_some result ≡ is_lent rows.old bytes.old }
 {
-    LONGEST * ROW_NUMBERS
+    if rows.len() / ROW_NUMBERS < LONGEST || bytes.len() < LONGEST {
+        return None;
+    }
+    let (rows, numbers) = rows.split_at_mut(LONGEST * ROW_NUMBERS);
+    Some((Memory { rows, bytes }, numbers))
 }

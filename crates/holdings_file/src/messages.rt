@@ -1,79 +1,42 @@
 // One message: its record's shortest message, and what is wrong with it as an entry.
-ghost use Rattle.holdings.specs.Files.{versions};
-ghost use Rattle.holdings.specs.Terms.{Enough};
-ghost use Rattle.holdings_file.specs.Promises.{RowsOf, Shortened};
-ghost use Rattle.holdings_file.specs.Index.{ShortenMet, FaultAloneMet};
+ghost use Rattle.std.specs.Prelude.{◌≡◌};
+ghost use Rattle.holdings_file.specs.Promises.{RowsOf, ShortIn, Shortened, FaultAlone};
 
-use crate::{entries, memory};
-use reader::ReadAnswer;
-use scalar::refusals::{LENGTH, NO_RECORD, NOT_SHORTEST, REFUSED_ENTRY, ROOM};
-use writer::WriteAnswer;
+use crate::memory::Memory;
+use reader::ReadError;
+use scalar::{Refusal, Refused};
 
-// The length of a record's shortest message; or a refusal's number and place.
-#[derive(Clone, Copy)]
-pub(crate) enum Short {
-    Is { size: usize },
-    Refused { number: u8, place: usize },
-}
-
-// Writes the shortest message of the first `count` rows, which are the message's. The last three answers are never
-// given.
-fn write_short(message: &[u8], rows: &[u64], count: usize, bytes: &mut [u8]) -> Short
-    requires { RowsOf message.now rows.now count × Enough versions rows.now bytes.old }
-    ensures { Shortened message.now result bytes.new }
+// Writes the shortest message of the first `count` rows, which are the message's. Its length.
+fn write_short(message: &[u8], memory: &mut Memory, count: usize) -> usize
+    requires { RowsOf message.now memory.old.rows.now count }
+    ensures { ShortIn message.now result memory.new.bytes.now }
 {
-    match writer::write(message, rows, count as u64, bytes) {
-        WriteAnswer::Written { size } => Short::Is { size },
-        WriteAnswer::TooLong => Short::Refused {
-            number: LENGTH,
-            place: 0,
-        },
-        WriteAnswer::NoRecord => Short::Refused {
-            number: NO_RECORD,
-            place: 0,
-        },
-        WriteAnswer::TooFew { needed: _ } => Short::Refused {
-            number: ROOM,
-            place: 0,
-        },
+    match writer::write(message, memory.rows, count as u64, memory.bytes) {
+        Ok(size) => size,
+        Err(_) => unreachable!(),
     }
 }
 
-// The shortest message of the message's record, in `bytes` from their beginning. The last answer is never given.
-pub(crate) fn shorten(message: &[u8], rows: &mut [u64], bytes: &mut [u8]) -> Short
-    requires { Enough versions rows.old bytes.old }
-    ensures { ShortenMet message.now rows.old result rows.new bytes.new }
+// The shortest message of the message's record, in the bytes from their beginning. Its length.
+pub(crate) fn shorten(message: &[u8], memory: &mut Memory) -> Result<usize, Refused>
+    ensures { Shortened message.now result memory.new.bytes.now }
 {
-    let work = memory::work_numbers();
-    match reader::read(message, &mut rows[..work]) {
-        ReadAnswer::Accepted {
-            rows: count,
-            length: _,
-            shortest: _,
-        } => write_short(message, &rows[..work], count, bytes),
-        ReadAnswer::Refused { number, place } => Short::Refused { number, place },
-        ReadAnswer::TooFew { needed: _ } => Short::Refused {
-            number: ROOM,
-            place: 0,
-        },
+    match reader::read(message, memory.rows) {
+        Ok(read) => Ok(write_short(message, memory, read.rows)),
+        Err(ReadError::Refused(refused)) => Err(refused),
+        Err(ReadError::TooFew { needed: _ }) => unreachable!(),
     }
 }
 
-// What is wrong with a message by itself; 0 is nothing.
-pub(crate) fn fault_alone(message: &[u8], rows: &mut [u64], bytes: &mut [u8]) -> u8
-    requires { Enough versions rows.old bytes.old }
-    ensures { FaultAloneMet message.now rows.old result rows.new }
+// What is wrong with a message by itself.
+pub(crate) fn fault_alone(message: &[u8], memory: &mut Memory) -> Result<(), Refusal>
+    ensures { FaultAlone message.now result }
 {
-    match shorten(message, rows, bytes) {
-        Short::Refused {
-            number: _,
-            place: _,
-        } => REFUSED_ENTRY,
-        Short::Is { size } => {
-            if entries::same(&bytes[..size], message) {
-                return 0;
-            }
-            NOT_SHORTEST
-        }
+    let Ok(size) = shorten(message, memory) else {
+        return Err(Refusal::RefusedEntry);
+    };
+    if &memory.bytes[..size] != message {
+        return Err(Refusal::NotShortest);
     }
+    Ok(())
 }

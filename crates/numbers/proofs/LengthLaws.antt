@@ -1,5 +1,5 @@
 -- How long the shortest form of a value is, by the ranges of ints and longs, and by what divides doubles and dates.
-use Rattle.std.proofs.Common.{◌≡◌, ℕ, suc, ◌+◌, ◌*◌, ◌%◌, ◌^◌, ◌<◌, ◌≤◌, Bool, true, false, ltb, List, ◌∷◌, length, pos, ◌-ℤ◌, ◌*ℤ◌, sym, refl, ap, ◌∙◌, arith, w16, w32, w64, Fits, to_z, of_z, ltb-false, ltb-true}
+use Rattle.std.proofs.Common.{◌≡◌, ℕ, suc, ◌+◌, ◌*◌, ◌%◌, ◌^◌, ◌<◌, ◌≤◌, Bool, true, false, ltb, List, ◌∷◌, length, pos, ◌*ℤ◌, sym, refl, ap, ◌∙◌, arith, w16, w32, w64, Fits, to_z, of_z, ltb-false, ltb-true}
 use mathlib.Core.Option.{Option, some}
 use lib.Signed.{quot_z}
 use Rattle.flow.specs.Tests.{split}
@@ -14,7 +14,7 @@ use Rattle.scalar.proofs.RuleLaws.{value_minutes, value_pair, value_float, guess
 use Rattle.scalar.proofs.FormLaws.{shortest_none}
 use Rattle.scalar.specs.Answers.{length_of}
 use Rattle.scalar.proofs.AnswerLaws.{length_none, length_some}
-use Rattle.scalar.proofs.NumberLengths.{offset_again, signed_within, float_guessed}
+use Rattle.scalar.proofs.NumberLengths.{float_guessed}
 use Rattle.numbers.specs.declared.stores.Codes.{Codes}
 use Rattle.numbers.specs.Answers.{single_form, HasCodes, Within}
 use Rattle.numbers.proofs.Shortest.{single_held, single_other, int_codes, long_codes, plain_held}
@@ -29,47 +29,41 @@ length_as {o} {b} e = sym (ap length_of e ∙ length_some b)
 length_by_law : {o : Option (List ℕ)} (code k u : ℕ) → o ≡ some (code ∷ be k u) → suc k ≡ length_of o
 length_by_law code k u e = ap suc (sym (be_length k u)) ∙ length_as e
 
--- ---- ranges: a test of one, passed or failed; a number less a zero; one of 32 bits with a sign
+-- ---- ranges: a test of one, passed or failed
 pub in_range_law : (v d : ℕ) {b : Bool} → b ≡ ltb ((v + d) % 2 ^ 64) (2 * d) → b ≡ true → Within d v
 in_range_law v d e h = ltb-true ((v + d) % 2 ^ 64) (2 * d) (sym e ∙ h)
 
 past_range : (v d : ℕ) {b : Bool} → b ≡ ltb ((v + d) % 2 ^ 64) (2 * d) → b ≡ false → 2 * d ≤ (v + d) % 2 ^ 64
 past_range v d e h = ltb-false ((v + d) % 2 ^ 64) (2 * d) (sym e ∙ h)
 
-pub offset_range : (u d v : ℕ) → v ≡ of_z w64 (pos u -ℤ pos d) → u < 2 * d → d ≤ 2 ^ 32 → Within d v
-offset_range u d v e h l = let i = offset_again u d v (omega arith) (omega arith) e in omega arith
-
-pub signed_range : (n v : ℕ) → n < 2 ^ 32 → v ≡ of_z w64 (to_z w32 n) → Within 0x8000_0000 v
-signed_range n v h e = signed_within n v h e
-
 -- ---- ints and longs: the range of a form lies in that of each longer one
-module _ {s : Sort} {c : Codes} (k : HasCodes s c) (v : ℕ) (l : Fits w64 v) where
-  pub length_one : {x : ℕ} → x ≡ (v + c.zero) % 2 ^ 64 → x < c.count → 1 ≡ length_of (shortest (forms_of s) v)
+module _ {c : Codes} (k : HasCodes c) (v : ℕ) (l : Fits w64 v) where
+  pub length_one : {x : ℕ} → x ≡ (v + c.zero) % 2 ^ 64 → x < c.count → 1 ≡ length_of (shortest (forms_of c.sort) v)
   length_one e h = length_as (whole_one k v l e h)
 
   pub length_two : {x : ℕ} → x ≡ (v + c.zero) % 2 ^ 64 → c.count ≤ x → Within 0x800 v
-      → 2 ≡ length_of (shortest (forms_of s) v)
+      → 2 ≡ length_of (shortest (forms_of c.sort) v)
   length_two e h i = length_as (whole_two k v l e h refl i)
 
   past_one : 0x1000 ≤ (v + 0x800) % 2 ^ 64 → c.count ≤ (v + c.zero) % 2 ^ 64
   past_one h = let few = k.one_fits in let low = k.zero_fits in let f = l.fits in omega arith
 
   pub length_three : {b : Bool} → b ≡ ltb ((v + 0x800) % 2 ^ 64) 0x1000 → b ≡ false → Within 0x4_0000 v
-      → 3 ≡ length_of (shortest (forms_of s) v)
+      → 3 ≡ length_of (shortest (forms_of c.sort) v)
   length_three e f i = let h = past_range v 0x800 e f in length_as (whole_three k v l refl (past_one h) refl h refl i)
 
   past_two : 0x8_0000 ≤ (v + 0x4_0000) % 2 ^ 64 → 0x1000 ≤ (v + 0x800) % 2 ^ 64
   past_two h = let f = l.fits in omega arith
 
   pub length_five : {b : Bool} → b ≡ ltb ((v + 0x4_0000) % 2 ^ 64) 0x8_0000 → b ≡ false → Within 0x8000_0000 v
-      → 5 ≡ length_of (shortest (forms_of s) v)
+      → 5 ≡ length_of (shortest (forms_of c.sort) v)
   length_five e f i =
       let h = past_range v 0x4_0000 e f in
-      let g = past_two h in length_by_law k.five 4 (v % 2 ^ 32) (whole_five k v l refl (past_one g) refl g refl h i)
+      let g = past_two h in length_by_law c.five 4 (v % 2 ^ 32) (whole_five k v l refl (past_one g) refl g refl h i)
 
 -- no form of 32 bits holds the number, so none shorter: ints have no other, longs one of nine bytes
 module _ (v : ℕ) (l : Fits w64 v) {b : Bool} (e : b ≡ ltb ((v + 2 ^ 31) % 2 ^ 64) (2 ^ 32)) (f : b ≡ false) where
-  past_five : {s : Sort} {c : Codes} (k : HasCodes s c) → shortest (forms_of s) v ≡ shortest k.others v
+  past_five : {c : Codes} (k : HasCodes c) → shortest (forms_of c.sort) v ≡ shortest k.others v
   past_five k =
       let room = l.fits in
       let h = past_range v 0x8000_0000 e f in

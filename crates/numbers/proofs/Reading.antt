@@ -1,7 +1,12 @@
 -- Reading a single value: what a first byte begins, that what a form holds suits its rule, and each way out of reading.
 use Rattle.std.proofs.Common.{◌≡◌, ℕ, zero, suc, ◌+◌, ◌-◌, ◌%◌, ◌^◌, ◌<◌, ◌≤◌, ◌&&◌, T, leb, List, [], ◌∷◌, length, get_or, take, drop, sym, ap, ◌∙◌, subst, mod-eq_of_lt, add-one, arith, length-drop, length-take, w8, Fits, rules}
+use Rattle.std.specs.Prelude.{Result, Err, Some, None}
+use Rattle.std.specs.declared.option.Option as code
+use Rattle.std.specs.Result.{IsErrAnd}
+use Rattle.std.proofs.lemmas.Result.{err_from_is_err_and}
 use Rattle.flow.specs.Tests.{and_left, and_right, within_yes, within_is, bytes_take, bytes_drop, bytes_all}
 use Rattle.flow.specs.Flow.{Bytes, Done, Fault}
+use Rattle.flow.specs.Steps.{Answer}
 use Rattle.wire.specs.BigEndian.{joined, be}
 use Rattle.wire.specs.Laws.{be_length, be_bytes, joined_below}
 use Rattle.scalar.specs.declared.Sort.{Sort}
@@ -9,24 +14,23 @@ use Rattle.scalar.specs.declared.Sort.TheVariants.{Null, False, True, Int, Long,
 use Rattle.scalar.specs.declared.Rule.{Rule}
 use Rattle.scalar.specs.declared.Rule.TheVariants.{Plain}
 use Rattle.scalar.specs.declared.Begun.{Begun}
-use Rattle.scalar.specs.declared.Begun.TheVariants.{Starts, NoForm}
-use Rattle.scalar.specs.Scalars.{value, Form, form, forms_of, form_at, shortest}
+use Rattle.scalar.specs.declared.refusals.Refused.{Refused}
+use Rattle.scalar.specs.Refusals.{fault}
+use Rattle.scalar.specs.Scalars.{value, Form, form, forms_of, begun, form_at}
 use Rattle.scalar.specs.Grammar.{Number, held, here, later}
-use Rattle.scalar.specs.Answers.{number_at, length_of, length_read}
+use Rattle.scalar.specs.Answers.{number_at}
 use Rattle.scalar.proofs.NumberLengths.{length_read_law}
 use Rattle.numbers.specs.declared.NumberPassed.{NumberPassed}
-use Rattle.numbers.specs.declared.NumberPassed.TheVariants as number_passed
 use Rattle.numbers.specs.declared.NumberRead.{NumberRead}
-use Rattle.numbers.specs.declared.NumberRead.TheVariants.{Value, Refused}
-use Rattle.numbers.specs.Answers.{passed, Measured, NumberMet, Takes}
+use Rattle.numbers.specs.Answers.{passed, cut_at, ByteThere, Measured, NumberMet, Takes}
 use Rattle.scalar.proofs.FormLaws.{forms_null, forms_false, forms_true, forms_int, forms_long, forms_double, forms_date}
 use Rattle.scalar.proofs.FormLaws.{form_none, form_either}
 use Rattle.scalar.proofs.NumberLaws.{size, form_here, form_skip, clear, proper, number_apart}
 use Rattle.scalar.proofs.NumberAt.{number_ends, number_none, number_cut, number_there}
 use Rattle.scalar.proofs.Sorts.{properly}
 
-pub starts : {k u v : ℕ} {r : Rule} → u ≡ v → Starts k u r ≡ Starts k v r
-starts {k} {u} {v} {r} e = ap (λ (n : ℕ). Starts k n r) e
+pub starts : {k u v : ℕ} {r : Rule} → u ≡ v → Some (begun k u r) ≡ Some (begun k v r)
+starts {k} {u} {v} {r} e = ap (λ (n : ℕ). Some (begun k n r)) e
 
 -- ---- a first byte of the form with the index i; past the last there is none
 abbrev nth : List Form → ℕ → Form
@@ -40,7 +44,7 @@ nth_number (w ∷ ws) zero q l = here (held q (be w.extra 0) l (be_length w.extr
 nth_number (w ∷ ws) (suc i) q l = later (nth_number ws i q l)
 
 nth_starts : (ws : List Form) (i q : ℕ) → T (proper ws) → q < (nth ws i).codes
-    → form_at ws ((nth ws i).head + q) ≡ Starts (nth ws i).extra q (nth ws i).rule
+    → form_at ws ((nth ws i).head + q) ≡ Some (begun (nth ws i).extra q (nth ws i).rule)
 nth_starts [] i q p l = absurd (omega arith)
 nth_starts (w ∷ ws) zero q p l =
     form_here w ws (w.head + q) (within_yes w.head (w.head + w.codes) (w.head + q) (omega arith) (omega arith))
@@ -54,7 +58,7 @@ nth_starts (w ∷ ws) (suc i) q p l =
 
 pub begins : (s : Sort) {ws : List Form} → forms_of s ≡ ws → (i : ℕ) {b u : ℕ}
     → (nth ws i).head + u ≡ b → u < (nth ws i).codes
-    → Starts (nth ws i).extra u (nth ws i).rule ≡ form_at (forms_of s) b
+    → Some (begun (nth ws i).extra u (nth ws i).rule) ≡ form_at (forms_of s) b
 begins s {ws} f i {b} {u} e l =
     let proper_forms : T (proper ws) = subst (λ (ws : List Form). T (proper ws)) f (properly s) in
     sym (nth_starts ws i u proper_forms l) ∙ ap (form_at ws) e ∙ ap (λ (ws : List Form). form_at ws b) (sym f)
@@ -64,13 +68,13 @@ abbrev pub Outside : List Form → ℕ → Type 0
 Outside [] b = Unit {0}
 Outside (w ∷ ws) b = (w.head ≤ b → b < w.head + w.codes → ⊥) × Outside ws b
 
-pub no_form : (ws : List Form) (b : ℕ) → Outside ws b → NoForm ≡ form_at ws b
+pub no_form : (ws : List Form) (b : ℕ) → Outside ws b → None ≡ form_at ws b
 no_form [] b o = sym (form_none b)
-no_form (w ∷ ws) b o = form_either (λ (x : Begun). NoForm ≡ x) w ws b
+no_form (w ∷ ws) b o = form_either (λ (x : code.Option Begun). None ≡ x) w ws b
     (λ e. let r = within_is w.head (w.head + w.codes) b (rw e tt) in absurd (o.0 r.0 r.1))
     (λ e. no_form ws b o.1)
 
-pub begins_none : (s : Sort) {ws : List Form} → forms_of s ≡ ws → (b : ℕ) → Outside ws b → NoForm ≡ form_at (forms_of s) b
+pub begins_none : (s : Sort) {ws : List Form} → forms_of s ≡ ws → (b : ℕ) → Outside ws b → None ≡ form_at (forms_of s) b
 begins_none s {ws} f b o = no_form ws b o ∙ ap (λ (ws : List Form). form_at ws b) (sym f)
 
 -- ---- what a form holds suits its rule, and 64 bits
@@ -91,9 +95,11 @@ rooms Double = rw forms_double (search rules)
 rooms Date = rw forms_date (search rules)
 
 -- so any bytes after a first byte do
-abbrev pub Suits : Begun → Type 0
-Suits NoForm = Unit {0}
-Suits (Starts k u r) = (k ≤ 8) × ((t : List ℕ) → length t ≡ k → Bytes t → (joined u t < 2 ^ 64) × Takes r (joined u t))
+abbrev pub Suits : code.Option Begun → Type 0
+Suits None = Unit {0}
+Suits (Some z) =
+    (z.more ≤ 8)
+    × ((t : List ℕ) → length t ≡ z.more → Bytes t → (joined z.held t < 2 ^ 64) × Takes z.rule (joined z.held t))
 
 form_suits : (ws : List Form) (b : ℕ) → Rooms ws → Suits (form_at ws b)
 form_suits [] b h = rw (form_none b) tt
@@ -107,58 +113,55 @@ form_suits (w ∷ ws) b h = form_either Suits w ws b
     ))
     (λ e. form_suits ws b h.1)
 
-pub suits : (s : Sort) (b k u : ℕ) (r : Rule) → form_at (forms_of s) b ≡ Starts k u r → Suits (Starts k u r)
-suits s b k u r e = subst Suits e (form_suits (forms_of s) b (rooms s))
+pub suits : (s : Sort) (b : ℕ) (z : Begun) → form_at (forms_of s) b ≡ Some z → Suits (Some z)
+suits s b z e = subst Suits e (form_suits (forms_of s) b (rooms s))
 
+-- ---- a refusal that is passed on
+pub refused : (x : Result NumberPassed Refused) (r : Refused) → IsErrAnd x (λ y. y ≡ r) → {o : Answer ℕ}
+    → fault r ≡ o → passed x ≡ o
+refused x r h e = let p = err_from_is_err_and x h in rw (p.1, p.2) e
+
+-- ---- each way out, by the byte b at p and what it begins
 module _ (s : Sort) (m : List ℕ) (p : ℕ) where
-  pub reads_end : length m ≤ p → Fault 2 (length m) ≡ number_at s m p
-  reads_end l = sym (number_ends s m p l)
+  pub passed_end : (x : Result NumberPassed Refused) (r : Refused) → IsErrAnd x (λ y. y ≡ r) → ByteThere m p (Err r)
+      → passed x ≡ number_at s m p
+  passed_end x r h e = refused x r h (ap fault e.1 ∙ sym (number_ends s m p e.0))
 
-  module _ (l : p < length m) (x : Begun) (is : x ≡ form_at (forms_of s) (get_or m p 0)) where
-    pub reads_none : x ≡ NoForm → Fault 3 p ≡ number_at s m p
-    reads_none e = sym (number_none s m p l (sym is ∙ e))
+  module _ (b : ℕ) (l : p < length m) (byte : b ≡ get_or m p 0) (x : code.Option Begun)
+      (is : x ≡ form_at (forms_of s) b) where
+    begun_there : form_at (forms_of s) (get_or m p 0) ≡ x
+    begun_there = ap (form_at (forms_of s)) (sym byte) ∙ sym is
 
-    module _ (k u : ℕ) (r : Rule) (e : x ≡ Starts k u r) where
-      pub reads_cut : length m - p ≤ k → Fault 2 (length m) ≡ number_at s m p
-      reads_cut h = sym (number_cut s m p l k u r (sym is ∙ e) (omega arith))
+    pub reads_none : x ≡ None → Fault 3 p ≡ number_at s m p
+    reads_none e = sym (number_none s m p l (begun_there ∙ e))
 
-      module _ (bytes : (i : ℕ) → Fits w8 (get_or m i 0)) (h : k < length m - p) (n : ℕ)
-          (at : n ≡ joined u (take k (drop (p + 1) m)) % 2 ^ 64) where
+    module _ (z : Begun) (e : x ≡ Some z) where
+      pub reads_cut : (r : Refused) → length m - p ≤ z.more → r ≡ cut_at (length m) → fault r ≡ number_at s m p
+      reads_cut r h i = ap fault i ∙ sym (number_cut s m p l z (begun_there ∙ e) (omega arith))
+
+      module _ (bytes : (i : ℕ) → Fits w8 (get_or m i 0)) (h : z.more < length m - p) (n : ℕ)
+          (at : n ≡ joined z.held (take z.more (drop (p + 1) m)) % 2 ^ 64) where
         abbrev rest : List ℕ
-        rest = take k (drop (p + 1) m)
+        rest = take z.more (drop (p + 1) m)
 
-        suited : (joined u rest < 2 ^ 64) × Takes r (joined u rest)
+        suited : (joined z.held rest < 2 ^ 64) × Takes z.rule (joined z.held rest)
         suited =
-            (suits s (get_or m p 0) k u r (sym is ∙ e)).1 rest (simp (length-take, length-drop) (omega arith))
-            (bytes_take k (drop (p + 1) m) (bytes_drop (p + 1) m (bytes_all m (λ i. (bytes i).fits))))
+            (suits s (get_or m p 0) z (begun_there ∙ e)).1 rest (simp (length-take, length-drop) (omega arith))
+            (bytes_take z.more (drop (p + 1) m) (bytes_drop (p + 1) m (bytes_all m (λ i. (bytes i).fits))))
 
-        same : n ≡ joined u rest
+        same : n ≡ joined z.held rest
         same = at ∙ mod-eq_of_lt suited.0
 
-        pub reads_takes : Takes r n
+        pub reads_takes : Takes z.rule n
         reads_takes = rw same suited.1
 
-        pub reads_value : (v : ℕ) → v ≡ value r n → Done (k + 1) v [] tt ≡ number_at s m p
+        pub reads_value : (v : ℕ) → v ≡ value z.rule n → Done (z.more + 1) v [] tt ≡ number_at s m p
         reads_value v q =
-            ap (λ (z : ℕ). Done (k + 1) z [] tt) (q ∙ ap (value r) same)
-            ∙ rw (add-one p, add-one k) (sym (number_there s m p l k u r (sym is ∙ e) (omega arith)))
+            ap (λ (y : ℕ). Done (z.more + 1) y [] tt) (q ∙ ap (value z.rule) same)
+            ∙ rw (add-one p, add-one z.more) (sym (number_there s m p l z (begun_there ∙ e) (omega arith)))
 
 -- ---- with the length of the shortest form
-module _ (s : Sort) {n : NumberPassed} where
-  pub measured_refused : {x o : ℕ} → n ≡ number_passed.Refused x o → Measured s n (Refused x o)
-  measured_refused e = record {
-    says = sym (ap passed e);
-    shortest = sym (ap (λ (a : NumberPassed). length_read s (passed a)) e);
-  }
-
-  pub measured_value : {v k w : ℕ} → n ≡ number_passed.Value v k → w ≡ length_of (shortest (forms_of s) v)
-      → Measured s n (Value v k w)
-  measured_value e l = record {
-    says = sym (ap passed e);
-    shortest = l ∙ sym (ap (λ (a : NumberPassed). length_read s (passed a)) e);
-  }
-
 -- what is measured is what was passed
-pub met_measured : (s : Sort) (m : List ℕ) (p : ℕ) {n : NumberPassed} {r : NumberRead} → passed n ≡ number_at s m p
-    → Measured s n r → NumberMet s m p r
+pub met_measured : (s : Sort) (m : List ℕ) (p : ℕ) {n : Result NumberPassed Refused} {r : Result NumberRead Refused}
+    → passed n ≡ number_at s m p → Measured s n r → NumberMet s m p r
 met_measured s m p e h = record { says = h.says ∙ e; shortest = h.shortest ∙ length_read_law s m p e }

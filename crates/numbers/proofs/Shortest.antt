@@ -4,7 +4,6 @@ use mathlib.Core.Option.{none, some}
 use Rattle.flow.specs.Tests.{split}
 use Rattle.wire.specs.BigEndian.{be, high, wider}
 use Rattle.wire.specs.Laws.{high_below}
-use Rattle.scalar.specs.declared.Sort.{Sort}
 use Rattle.scalar.specs.declared.Sort.TheVariants.{Int, Long, Double, Date}
 use Rattle.scalar.specs.declared.Rule.{Rule}
 use Rattle.scalar.specs.declared.Rule.TheVariants.{Exactly, Plain, Offset, Signed, Minutes}
@@ -49,9 +48,9 @@ module _ (head codes extra zero v u : ℕ) (ws : List Form) (e : u ≡ (v + zero
       ∙ rw (guess_offset v zero, ← e, lt-ltb (high extra u) codes (high_below extra u codes h), eq-eqb _ v q)
 
 -- which codes they have
-abbrev pub int_codes : HasCodes Int (record { one = 0x80; count = 64; zero = 0x10; two = 0xc0; three = 0xd0 })
+abbrev pub int_codes : HasCodes
+    (record { sort = Int; one = 0x80; count = 64; zero = 0x10; two = 0xc0; three = 0xd0; five = 0x49 })
 int_codes = record {
-  five = 0x49;
   others = [];
   forms = forms_int;
   one_fits = omega arith;
@@ -60,9 +59,9 @@ int_codes = record {
   three_fits = omega arith;
 }
 
-abbrev pub long_codes : HasCodes Long (record { one = 0xd8; count = 24; zero = 8; two = 0xf0; three = 0x38 })
+abbrev pub long_codes : HasCodes
+    (record { sort = Long; one = 0xd8; count = 24; zero = 8; two = 0xf0; three = 0x38; five = 0x59 })
 long_codes = record {
-  five = 0x59;
   others = form 0x4c 1 8 Plain ∷ [];
   forms = forms_long;
   one_fits = omega arith;
@@ -94,9 +93,8 @@ is_held head extra r ws v u g e z =
     shortest_first v (form head 1 extra r) ws ∙ rw (g, z, eq-eqb (value r u) v e, add-zero head)
 
 -- ---- ints and longs: one form after the other
-module _ {s : Sort} {c : Codes} (k : HasCodes s c)
-    (v : ℕ) (l : Fits w64 v) {x : ℕ} (ex : x ≡ (v + c.zero) % 2 ^ 64) where
-  pub whole_one : x < c.count → shortest (forms_of s) v ≡ some ((c.one + x) ∷ [])
+module _ {c : Codes} (k : HasCodes c) (v : ℕ) (l : Fits w64 v) {x : ℕ} (ex : x ≡ (v + c.zero) % 2 ^ 64) where
+  pub whole_one : x < c.count → shortest (forms_of c.sort) v ≡ some ((c.one + x) ∷ [])
   whole_one h =
       let few = k.one_fits in
       let low = k.zero_fits in
@@ -107,30 +105,30 @@ module _ {s : Sort} {c : Codes} (k : HasCodes s c)
   not_one ws n = offset_not c.one c.count 0 c.zero v x ws ex n
 
   module _ (nx : c.count ≤ x) {y : ℕ} (ey : y ≡ (v + 0x800) % 2 ^ 64) where
-    pub whole_two : y < 0x1000 → shortest (forms_of s) v ≡ some ((c.two + y / 256) ∷ (y % 256) ∷ [])
+    pub whole_two : y < 0x1000 → shortest (forms_of c.sort) v ≡ some ((c.two + y / 256) ∷ (y % 256) ∷ [])
     whole_two h = rw (k.forms, not_one _ nx)
         (offset_is c.two 16 1 0x800 v y _ ey l.fits (omega arith) (omega arith) h)
 
     module _ (ny : 0x1000 ≤ y) {z : ℕ} (ez : z ≡ (v + 0x4_0000) % 2 ^ 64) where
       pub whole_three : z < 0x8_0000
-          → shortest (forms_of s) v ≡ some ((c.three + z / 256 / 256) ∷ (z / 256 % 256) ∷ (z % 256) ∷ [])
+          → shortest (forms_of c.sort) v ≡ some ((c.three + z / 256 / 256) ∷ (z / 256 % 256) ∷ (z % 256) ∷ [])
       whole_three h = rw (k.forms, not_one _ nx, offset_not c.two 16 1 0x800 v y _ ey ny)
           (offset_is c.three 8 2 0x4_0000 v z _ ez l.fits (omega arith) (omega arith) h)
 
-      not_three : 0x8_0000 ≤ z → shortest (forms_of s) v ≡ shortest (form k.five 1 4 Signed ∷ k.others) v
+      not_three : 0x8_0000 ≤ z → shortest (forms_of c.sort) v ≡ shortest (form c.five 1 4 Signed ∷ k.others) v
       not_three nz = rw (k.forms, not_one _ nx, offset_not c.two 16 1 0x800 v y _ ey ny)
           (offset_not c.three 8 2 0x4_0000 v z _ ez nz)
 
       module _ (nz : 0x8_0000 ≤ z) where
-        pub whole_five : (v + 2 ^ 31) % 2 ^ 64 < 2 ^ 32 → shortest (forms_of s) v ≡ some (k.five ∷ be 4 (v % 2 ^ 32))
+        pub whole_five : (v + 2 ^ 31) % 2 ^ 64 < 2 ^ 32 → shortest (forms_of c.sort) v ≡ some (c.five ∷ be 4 (v % 2 ^ 32))
         whole_five h =
             let e = rw (guess_signed v) at (signed_held v l.fits h) in
             let above : high 4 (v % 2 ^ 32) ≡ 0 = omega arith in
-            not_three nz ∙ is_held k.five 4 Signed k.others v (v % 2 ^ 32) (guess_signed v) e above
+            not_three nz ∙ is_held c.five 4 Signed k.others v (v % 2 ^ 32) (guess_signed v) e above
 
-        pub not_five : 2 ^ 32 ≤ (v + 2 ^ 31) % 2 ^ 64 → shortest (forms_of s) v ≡ shortest k.others v
+        pub not_five : 2 ^ 32 ≤ (v + 2 ^ 31) % 2 ^ 64 → shortest (forms_of c.sort) v ≡ shortest k.others v
         not_five h =
-            not_three nz ∙ not_held (form k.five 1 4 Signed) k.others v (signed_other v l.fits h)
+            not_three nz ∙ not_held (form c.five 1 4 Signed) k.others v (signed_other v l.fits h)
 
 -- ---- dates: minutes are multiples of 32 milliseconds
 minutes_low : (z : ℤ) → of_z w64 (z *ℤ pos 60_000) % 32 ≡ 0

@@ -5,7 +5,8 @@ ghost use Rattle.scalar.specs.Chart.{lead_of};
 
 use scalar::{Lead, Sort};
 
-// Each byte's entry: ten times the kind of the row that it opens, and how many bytes follow it before any content.
+// Each byte's entry: ten times the kind of the row that it opens, and how many bytes follow it before any content. It
+// stays a table of numbers: 01 asks for a constant table of all 256 first bytes.
 const CHART: [u8; 256] = [
     70, 70, 70, 70, 70, 70, 70, 70, 70, 70, 70, 70, 70, 70, 70, 70, 70, 70, 70, 70, 70, 70, 70, 70,
     70, 70, 70, 70, 70, 70, 70, 70, 80, 80, 80, 80, 80, 80, 80, 80, 80, 80, 80, 80, 80, 80, 80, 80,
@@ -25,14 +26,14 @@ const CHART: [u8; 256] = [
 pub fn entry(b: u8) -> u8
     ensures { result ≡ entry_of b }
 {
-    CHART[b as usize]
+    CHART[usize::from(b)]
 }
 
 // How many bytes follow the byte before any content.
 pub fn following(b: u8) -> usize
     ensures { result ≡ follow_of b }
 {
-    (entry(b) % 10) as usize
+    usize::from(entry(b) % 10)
 }
 
 // What the byte opens, by its range.

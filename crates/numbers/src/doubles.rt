@@ -16,6 +16,7 @@ fn scaled(c: u64, m: u32) -> u64
 }
 
 // The bits of the double that a float of 32 bits is.
+#[inline(always)]
 pub(crate) fn widened(u: u32) -> u64
     ensures { result ≡ widenedOf u }
 {
@@ -34,53 +35,35 @@ pub(crate) fn widened(u: u32) -> u64
     s + scaled(925, t)
 }
 
-// The bits of the double that m thousandths are: m as a double, which is exact, times the double nearest to 0.001,
-// rounded once.
-fn thousandths_of(m: i32) -> u64
-    ensures { result ≡ thousandthsOf m }
-{
-    f64::to_bits((m as f64) * 0.001)
-}
-
-// The same of a whole number of 32 bits, by its two's complement.
+// The bits of the double that so many thousandths are, a whole number of 32 bits in two's complement: it as a double,
+// which is exact, times the double nearest to 0.001, rounded once.
 pub fn thousandths(u: u32) -> u64
     ensures { result ≡ thousandthsOf (to_z w32 u) }
 {
-    if u < 0x8000_0000 {
-        thousandths_of(u as i32)
-    } else {
-        thousandths_of((u as i64 - 0x1_0000_0000) as i32)
-    }
+    let m = u.cast_signed();
+    f64::to_bits(f64::from(m) * 0.001)
 }
 
 // The bits of the double that is the whole number n.
 pub(crate) fn whole(n: i16) -> u64
     ensures { result ≡ whole_of n }
 {
-    f64::to_bits(n as f64)
+    f64::to_bits(f64::from(n))
 }
 
-// The same of a whole number of 8 bits and of 16, by its two's complement.
+// The same of a whole number of 8 bits and of 16, by its two's complement: two lines, since each names its own types.
 pub(crate) fn whole_byte(u: u64) -> u64
     requires { u < 2 ^ 8 }
     ensures { result ≡ whole_of (to_z w8 u) }
 {
-    if u < 0x80 {
-        whole(u as i16)
-    } else {
-        whole((u as i16) - 0x100)
-    }
+    whole(i16::from((u as u8).cast_signed()))
 }
 
 pub(crate) fn whole_pair(u: u64) -> u64
     requires { u < 2 ^ 16 }
     ensures { result ≡ whole_of (to_z w16 u) }
 {
-    if u < 0x8000 {
-        whole(u as i16)
-    } else {
-        whole(((u as i32) - 0x1_0000) as i16)
-    }
+    whole((u as u16).cast_signed())
 }
 
 // Of a double's exponent and fraction, the exponent and the fraction of the float that it may be.
@@ -88,19 +71,12 @@ fn narrow_magnitude(x: u64, t: u64) -> u64
     requires { t < 2 ^ 52 }
     ensures { (result ≡ narrow_magnitude x t) × (result < 2 ^ 31) }
 {
-    if x == 2047 {
-        return 0x7f80_0000 + t / 0x2000_0000;
+    match x {
+        2047 => 0x7f80_0000 + t / 0x2000_0000,
+        897..=1150 => (x - 896) * 0x80_0000 + t / 0x2000_0000,
+        874..=896 => (0x10_0000_0000_0000 + t) >> (926 - x),
+        _ => 0,
     }
-    if 896 < x {
-        if x < 1151 {
-            return (x - 896) * 0x80_0000 + t / 0x2000_0000;
-        }
-        return 0;
-    }
-    if 873 < x {
-        return (0x10_0000_0000_0000 + t) >> (926 - x);
-    }
-    0
 }
 
 // The float of 32 bits that a double may be.
@@ -116,13 +92,10 @@ fn whole_size(x: u64, t: u64) -> u64
     requires { t < 2 ^ 52 }
     ensures { (result ≡ whole_size x t) × (result < 2 ^ 32) }
 {
-    if 1022 < x {
-        if x < 1055 {
-            return (0x10_0000_0000_0000 + t) >> (1075 - x);
-        }
-        return 0;
+    match x {
+        1023..=1054 => (0x10_0000_0000_0000 + t) >> (1075 - x),
+        _ => 0,
     }
-    0
 }
 
 // The whole number, of n values in two's complement, that a double may be.

@@ -1,164 +1,146 @@
-// Single values stored form by form, by plain stores: what write_form stores, in less time. A form is stored whole or
-// not at all.
+// Single values stored form by form, by plain stores: what write_form stores. By write_form alone was tried: it takes one
+// and a half to three times the instructions. A form is stored whole or not at all.
 ghost use Rattle.std.specs.Prelude.{◌≡◌, ◌+◌, ◌≤◌, [], ◌∷◌, length};
 ghost use Rattle.std.proofs.Math.Option.{some};
-ghost use Rattle.flow.specs.Flow.{stored};
 ghost use Rattle.wire.specs.BigEndian.{be};
 ghost use Rattle.scalar.specs.declared.Sort.TheVariants as sort;
 ghost use Rattle.scalar.specs.Scalars.{forms_of, shortest};
-ghost use Rattle.numbers.specs.Answers.{single_form, Writes, HasCodes};
+ghost use Rattle.numbers.specs.Answers.{single_form, Writes, HasRoom, HasCodes};
 
-use scalar::{Sort, Written};
+use crate::Spelling;
+use scalar::{Sort, Unwritten};
 
-// The codes of ints or longs: the lowest of one byte, how many these are, and what they hold for the value 0; the
-// lowest of two bytes, and of three.
+// The forms that ints and longs have of one, two, three and five bytes, by their lowest codes; of those of one byte how
+// many there are, and what they hold for the value 0. That they are the kind's own (HasCodes) stays a clause: a ghost
+// field is no plainer, since it needs a proof that two proofs of an equation of lists of forms are equal.
 #[derive(Clone, Copy)]
-pub struct Codes {
+pub(crate) struct Codes {
+    pub sort: Sort,
     pub one: u8,
     pub count: u64,
     pub zero: u64,
     pub two: u8,
     pub three: u8,
+    pub five: u8,
 }
 
 pub(crate) const INT_CODES: Codes = Codes {
+    sort: Sort::Int,
     one: 0x80,
     count: 64,
     zero: 0x10,
     two: 0xc0,
     three: 0xd0,
+    five: 0x49,
 };
 
 pub(crate) const LONG_CODES: Codes = Codes {
+    sort: Sort::Long,
     one: 0xd8,
     count: 24,
     zero: 8,
     two: 0xf0,
     three: 0x38,
+    five: 0x59,
 };
 
 // ---- bytes
 
-fn store_one(out: &mut [u8], at: usize, a: u8) -> Written
-    ensures { Writes (some (a ∷ [])) out.old at result out.new }
+// Whether `needed` bytes fit from `at` on.
+#[inline(always)]
+fn room(out: &[u8], at: usize, needed: usize) -> Result<(), Unwritten>
+    ensures { HasRoom (length out.now) at needed result }
 {
-    if out.len() <= at {
-        return Written::NoRoom { needed: 1 };
+    if out.len() < at || out.len() - at < needed {
+        return Err(Unwritten::NoRoom { needed });
     }
-    out[at] = a;
-    Written::Stored { size: 1 }
+    Ok(())
 }
 
-fn store_two(out: &mut [u8], at: usize, a: u8, b: u8) -> Written
-    ensures { Writes (some (a ∷ b ∷ [])) out.old at result out.new }
+// These bytes, where they fit.
+#[inline(always)]
+fn store<const N: usize>(out: &mut [u8], at: usize, bytes: [u8; N]) -> Result<usize, Unwritten>
+    ensures { Writes (some bytes.entry) out.old at result out.new }
 {
-    let len = out.len();
-    if len < 2 {
-        return Written::NoRoom { needed: 2 };
-    }
-    if len - 2 < at {
-        return Written::NoRoom { needed: 2 };
-    }
-    out[at] = a;
-    out[at + 1] = b;
-    Written::Stored { size: 2 }
-}
-
-fn store_three(out: &mut [u8], at: usize, a: u8, b: u8, c: u8) -> Written
-    ensures { Writes (some (a ∷ b ∷ c ∷ [])) out.old at result out.new }
-{
-    let len = out.len();
-    if len < 3 {
-        return Written::NoRoom { needed: 3 };
-    }
-    if len - 3 < at {
-        return Written::NoRoom { needed: 3 };
-    }
-    out[at] = a;
-    out[at + 1] = b;
-    out[at + 2] = c;
-    Written::Stored { size: 3 }
-}
-
-// The four lowest bytes of u, where they fit.
-fn store_four(out: &mut [u8], at: usize, u: u64)
-    requires { at + 4 ≤ length out.old }
-    ensures { out.new ≡ stored out.old at (be 4 u) }
-{
-    let h = u / 256;
-    let g = h / 256;
-    let f = g / 256;
-    out[at] = (f % 256) as u8;
-    out[at + 1] = (g % 256) as u8;
-    out[at + 2] = (h % 256) as u8;
-    out[at + 3] = (u % 256) as u8;
+    room(out, at, N)?;
+    out[at..at + N].copy_from_slice(&bytes);
+    Ok(N)
 }
 
 // A byte, and the eight bytes of v.
-fn store_nine(out: &mut [u8], at: usize, code: u8, v: u64) -> Written
+fn store_nine(out: &mut [u8], at: usize, code: u8, v: u64) -> Result<usize, Unwritten>
     ensures { Writes (some (code ∷ be 8 v)) out.old at result out.new }
 {
-    let len = out.len();
-    if len < 9 {
-        return Written::NoRoom { needed: 9 };
-    }
-    if len - 9 < at {
-        return Written::NoRoom { needed: 9 };
-    }
+    room(out, at, 9)?;
     out[at] = code;
-    store_four(out, at + 1, v / 256 / 256 / 256 / 256);
-    store_four(out, at + 5, v);
-    Written::Stored { size: 9 }
+    out[at + 1..at + 9].copy_from_slice(&v.to_be_bytes());
+    Ok(9)
+}
+
+// A form's bytes.
+pub(crate) fn store_spelling(out: &mut [u8], at: usize, form: Spelling) -> Result<usize, Unwritten>
+    requires { form.more ≤ 8 }
+    ensures { Writes (some (form.code ∷ be form.more form.rest)) out.old at result out.new }
+{
+    room(out, at, form.more + 1)?;
+    out[at] = form.code;
+    let _ = wire::store_number(out, at + 1, form.more, form.rest);
+    Ok(form.more + 1)
 }
 
 // ---- values, each by the forms that its function is for; others by whichever form is the shortest
 
 // Null, false or true.
-pub(crate) fn write_single(code: u8, value: u64, out: &mut [u8], at: usize) -> Written
+pub(crate) fn write_single(
+    code: u8,
+    value: u64,
+    out: &mut [u8],
+    at: usize,
+) -> Result<usize, Unwritten>
     ensures { Writes (shortest (single_form code) value) out.old at result out.new }
 {
     if value != 0 {
-        return Written::NoSuchForm;
+        return Err(Unwritten::NoSuchForm);
     }
-    store_one(out, at, code)
+    store(out, at, [code])
 }
 
 // An int or a long, by the forms of one, two and three bytes first.
-fn write_whole(sort: Sort, codes: Codes, value: u64, out: &mut [u8], at: usize) -> Written
-    requires { HasCodes sort codes }
-    ensures { Writes (shortest (forms_of sort) value) out.old at result out.new }
+fn write_whole(codes: Codes, value: u64, out: &mut [u8], at: usize) -> Result<usize, Unwritten>
+    requires { HasCodes codes }
+    ensures { Writes (shortest (forms_of codes.sort) value) out.old at result out.new }
 {
-    let u = std::num::wrapping_add_u64(value, codes.zero);
+    let u = value.wrapping_add(codes.zero);
     if u < codes.count {
-        return store_one(out, at, codes.one + u as u8);
+        return store(out, at, [codes.one + u as u8]);
     }
-    let u = std::num::wrapping_add_u64(value, 0x800);
+    let u = value.wrapping_add(0x800);
     if u < 0x1000 {
-        return store_two(out, at, codes.two + (u / 256) as u8, (u % 256) as u8);
+        return store(out, at, [codes.two + (u / 256) as u8, (u % 256) as u8]);
     }
-    let u = std::num::wrapping_add_u64(value, 0x4_0000);
+    let u = value.wrapping_add(0x4_0000);
     if u < 0x8_0000 {
         let h = u / 256;
         let code = codes.three + (h / 256) as u8;
-        return store_three(out, at, code, (h % 256) as u8, (u % 256) as u8);
+        return store(out, at, [code, (h % 256) as u8, (u % 256) as u8]);
     }
-    crate::write_form(sort, value, out, at)
+    crate::write_form(codes.sort, value, out, at)
 }
 
-pub(crate) fn write_int(value: u64, out: &mut [u8], at: usize) -> Written
+pub(crate) fn write_int(value: u64, out: &mut [u8], at: usize) -> Result<usize, Unwritten>
     ensures { Writes (shortest (forms_of sort.Int) value) out.old at result out.new }
 {
-    write_whole(Sort::Int, INT_CODES, value, out, at)
+    write_whole(INT_CODES, value, out, at)
 }
 
-pub(crate) fn write_long(value: u64, out: &mut [u8], at: usize) -> Written
+pub(crate) fn write_long(value: u64, out: &mut [u8], at: usize) -> Result<usize, Unwritten>
     ensures { Writes (shortest (forms_of sort.Long) value) out.old at result out.new }
 {
-    write_whole(Sort::Long, LONG_CODES, value, out, at)
+    write_whole(LONG_CODES, value, out, at)
 }
 
 // A double. Those of the shorter forms are multiples of 2 ^ 29.
-pub(crate) fn write_double(value: u64, out: &mut [u8], at: usize) -> Written
+pub(crate) fn write_double(value: u64, out: &mut [u8], at: usize) -> Result<usize, Unwritten>
     ensures { Writes (shortest (forms_of sort.Double) value) out.old at result out.new }
 {
     if value % 0x2000_0000 == 0 {
@@ -168,7 +150,7 @@ pub(crate) fn write_double(value: u64, out: &mut [u8], at: usize) -> Written
 }
 
 // A date. Whole minutes are multiples of 32 milliseconds.
-pub(crate) fn write_date(value: u64, out: &mut [u8], at: usize) -> Written
+pub(crate) fn write_date(value: u64, out: &mut [u8], at: usize) -> Result<usize, Unwritten>
     ensures { Writes (shortest (forms_of sort.Date) value) out.old at result out.new }
 {
     if value % 32 == 0 {

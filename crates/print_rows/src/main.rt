@@ -3,9 +3,9 @@
 // are refusal 1; more than 1,600 rows are refusal 9.
 #![tactic(auto)]
 
-use reader::ReadAnswer;
+use reader::{Accepted, ReadError};
 use record::ROW_NUMBERS;
-use scalar::refusals::{LENGTH, ROOM};
+use scalar::{Refusal, Refused};
 use std::io;
 use std::io::{BufWriter, Read, Write};
 
@@ -15,60 +15,15 @@ const MOST: usize = 60_000;
 // The numbers of 1,600 rows.
 const TABLE: usize = 1_600 * ROW_NUMBERS;
 
-fn say(to: &mut impl Write, text: &[u8]) -> io::Result<()> {
-    to.write_all(text)
+fn say_refused(to: &mut impl Write, refusal: Refusal, place: usize) -> io::Result<()> {
+    writeln!(to, "refused {} {place}", refusal.number())
 }
 
-fn say_number(to: &mut impl Write, n: u64) -> io::Result<()> {
-    write!(to, "{n}")
-}
-
-fn say_refused(to: &mut impl Write, number: u8, place: usize) -> io::Result<()> {
-    say(to, b"refused ")?;
-    say_number(to, wire::wide(number))?;
-    say(to, b" ")?;
-    say_number(to, place as u64)?;
-    say(to, b"\n")
-}
-
-fn say_row(
-    to: &mut impl Write,
-    kind: u64,
-    place: u64,
-    first: u64,
-    second: u64,
-    after: u64,
-) -> io::Result<()> {
-    say_number(to, kind)?;
-    say(to, b" ")?;
-    say_number(to, place)?;
-    say(to, b" ")?;
-    say_number(to, first)?;
-    say(to, b" ")?;
-    say_number(to, second)?;
-    say(to, b" ")?;
-    say_number(to, after)?;
-    say(to, b"\n")
-}
-
-// The first `rows` rows of the table.
-fn say_rows(to: &mut impl Write, table: &[u64], rows: usize) -> io::Result<()> {
-    let lent = table.len() / ROW_NUMBERS;
-    let mut i = 0;
-    while i < rows {
-        if lent <= i {
-            return Ok(());
-        }
-        let k = i * ROW_NUMBERS;
-        say_row(
-            to,
-            table[k],
-            table[k + 1],
-            table[k + 2],
-            table[k + 3],
-            table[k + 4],
-        )?;
-        i += 1;
+// The first `count` rows of the table.
+fn say_rows(to: &mut impl Write, table: &[u64], count: usize) -> io::Result<()> {
+    let (rows, _) = table.as_chunks::<ROW_NUMBERS>();
+    for [kind, place, first, second, after] in rows.iter().take(count) {
+        writeln!(to, "{kind} {place} {first} {second} {after}")?;
     }
     Ok(())
 }
@@ -76,13 +31,9 @@ fn say_rows(to: &mut impl Write, table: &[u64], rows: usize) -> io::Result<()> {
 fn print_rows(to: &mut impl Write, message: &[u8]) -> io::Result<()> {
     let mut table = [0u64; TABLE];
     match reader::read(message, &mut table) {
-        ReadAnswer::Accepted {
-            rows,
-            length: _,
-            shortest: _,
-        } => say_rows(to, &table, rows),
-        ReadAnswer::Refused { number, place } => say_refused(to, number, place),
-        ReadAnswer::TooFew { needed: _ } => say_refused(to, ROOM, 0),
+        Ok(Accepted { rows, .. }) => say_rows(to, &table, rows),
+        Err(ReadError::Refused(Refused { refusal, place })) => say_refused(to, refusal, place),
+        Err(ReadError::TooFew { .. }) => say_refused(to, Refusal::Room, 0),
     }
 }
 
@@ -92,7 +43,7 @@ fn main(rt: HostRuntime) -> io::Result<()> {
     rt.stdin().take(60_001).read_to_end(&mut input)?;
     let mut to = BufWriter::new(rt.alloc(), rt.stdout())?;
     if MOST < input.len() {
-        say_refused(&mut to, LENGTH, 0)?;
+        say_refused(&mut to, Refusal::Length, 0)?;
     } else {
         print_rows(&mut to, &input)?;
     }

@@ -1,16 +1,16 @@
 -- What is read of a text or byte string takes at least one byte, and lies within the message.
-use Rattle.std.proofs.Common.{◌≡◌, ℕ, ◌+◌, ◌<◌, ◌≤◌, List, [], length, sym, refl, ap, ◌∙◌, subst, arith}
+use Rattle.std.proofs.Common.{◌≡◌, ℕ, ◌+◌, ◌<◌, ◌≤◌, List, [], length, sym, refl, ap, ◌∙◌, subst, arith, w64, Fits}
+use Rattle.std.specs.Prelude.{Ok}
 use Rattle.flow.specs.Flow.{Bytes, Done, Fault}
 use Rattle.flow.specs.Steps.{Answer}
 use Rattle.scalar.specs.declared.Encoding.{Encoding}
 use Rattle.texts.specs.declared.StringPassed.{StringPassed}
-use Rattle.texts.specs.declared.StringPassed.TheVariants.{Content}
 use Rattle.scalar.specs.declared.Encoding.TheVariants.{Binary}
 use Rattle.scalar.specs.Scalars.{string_at, units}
 use Rattle.scalar.proofs.TextUnits.{singles}
 use Rattle.scalar.specs.Answers.{Sizes, sized, sizes, measured_at}
 use Rattle.scalar.proofs.AnswerLaws.{measured_fault, measured_done}
-use Rattle.texts.specs.Answers.{StringIs, PassedSays, PassedMet, StringHas}
+use Rattle.texts.specs.Answers.{StringIs, PassedMet, StringHas}
 use Rattle.scalar.proofs.TextTheorems.{text_within}
 
 pub measured_within : (k : Encoding) (m : List ℕ) → Bytes m → (p n u b w : ℕ)
@@ -46,12 +46,12 @@ binary_has m p u b n s = go (string_at Binary m p) refl
         absurd (omega arith)
 
 -- the same of what the code passed
-module _ (k : Encoding) (m : List ℕ) (p : ℕ) {x : StringPassed} (t : PassedMet k m p x) where
-  pub passed_says : {y : StringPassed} → x ≡ y → PassedSays k m p y
-  passed_says e = subst (PassedSays k m p) e t.says
+module _ (k : Encoding) (m : List ℕ) (p : ℕ) {x : StringPassed} (t : PassedMet k m p (Ok x)) where
+  pub string_room : Bytes m → (0 < x.size) × (p + x.size ≤ length m)
+  string_room z = measured_within k m z p x.size x.units x.bytes t.says.shortest t.says.says
 
-  pub string_within : Bytes m → (u b n : ℕ) → x ≡ Content u b n → (0 < n) × (p + n ≤ length m)
-  string_within w u b n e = let s = passed_says e in measured_within k m w p n u b s.shortest s.says
+  pub string_fits : Bytes m → Fits w64 (length m) → Fits w64 (p + x.size)
+  string_fits z f = let r = string_room z in omega (arith, r.1)
 
-  pub string_has : (u b n : ℕ) → x ≡ Content u b n → StringHas k m p u b
-  string_has u b n e = record { size = n; is = passed_says e }
+  pub string_has : StringHas k m p x.units x.bytes
+  string_has = record { size = x.size; is = t.says }

@@ -1,6 +1,7 @@
 -- A value's head by its first byte: what the contracts of `opening`, `high_head` and `head_at` ask at each way out, one
 -- law for each.
 use Rattle.std.proofs.Common.{◌≡◌, ℕ, ◌+◌, ◌<◌, ◌≤◌, false, T, eqb, List, [], ◌∷◌, length, get_or, sym, refl, ap, ◌∙◌, subst, arith, ne_eqb}
+use Rattle.std.specs.Prelude.{Result, Ok, Err}
 use types.Run.{OneOf, miss}
 use denote.Enum.Declared.{tag_of}
 use Rattle.flow.specs.Tests.{pick_either}
@@ -8,10 +9,13 @@ use Rattle.scalar.specs.declared.Sort.{Sort}
 use Rattle.scalar.specs.declared.Sort.TheVariants.{Int, Long}
 use Rattle.scalar.specs.declared.Lead.{Lead}
 use Rattle.scalar.specs.declared.Lead.TheVariants as lead
+use Rattle.scalar.specs.declared.refusals.Refused.{Refused}
+use Rattle.scalar.specs.declared.refusals.Refusal.TheVariants as refusal
 use Rattle.scalar.specs.Chart.{lead_of}
 use Rattle.scalar.proofs.ChartLaws.{int_lead, long_lead, text_lead, definition_lead}
 use Rattle.scalar.proofs.ScalarLaws.{is_scalar, close_shut, reserved_shut}
 use Rattle.scalar.specs.contracts.Lead.{the_type}
+use Rattle.record.specs.declared.Group.TheVariants.{Pairs}
 use Rattle.record.specs.Model.Items.{Known}
 use Rattle.record.specs.Model.Reading.{ValueHead, leaf}
 use Rattle.record.specs.Model.Answers.{base}
@@ -23,7 +27,7 @@ use Rattle.record.proofs.ForReader.ReadDefinitions.{below_none}
 use Rattle.reader.specs.declared.heads.TypeItem.TheVariants.{Untyped}
 use Rattle.reader.specs.declared.heads.Head.{Head}
 use Rattle.reader.specs.declared.heads.Head.TheVariants as head
-use Rattle.reader.specs.Promises.{group_numbers, PlaceIn, LeadAt, High, IsListOrMap, HeadIs, NoDefinition}
+use Rattle.reader.specs.Promises.{refused, PlaceIn, LeadAt, High, IsListOrMap, HeadIs, NoDefinition}
 use Rattle.reader.specs.Promises.{HeadAtMet, LeafHeadMet, PlainHeadMet, HolderHeadMet}
 use Rattle.reader.proofs.Leaves.{byte_small, lead_at_form, lead_at_lost}
 use Rattle.reader.proofs.Holders.{map_is}
@@ -37,9 +41,6 @@ pub lead_at_by : (m : List ℕ) (p : ℕ) → PlaceIn m p → p < length m → (
 lead_at_by m p a i l is x e = record { bytes = a.bytes; inside = i; lead = sym is ∙ e }
 
 -- ---- a first byte of the upper half
-pub high_here : (m : List ℕ) (p b : ℕ) → PlaceIn m p → p < length m → b ≡ get_or m p 0 → 0x80 ≤ b → High m p b
-high_here m p b a i e u = record { bytes = a.bytes; inside = i; is = e; upper = u }
-
 module _ (m : List ℕ) (p b : ℕ) (h : High m p b) where
   pub high_int : b < 0xd8 → LeadAt m p (lead.Number Int)
   high_int l = record {
@@ -137,72 +138,68 @@ pub lead_short : (b : ℕ) → b < 0x20 → lead.Text ≡ lead_of b
 lead_short b l = sym (text_lead b l)
 
 module _ (d : ℕ) (m : List ℕ) (c : Known) (p : ℕ) where
-  full : (l : Lead) → LeadAt m p l → T (holds (form_by l (get_or m p 0))) → d ≡ 0 → HeadIs m c p d (head.Refused 7 p)
+  full : (l : Lead) → LeadAt m p l → T (holds (form_by l (get_or m p 0))) → d ≡ 0 → HeadIs m c p d (Err (refused refusal.Ceiling p))
   full l h i e =
-      lead_at_lost m p l h d c 7 p (form_full base (below base d) c m p h.inside (form_by l (get_or m p 0))
+      lead_at_lost m p l h d c (refused refusal.Ceiling p) (form_full base (below base d) c m p h.inside (form_by l (get_or m p 0))
       (lead_at_form m p l h) i (below_none base d e))
 
-  pub opens_none : (l : Lead) → LeadAt m p l → IsListOrMap l → d ≡ 0 → HeadIs m c p d (head.Refused 7 p)
+  pub opens_none : (l : Lead) → LeadAt m p l → IsListOrMap l → d ≡ 0 → HeadIs m c p d (Err (refused refusal.Ceiling p))
   opens_none l h i e = full l h (holding_form l (get_or m p 0) i) e
 
-  pub opens_one : (r : Head) → HolderHeadMet m c p r → (d ≡ 0 → ⊥) → HeadIs m c p d r
+  pub opens_one : (r : Result Head Refused) → HolderHeadMet m c p r → (d ≡ 0 → ⊥) → HeadIs m c p d r
   opens_one r h z = h.heads d (omega arith)
 
   pub opens_map : (l : Lead) → LeadAt m p l → l ≡ lead.Map → (d ≡ 0 → ⊥)
-      → HeadIs m c p d (head.Holder (group_numbers 3 0 0) (p + 1) Untyped)
+      → HeadIs m c p d (Ok (head.Holder Pairs (p + 1) Untyped))
   opens_map l h e z =
-      opens_one (head.Holder (group_numbers 3 0 0) (p + 1) Untyped) (map_is m c p (lead_at_as m p l h lead.Map e)) z
+      opens_one (Ok (head.Holder Pairs (p + 1) Untyped)) (map_is m c p (lead_at_as m p l h lead.Map e)) z
 
   -- ---- whatever stands at p
-  value : (r : Head) → HeadIs m c p d r → NoDefinition m p → HeadAtMet m c p d r
-  value (head.Leaf k x y q) h u = record { says = (h, u) }
-  value (head.Holder g q of) h u = record { says = (h, u) }
-  value head.Definition h u = absurd h.goes
-  value (head.Refused x o) h u = record { says = (h, u) }
+  value : (r : Result Head Refused) → HeadIs m c p d r → NoDefinition m p → HeadAtMet m c p d r
+  value (Ok (head.Leaf k x y q)) h u = record { says = (h, u) }
+  value (Ok (head.Holder g q of)) h u = record { says = (h, u) }
+  value (Ok head.Definition) h u = absurd h.goes
+  value (Err r) h u = record { says = (h, u) }
 
-  pub head_off : (r : Head) → r ≡ head.Refused 2 p → length m ≤ p → HeadAtMet m c p d r
-  head_off r e l =
-      rw e (record {
-        says = (record { says = run_end (plain base d) c m p l; goes = tt; named = tt }, λ i. absurd (omega arith));
-      })
+  pub head_off : length m ≤ p → HeadAtMet m c p d (Err (refused refusal.Cut p))
+  head_off l = record {
+    says = (record { says = run_end (plain base d) c m p l; goes = tt; named = tt }, λ i. absurd (omega arith));
+  }
 
-  pub head_high : (b : ℕ) → PlaceIn m p → p < length m → b ≡ get_or m p 0 → 0x80 ≤ b → (r : Head) → LeafHeadMet m p r
-      → HeadAtMet m c p d r
+  pub head_high : (b : ℕ) → PlaceIn m p → p < length m → b ≡ get_or m p 0 → 0x80 ≤ b
+      → (r : Result Head Refused) → LeafHeadMet m p r → HeadAtMet m c p d r
   head_high b a i e u r h = value r (h.heads d c) (λ l. ne_eqb (get_or m p 0) 0x43 (λ z. omega arith))
 
   module _ (a : PlaceIn m p) (i : p < length m) (l : Lead) (is : l ≡ lead_of (get_or m p 0)) where
     lead_here : (x : Lead) → l ≡ x → LeadAt m p x
     lead_here x e = lead_at_by m p a i l is x e
 
-    leaf_at : (x : Lead) → Plain x → l ≡ x → (r : Head) → LeafHeadMet m p r → HeadAtMet m c p d r
+    leaf_at : (x : Lead) → Plain x → l ≡ x → (r : Result Head Refused) → LeafHeadMet m p r → HeadAtMet m c p d r
     leaf_at x t e r h = value r (h.heads d c) (no_definition m p x (lead_here x e) t)
 
-    pub head_number : (s : Sort) → l ≡ lead.Number s → (r : Head) → LeafHeadMet m p r → HeadAtMet m c p d r
+    pub head_number : (s : Sort) → l ≡ lead.Number s → (r : Result Head Refused) → LeafHeadMet m p r → HeadAtMet m c p d r
     head_number s = leaf_at (lead.Number s) tt
 
-    pub head_text : l ≡ lead.Text → (r : Head) → LeafHeadMet m p r → HeadAtMet m c p d r
+    pub head_text : l ≡ lead.Text → (r : Result Head Refused) → LeafHeadMet m p r → HeadAtMet m c p d r
     head_text = leaf_at lead.Text tt
 
-    pub head_bytes : l ≡ lead.Bytes → (r : Head) → LeafHeadMet m p r → HeadAtMet m c p d r
+    pub head_bytes : l ≡ lead.Bytes → (r : Result Head Refused) → LeafHeadMet m p r → HeadAtMet m c p d r
     head_bytes = leaf_at lead.Bytes tt
 
-    pub head_reference : l ≡ lead.Reference → (r : Head) → PlainHeadMet m c p r → HeadAtMet m c p d r
+    pub head_reference : l ≡ lead.Reference → (r : Result Head Refused) → PlainHeadMet m c p r → HeadAtMet m c p d r
     head_reference e r h = value r (h.heads d) (no_definition m p lead.Reference (lead_here lead.Reference e) tt)
 
-    pub head_definition : l ≡ lead.Definition → HeadAtMet m c p d head.Definition
-    head_definition e = record { says = lead_here lead.Definition e }
-
-    pub head_full : l ≡ lead.Object → d ≡ 0 → (r : Head) → r ≡ head.Refused 7 p → HeadAtMet m c p d r
-    head_full e z r s =
+    pub head_full : l ≡ lead.Object → d ≡ 0 → HeadAtMet m c p d (Err (refused refusal.Ceiling p))
+    head_full e z =
         let h = lead_here lead.Object e in
         let t : T (holds (form_by lead.Object (get_or m p 0))) =
         pick_either (λ (f : ValueHead). T (holds f)) (eqb (get_or m p 0) 0x4f) (λ y. tt) (λ y. tt) in
-        rw s (value (head.Refused 7 p) (full lead.Object h t z) (no_definition m p lead.Object h tt))
+        value (Err (refused refusal.Ceiling p)) (full lead.Object h t z) (no_definition m p lead.Object h tt)
 
-    pub head_object : l ≡ lead.Object → (d ≡ 0 → ⊥) → (r : Head) → HolderHeadMet m c p r → HeadAtMet m c p d r
+    pub head_object : l ≡ lead.Object → (d ≡ 0 → ⊥) → (r : Result Head Refused) → HolderHeadMet m c p r → HeadAtMet m c p d r
     head_object e z r h = value r (opens_one r h z) (no_definition m p lead.Object (lead_here lead.Object e) tt)
 
-    pub head_opening : OneOf holders (tag_of the_type l) → (r : Head) → HeadIs m c p d r → HeadAtMet m c p d r
+    pub head_opening : OneOf holders (tag_of the_type l) → (r : Result Head Refused) → HeadIs m c p d r → HeadAtMet m c p d r
     head_opening t r h = value r h (no_definition m p l (lead_here l refl) (go l t))
       where
         go : (l : Lead) → OneOf holders (tag_of the_type l) → Plain l
@@ -220,16 +217,16 @@ module _ (d : ℕ) (m : List ℕ) (c : Known) (p : ℕ) where
         go lead.Reserved t = tt
 
     -- a byte that opens nothing
-    pub head_none : OneOf valueless (tag_of the_type l) → (r : Head) → r ≡ head.Refused 3 p → HeadAtMet m c p d r
-    head_none t r e = rw e (go l (lead_here l refl) t)
+    pub head_none : OneOf valueless (tag_of the_type l) → HeadAtMet m c p d (Err (refused refusal.Byte p))
+    head_none t = go l (lead_here l refl) t
       where
         none : (l : Lead) (h : LeadAt m p l) → Plain l → form_by l (get_or m p 0) ≡ leaf → is_scalar (get_or m p 0) ≡ false
-            → HeadAtMet m c p d (head.Refused 3 p)
+            → HeadAtMet m c p d (Err (refused refusal.Byte p))
         none l h u f s =
-            value (head.Refused 3 p) (lead_at_lost m p l h d c 3 p (leaf_none base (below base d) c m p i
+            value (Err (refused refusal.Byte p)) (lead_at_lost m p l h d c (refused refusal.Byte p) (leaf_none base (below base d) c m p i
             (lead_at_form m p l h ∙ f) s)) (no_definition m p l h u)
 
-        go : (l : Lead) → LeadAt m p l → OneOf valueless (tag_of the_type l) → HeadAtMet m c p d (head.Refused 3 p)
+        go : (l : Lead) → LeadAt m p l → OneOf valueless (tag_of the_type l) → HeadAtMet m c p d (Err (refused refusal.Byte p))
         go (lead.Number s) h t = absurd (miss valueless 0 tt t)
         go lead.Text h t = absurd (miss valueless 1 tt t)
         go lead.Bytes h t = absurd (miss valueless 2 tt t)

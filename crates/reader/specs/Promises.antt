@@ -1,91 +1,79 @@
 -- What the contracts inside the reader say, over record's laws of a reader at a place of the whole message. None of it
 -- has to be believed.
 --
--- m is the message, t and b are the tables of numbers and of bytes, and ks is what is known, as the code keeps it;
--- t', b' and ks' are the same afterwards. s and s' are where reading is before and after. Numbers that are too few for
--- a row are no table, but a sum of lengths.
-use Rattle.std.specs.Prelude.{◌≡◌, ℕ, zero, suc, ◌+◌, ◌-◌, ◌%◌, ◌^◌, ◌<◌, ◌≤◌, true, false, ◌⊎◌, List, [], ◌∷◌, map, length, replicate, ◌==◌, ◌≢◌, nat_lt, slice_index, slice_index_or, slice_set}
+-- m is the message, t the numbers that are lent for rows, K what keeping a row makes of them, and ks what is known, as
+-- the code keeps it; t' and ks' are the same afterwards. s and s' are where reading is before and after.
+use Rattle.std.specs.Prelude.{◌≡◌, ℕ, ◌+◌, ◌-◌, ◌^◌, ◌<◌, ◌≤◌, ◌≢◌, ◌⊎◌, false, List, [], ◌∷◌, map, length, ◌==◌, slice_index, slice_get}
+use Rattle.std.specs.Prelude.{Some, None, Result, Ok, Err, IfOk}
+use Rattle.std.specs.declared.option.Option as code-option
 use Rattle.std.proofs.Math.Option.{Option, none, some}
-use Rattle.scalar.specs.Scalars.{Floats, Thousandths}
-use Rattle.flow.specs.RefusalNumbers.{negative, ungiven, over_ceiling}
-use Rattle.flow.specs.Flow.{pick, Bytes, Done, Fault, One, byte_at, put, overlay}
+use Rattle.scalar.specs.Scalars.{DoubleRule, Floats}
+use Rattle.flow.specs.Flow.{Bytes, Done, One, byte_at, overlay}
 use Rattle.scalar.specs.declared.Lead.{Lead}
 use Rattle.scalar.specs.declared.Lead.TheVariants as lead
 use Rattle.scalar.specs.declared.Sort.TheVariants.{Int}
-use Rattle.scalar.specs.declared.Encoding.TheVariants.{Utf8, Binary}
+use Rattle.scalar.specs.declared.Encoding.TheVariants.{Utf8}
+use Rattle.scalar.specs.declared.refusals.Refusal.{Refusal}
+use Rattle.scalar.specs.declared.refusals.Refusal.TheVariants.{Negative, Ungiven, Ceiling}
+use Rattle.scalar.specs.declared.refusals.Refused.{Refused}
+use Rattle.scalar.specs.Refusals.{number_of, fault}
 use Rattle.scalar.specs.Scalars.{is_text}
 use Rattle.scalar.specs.Chart.{lead_of}
 use Rattle.scalar.specs.Answers.{number_at}
+use Rattle.numbers.specs.declared.NumberPassed.{NumberPassed}
 use Rattle.texts.specs.Answers.{StringHas}
 use Rattle.record.specs.declared.Group.{Group}
-use Rattle.record.specs.declared.Group.TheVariants.{Counted, Fields, Open, Pairs}
-use Rattle.record.specs.Model.Kinds.{bytes_kind, class_name_kind, type_name_kind, type_number_kind}
-use Rattle.record.specs.Model.Items.{Definition, Known, start, opened, typed, defined}
+use Rattle.record.specs.declared.Group.TheVariants.{Counted, Fields, Open}
+use Rattle.record.specs.declared.known.Known as code
+use Rattle.record.specs.Model.Kinds.{class_name_kind, type_name_kind, type_number_kind}
+use Rattle.record.specs.Model.KindNumbers.{kind_number}
+use Rattle.record.specs.Model.Items.{Item, Definition, Known, start, opened, typed, defined}
 use Rattle.record.specs.Model.Reading.{type_from, definition, value_from}
 use Rattle.record.specs.Model.Rows.{Row, row}
-use Rattle.record.specs.Model.Claims.{is_text_kind}
-use Rattle.record.specs.Model.Answers.{Layout, Refuse, read, base, base_open_from, as_numbers, as_bytes, read_numbers}
-use Rattle.record.specs.Model.Answers.{lent_rows, filled, shortest_length, length_answered}
+use Rattle.record.specs.Model.Answers.{Layout, Refuse, read, base, lent_rows, length_answered}
+use Rattle.record.specs.Model.Calls.{ReadCall}
 use Rattle.record.specs.ForReader.ReadingAt.{ReadingAt, ReadTo, RefusedAt, run, front, on, topped, numbered}
-use Rattle.record.specs.Model.Terms.{first_in_thousandths, row_in_thousandths}
+use Rattle.record.specs.Model.Terms.{row_in_thousandths}
 use Rattle.record.specs.ForReader.Retelling.{HeldRows}
 use Rattle.record.specs.ForReader.ReadLoops.{rest, parts}
 use Rattle.record.specs.ForReader.ReadValues.{heading}
 use Rattle.record.specs.ForReader.ReadDefinitions.{names_left, plain}
-use Rattle.record.specs.Laws.RowLengths.{row_length, length_under}
-use Rattle.record.specs.Laws.KnownArray.{known_in, Kept, classes_slot, types_slot, references_slot, known_size}
+use Rattle.record.specs.Laws.KnownLaws.{known_in, Kept}
+use Rattle.reader.specs.declared.Filled.{Filled}
+use Rattle.reader.specs.declared.ReadError.{ReadError}
 use Rattle.reader.specs.declared.Spot.{Spot}
 use Rattle.reader.specs.declared.heads.TypeItem.{TypeItem}
 use Rattle.reader.specs.declared.heads.TypeItem.TheVariants.{Untyped, Named, Numbered}
-use Rattle.reader.specs.declared.heads.GroupNumbers.{GroupNumbers}
+use Rattle.reader.specs.declared.heads.TypeRead.{TypeRead}
 use Rattle.reader.specs.declared.heads.Head.{Head}
 use Rattle.reader.specs.declared.heads.Head.TheVariants as head
-use Rattle.reader.specs.declared.heads.Count.{Count}
-use Rattle.reader.specs.declared.heads.Count.TheVariants as count
-use Rattle.reader.specs.declared.heads.TypeRead.{TypeRead}
-use Rattle.reader.specs.declared.heads.TypeRead.TheVariants as type-read
 use Rattle.reader.specs.declared.definitions.ClassRead.{ClassRead}
-use Rattle.reader.specs.declared.definitions.ClassRead.TheVariants as class-read
-use Rattle.reader.specs.declared.definitions.NamesRead.{NamesRead}
-use Rattle.reader.specs.declared.definitions.NamesRead.TheVariants as names-read
-use Rattle.reader.specs.declared.definitions.DefinitionRead.{DefinitionRead}
-use Rattle.reader.specs.declared.definitions.DefinitionRead.TheVariants as definition-read
+use Rattle.reader.specs.declared.values.Holder.{Holder}
 use Rattle.reader.specs.declared.values.Beginning.{Beginning}
-use Rattle.reader.specs.declared.values.Beginning.TheVariants as beginning
 use Rattle.reader.specs.declared.values.ValuesRead.{ValuesRead}
-use Rattle.reader.specs.declared.values.ValuesRead.TheVariants as values-read
-use Rattle.reader.specs.declared.Judged.{Judged}
-use Rattle.reader.specs.declared.Judged.TheVariants as judged
-use Rattle.reader.specs.declared.FillAnswer.{FillAnswer}
-use Rattle.reader.specs.declared.FillAnswer.TheVariants as fill
-use Rattle.reader.specs.declared.ReadAnswer.{ReadAnswer}
-use Rattle.reader.specs.declared.ReadAnswer.TheVariants as answer
-use Rattle.reader.specs.Answers.{fill_report, shortest}
+use Rattle.reader.specs.Answers.{fill_report}
+use Rattle.reader.specs.Slots.{Keeping, keep_all, RowRead}
 
--- ---- how values are counted, as the code keeps it
-abbrev group_by : ℕ → ℕ → ℕ → Group
-group_by zero n k = Counted n
-group_by (suc zero) n k = Fields k n
-group_by (suc (suc zero)) n k = Open
-group_by (suc (suc (suc s))) n k = Pairs
+-- ---- refusals
+abbrev pub refused : Refusal → ℕ → Refused
+refused x p = record { refusal = x; place = p }
 
-abbrev pub group_of : GroupNumbers → Group
-group_of g = group_by g.shape g.count g.class
+-- what a reading is that is refused so
+abbrev pub lost : {A : Type 0} → Refused → ReadingAt A
+lost r = RefusedAt (number_of r.refusal) r.place
 
-abbrev pub group_numbers : ℕ → ℕ → ℕ → GroupNumbers
-group_numbers s n k = record { shape = s; count = n; class = k }
-
+-- ---- places
 -- a place of a message of bytes
 pub record PlaceIn (m : List ℕ) (p : ℕ) : Type 0 where
   pub bytes : Bytes m
   pub within : p ≤ length m
 
 -- where reading can be, with no more rows and references so far than bytes
-pub record ReadyAt (m ks : List ℕ) (s : Spot) : Type 0 where
+pub record ReadyAt (m : List ℕ) (ks : code.Known) (s : Spot) : Type 0 where
   pub at : PlaceIn m s.at
   pub kept : Kept ks
   pub rows_few : s.row ≤ s.at
-  pub references_few : slice_index_or ks references_slot 0 ≤ s.at
+  pub references_few : ks.references ≤ s.at
 
 -- a byte stands at p, and opens this
 pub record LeadAt (m : List ℕ) (p : ℕ) (x : Lead) : Type 0 where
@@ -121,110 +109,55 @@ IsListOrMap lead.Definition = ⊥
 IsListOrMap lead.Close = ⊥
 IsListOrMap lead.Reserved = ⊥
 
--- ---- 2026-06: a row whose length can be told: the text or byte string that it names was read
-pub record RowRead (m : List ℕ) (k p x y : ℕ) : Type 0 where
-  pub kind : k ≤ type_number_kind
-  pub text : is_text_kind k ≡ true → StringHas Utf8 m p x y
-  pub binary : k ≡ bytes_kind → StringHas Binary m p x x
+-- ---- rows from the row k on are kept
+pub record StoresRows (K : Keeping) (m t : List ℕ) (k : ℕ) (rs : List Row) (t' : List ℕ) : Type 0 where
+  pub kept : t' ≡ keep_all K m t k (numbered k rs)
 
--- a row's own bytes, by its kind and its first number alone
-pub record OwnLength (k x n : ℕ) : Type 0 where
-  pub own : (m : List ℕ) (p y e : ℕ) → n ≡ row_length m (row k p x y e)
-
--- a row's first number, as so many numbers measure it
-abbrev pub first_by : ℕ → List ℕ → Row → ℕ
-first_by zero m r = r.first
-first_by (suc zero) m r = r.first
-first_by (suc (suc zero)) m r = first_in_thousandths m r
-first_by (suc (suc (suc w))) m r = r.first
-
--- so many bytes more in the first number, in 64 bits
-abbrev pub add_to : List ℕ → ℕ → List ℕ
-add_to t n = slice_set t 0 ((slice_index t 0 + n) % 2 ^ 64)
-
--- one number lent is a sum of rows' own bytes by the main rule of 5f, two in thousandths: with those of the row r. More
--- are a table
-abbrev pub adding : ℕ → List ℕ → List ℕ → Row → List ℕ
-adding zero m t r = t
-adding (suc zero) m t r = add_to t (length_under Floats m r)
-adding (suc (suc zero)) m t r = add_to t (length_under Thousandths m r)
-adding (suc (suc (suc w))) m t r = t
-
--- w numbers, where n rows of bytes are lent, with the row k: a table has it, where it fits; a sum has its length, where
--- the bytes do not have it
-abbrev pub noted : ℕ → ℕ → List ℕ → List ℕ → ℕ → Row → List ℕ
-noted zero n m t k r = t
-noted (suc zero) n m t k r = pick (nat_lt k n) t (adding 1 m t r)
-noted (suc (suc zero)) n m t k r = pick (nat_lt k n) t (adding 2 m t r)
-noted (suc (suc (suc w))) n m t k r = put as_numbers.width as_numbers.encode t k r
-
--- with rows from the row k on
-abbrev pub noted_all : ℕ → ℕ → List ℕ → List ℕ → ℕ → List Row → List ℕ
-noted_all w n m t k [] = t
-noted_all w n m t k (r ∷ rs) = noted_all w n m (noted w n m t k r) (suc k) rs
-
--- numbers lent for a sum, which is 0 so far
-pub record IsSum (s : List ℕ) : Type 0 where
-  pub some : 0 < length s
-  pub few : length s ≤ 2
-  pub none_yet : slice_index_or s 0 0 ≡ 0
-
--- the length of the record's shortest message, as so many numbers measure it
-abbrev pub length_by : ℕ → List ℕ → ℕ
-length_by zero m = 0
-length_by (suc zero) m = shortest_length Floats base base_open_from m
-length_by (suc (suc w)) m = shortest_length Thousandths base base_open_from m
-
--- ---- the row k in the two tables; rows in them from the row k on
-pub record StoresRow (m t b : List ℕ) (k : ℕ) (r : Row) (t' b' : List ℕ) : Type 0 where
-  pub numbers : t' ≡ noted (length t) (lent_rows as_bytes b) m t k r
-  pub bytes : b' ≡ put as_bytes.width as_bytes.encode b k r
-
-pub record StoresRows (m t b : List ℕ) (k : ℕ) (rs : List Row) (t' b' : List ℕ) : Type 0 where
-  pub numbers : t' ≡ noted_all (length t) (lent_rows as_bytes b) m t k (numbered k rs)
-  pub bytes : b' ≡ overlay as_bytes.width as_bytes.encode b k (numbered k rs)
-
--- the rows rs were read, and are in the tables
-pub record ReadsRows (m t b : List ℕ) (s s' : Spot) (t' b' ks' : List ℕ) (rs : List Row) : Type 0 where
+-- the rows rs were read, and are kept
+pub record ReadsRows (K : Keeping) (m t : List ℕ) (s s' : Spot) (t' : List ℕ) (ks' : code.Known) (rs : List Row)
+    : Type 0 where
   pub counted : s'.row ≡ s.row + length rs
-  pub stores : StoresRows m t b s.row rs t' b'
+  pub stores : StoresRows K m t s.row rs t'
   pub onward : s.at ≤ s'.at
   pub ready : ReadyAt m ks' s'
 
 -- ---- counts
 -- a negative one; more than the fields of a class may be
-pub record Negative (m : List ℕ) (p x o : ℕ) : Type 0 where
+pub record IsNegative (m : List ℕ) (p : ℕ) (r : Refused) : Type 0 where
   pub size : ℕ
   pub value : ℕ
   pub is : number_at Int m p ≡ Done size value [] tt
   pub below : 2 ^ 63 ≤ value
-  pub number : x ≡ negative
-  pub place : o ≡ p
+  pub refusal : r ≡ refused Negative p
 
-pub record Wide (m : List ℕ) (p x o : ℕ) : Type 0 where
+pub record IsWide (m : List ℕ) (p : ℕ) (r : Refused) : Type 0 where
   pub size : ℕ
   pub value : ℕ
   pub is : number_at Int m p ≡ Done size value [] tt
   pub above : base.fields < value
   pub plain : value < 2 ^ 63
-  pub number : x ≡ over_ceiling
-  pub place : o ≡ p
+  pub refusal : r ≡ refused Ceiling p
 
-abbrev pub CountSays : List ℕ → ℕ → Count → Type 0
-CountSays m p (count.Is v n) =
-    (number_at Int m p ≡ Done n v [] tt)
-    × (v < 2 ^ 63) × (0 < n) × (p + n ≤ length m)
-CountSays m p (count.Refused x o) = (number_at Int m p ≡ Fault x o) ⊎ Negative m p x o
+-- the count at p, below a limit
+pub record CountIs (m : List ℕ) (p limit : ℕ) (n : NumberPassed) : Type 0 where
+  pub is : number_at Int m p ≡ Done n.size n.value [] tt
+  pub few : n.value < limit
+  pub some : 0 < n.size
+  pub within : p + n.size ≤ length m
 
-pub record CountMet (m : List ℕ) (p : ℕ) (r : Count) : Type 0 where
+abbrev pub CountSays : List ℕ → ℕ → Result NumberPassed Refused → Type 0
+CountSays m p (Ok n) = CountIs m p (2 ^ 63) n
+CountSays m p (Err r) = (number_at Int m p ≡ fault r) ⊎ IsNegative m p r
+
+pub record CountMet (m : List ℕ) (p : ℕ) (r : Result NumberPassed Refused) : Type 0 where
   pub says : CountSays m p r
 
 -- ---- types
 -- the type number, where so many are given; the rows of the type at p; what is known after it
-abbrev pub type_of : ℕ → TypeItem → Option ℕ
-type_of given Untyped = none
-type_of given (Named u b) = some given
-type_of given (Numbered k) = some k
+abbrev pub type_of : ℕ → TypeItem → code-option.Option ℕ
+type_of given Untyped = None
+type_of given (Named u b) = Some given
+type_of given (Numbered k) = Some k
 
 abbrev pub type_rows : ℕ → TypeItem → List Row
 type_rows p Untyped = []
@@ -242,118 +175,109 @@ TypeRoom Untyped given = Unit {0}
 TypeRoom (Named u b) given = given < base.types
 TypeRoom (Numbered k) given = Unit {0}
 
--- the kind of a typed row is one more; its second number
-abbrev pub type_tag : TypeItem → ℕ
-type_tag Untyped = 0
-type_tag (Named u b) = 1
-type_tag (Numbered k) = 1
-
-abbrev pub type_second : ℕ → TypeItem → ℕ
-type_second given Untyped = 0
-type_second given (Named u b) = given
-type_second given (Numbered k) = k
-
 -- its name was read
 abbrev pub TypeNamed : List ℕ → ℕ → TypeItem → Type 0
 TypeNamed m p Untyped = Unit {0}
 TypeNamed m p (Named u b) = StringHas Utf8 m p u b
 TypeNamed m p (Numbered k) = Unit {0}
 
--- the type at p is read, up to q, where so many types are given
-pub record TypeIs (m : List ℕ) (given p : ℕ) (of : TypeItem) (q : ℕ) : Type 0 where
+-- the type at p is read, where so many types are given
+pub record TypeIs (m : List ℕ) (given p : ℕ) (t : TypeRead) : Type 0 where
   pub number : ℕ
-  pub numbered : type_of given of ≡ some number
+  pub numbered : type_of given t.of ≡ Some number
   pub says :
       (c : Known) → c.types ≡ given
-      → run (byte_at (type_from base)) c m p ≡ ReadTo q number (type_rows p of) (typed_by of c)
-  pub room : TypeRoom of given
-  pub longer : p + length (type_rows p of) ≤ q
-  pub within : q ≤ length m
-  pub named : TypeNamed m p of
+      → run (byte_at (type_from base)) c m p ≡ ReadTo t.next number (type_rows p t.of) (typed_by t.of c)
+  pub room : TypeRoom t.of given
+  pub longer : p + length (type_rows p t.of) ≤ t.next
+  pub within : t.next ≤ length m
+  pub named : TypeNamed m p t.of
 
-abbrev pub TypeReadSays : List ℕ → ℕ → ℕ → TypeRead → Type 0
-TypeReadSays m given p (type-read.Is of q) = TypeIs m given p of q
-TypeReadSays m given p (type-read.Refused x o) =
-    (c : Known) → c.types ≡ given
-    → run (byte_at (type_from base)) c m p ≡ RefusedAt x o
+abbrev pub TypeReadSays : List ℕ → ℕ → ℕ → Result TypeRead Refused → Type 0
+TypeReadSays m given p (Ok t) = TypeIs m given p t
+TypeReadSays m given p (Err r) = (c : Known) → c.types ≡ given → run (byte_at (type_from base)) c m p ≡ lost r
 
-pub record TypeReadMet (m : List ℕ) (given p : ℕ) (r : TypeRead) : Type 0 where
+pub record TypeReadMet (m : List ℕ) (given p : ℕ) (r : Result TypeRead Refused) : Type 0 where
   pub says : TypeReadSays m given p r
 
--- a list, map or object of this type opens, and its type has n rows
-pub record EntersHolder (ks : List ℕ) (of : TypeItem) (n : ℕ) (ks' : List ℕ) : Type 0 where
+-- a list, map or object of this type opens: its type's number
+pub record EntersHolder (ks : code.Known) (of : TypeItem) (n : code-option.Option ℕ) (ks' : code.Known) : Type 0 where
+  pub number : n ≡ type_of ks.types of
   pub known : known_in ks' ≡ typed_by of (opened (known_in ks))
-  pub rows : (p : ℕ) → n ≡ length (type_rows p of)
   pub kept : Kept ks'
-  pub references : slice_index_or ks' references_slot 0 ≡ slice_index ks references_slot + 1
+  pub references : ks'.references ≡ ks.references + 1
 
 -- ---- heads
+-- the item of a list, map or object, by its type's number and how many it has
+abbrev pub as_option : code-option.Option ℕ → Option ℕ
+as_option None = none
+as_option (Some n) = some n
+
+abbrev pub headed_by : Group → code-option.Option ℕ → ℕ → Item
+headed_by g number n = heading g (as_option number) n
+
 -- what the list, map or object at p reads as, after what stands before its values, which are read from q on where c is
--- known; d: how many containers may open within it
-abbrev pub holder_read : List ℕ → Known → ℕ → ℕ → GroupNumbers → ℕ → TypeItem → Option ℕ → ReadingAt One
-holder_read m c p d g q of number =
-    topped p (heading (group_of g) number)
-    (front (type_rows (p + 1) of) (run (rest (value_from Floats base d) (group_of g) 0) c m q))
+-- known; d: how many containers may open within it; ys: the rows of its type
+abbrev pub holder_read : List ℕ → Known → ℕ → ℕ → Group → ℕ → List Row → code-option.Option ℕ → ReadingAt One
+holder_read m c p d g q ys number =
+    topped p (headed_by g number) (front ys (run (rest (value_from Floats base d) g 0) c m q))
 
 -- the value at p, with no definitions before it, by its head, where c is known; d: how many containers may open
-abbrev pub read_by_head : List ℕ → Known → ℕ → ℕ → Head → ReadingAt One
-read_by_head m c p d (head.Leaf k x y q) = ReadTo q tt (row k p x y 1 ∷ []) c
-read_by_head m c p d (head.Holder g q of) = holder_read m (typed_by of (opened c)) p (d - 1) g q of (type_of c.types of)
-read_by_head m c p d head.Definition = RefusedAt 3 p
-read_by_head m c p d (head.Refused x o) = RefusedAt x o
+abbrev pub read_by_head : List ℕ → Known → ℕ → ℕ → Result Head Refused → ReadingAt One
+read_by_head m c p d (Ok (head.Leaf k x y q)) = ReadTo q tt (row (kind_number k) p x y 1 ∷ []) c
+read_by_head m c p d (Ok (head.Holder g q of)) =
+    holder_read m (typed_by of (opened c)) p (d - 1) g q (type_rows (p + 1) of) (type_of c.types of)
+read_by_head m c p d (Ok head.Definition) = RefusedAt 3 p
+read_by_head m c p d (Err r) = lost r
 
 -- how far the head goes, and what may open
-abbrev pub HeadGoes : List ℕ → Known → ℕ → ℕ → Head → Type 0
-HeadGoes m c p d (head.Leaf k x y q) = (p < q) × (q ≤ length m)
-HeadGoes m c p d (head.Holder g q of) =
+abbrev pub HeadGoes : List ℕ → Known → ℕ → ℕ → Result Head Refused → Type 0
+HeadGoes m c p d (Ok (head.Leaf k x y q)) = (p < q) × (q ≤ length m)
+HeadGoes m c p d (Ok (head.Holder g q of)) =
     (0 < d) × TypeRoom of c.types
     × (p + 1 + length (type_rows (p + 1) of) ≤ q) × (q ≤ length m)
-HeadGoes m c p d head.Definition = ⊥
-HeadGoes m c p d (head.Refused x o) = Unit {0}
+HeadGoes m c p d (Ok head.Definition) = ⊥
+HeadGoes m c p d (Err r) = Unit {0}
 
 -- the texts and byte strings that its rows name
-abbrev pub HeadRows : List ℕ → ℕ → Head → Type 0
-HeadRows m p (head.Leaf k x y q) = RowRead m k p x y
-HeadRows m p (head.Holder g q of) = TypeNamed m (p + 1) of
-HeadRows m p head.Definition = Unit {0}
-HeadRows m p (head.Refused x o) = Unit {0}
+abbrev pub HeadRows : List ℕ → ℕ → Result Head Refused → Type 0
+HeadRows m p (Ok (head.Leaf k x y q)) = (e : ℕ) → RowRead m (row (kind_number k) p x y e)
+HeadRows m p (Ok (head.Holder g q of)) = TypeNamed m (p + 1) of
+HeadRows m p (Ok head.Definition) = Unit {0}
+HeadRows m p (Err r) = Unit {0}
 
-pub record HeadIs (m : List ℕ) (c : Known) (p d : ℕ) (r : Head) : Type 0 where
+pub record HeadIs (m : List ℕ) (c : Known) (p d : ℕ) (r : Result Head Refused) : Type 0 where
   pub says : run (byte_at (plain base d)) c m p ≡ read_by_head m c p d r
   pub goes : HeadGoes m c p d r
   pub named : HeadRows m p r
 
 -- whatever is known, and however many may open; where c is known; where c is known, and one more may open
-pub record LeafHeadMet (m : List ℕ) (p : ℕ) (r : Head) : Type 0 where
+pub record LeafHeadMet (m : List ℕ) (p : ℕ) (r : Result Head Refused) : Type 0 where
   pub heads : (d : ℕ) (c : Known) → HeadIs m c p d r
 
-pub record PlainHeadMet (m : List ℕ) (c : Known) (p : ℕ) (r : Head) : Type 0 where
+pub record PlainHeadMet (m : List ℕ) (c : Known) (p : ℕ) (r : Result Head Refused) : Type 0 where
   pub heads : (d : ℕ) → HeadIs m c p d r
 
-pub record HolderHeadMet (m : List ℕ) (c : Known) (p : ℕ) (r : Head) : Type 0 where
+pub record HolderHeadMet (m : List ℕ) (c : Known) (p : ℕ) (r : Result Head Refused) : Type 0 where
   pub heads : (d : ℕ) → 0 < d → HeadIs m c p d r
 
 -- what stands at p: a class definition, or a value, and then 43 does not stand there
 abbrev pub NoDefinition : List ℕ → ℕ → Type 0
 NoDefinition m p = p < length m → (slice_index m p == 0x43) ≡ false
 
-abbrev pub HeadAtSays : List ℕ → Known → ℕ → ℕ → Head → Type 0
-HeadAtSays m c p d (head.Leaf k x y q) = HeadIs m c p d (head.Leaf k x y q) × NoDefinition m p
-HeadAtSays m c p d (head.Holder g q of) = HeadIs m c p d (head.Holder g q of) × NoDefinition m p
-HeadAtSays m c p d head.Definition = LeadAt m p lead.Definition
-HeadAtSays m c p d (head.Refused x o) = HeadIs m c p d (head.Refused x o) × NoDefinition m p
+abbrev pub HeadAtSays : List ℕ → Known → ℕ → ℕ → Result Head Refused → Type 0
+HeadAtSays m c p d (Ok (head.Leaf k x y q)) = HeadIs m c p d (Ok (head.Leaf k x y q)) × NoDefinition m p
+HeadAtSays m c p d (Ok (head.Holder g q of)) = HeadIs m c p d (Ok (head.Holder g q of)) × NoDefinition m p
+HeadAtSays m c p d (Ok head.Definition) = LeadAt m p lead.Definition
+HeadAtSays m c p d (Err r) = HeadIs m c p d (Err r) × NoDefinition m p
 
-pub record HeadAtMet (m : List ℕ) (c : Known) (p d : ℕ) (r : Head) : Type 0 where
+pub record HeadAtMet (m : List ℕ) (c : Known) (p d : ℕ) (r : Result Head Refused) : Type 0 where
   pub says : HeadAtSays m c p d r
 
 -- a list of this type with the count that was read at p
-abbrev pub holder_of : TypeItem → ℕ → Count → Head
-holder_of of p (count.Is v n) = head.Holder (group_numbers 0 v 0) (p + n) of
-holder_of of p (count.Refused x o) = head.Refused x o
-
-abbrev pub CountFits : ℕ → Count → Type 0
-CountFits p (count.Is v n) = p + n < 2 ^ 64
-CountFits p (count.Refused x o) = Unit {0}
+abbrev pub holder_of : TypeItem → ℕ → Result NumberPassed Refused → Result Head Refused
+holder_of of p (Ok n) = Ok (head.Holder (Counted n.value) (p + n.size) of)
+holder_of of p (Err r) = Err r
 
 -- lists, by their first byte b: the open form, the counted form after it, the one-byte forms; the count or the values
 -- are at p
@@ -362,223 +286,207 @@ pub record ListAt (m : List ℕ) (p b open_code few : ℕ) : Type 0 where
   pub code : open_code + 1 < 256
   pub among : (b ≢ open_code) → (b ≢ open_code + 1) → few ≤ b
 
-pub record ListMet (m : List ℕ) (p : ℕ) (of : TypeItem) (b open_code few : ℕ) (r : Head) : Type 0 where
-  pub opens : b ≡ open_code → r ≡ head.Holder (group_numbers 2 0 0) p of
-  pub counts : b ≡ open_code + 1 → (n : Count) × CountMet m p n × (r ≡ holder_of of p n)
+pub record ListMet (m : List ℕ) (p : ℕ) (of : TypeItem) (b open_code few : ℕ) (r : Result Head Refused) : Type 0 where
+  pub opens : b ≡ open_code → r ≡ Ok (head.Holder Open p of)
+  pub counts : b ≡ open_code + 1 → (n : Result NumberPassed Refused) × CountMet m p n × (r ≡ holder_of of p n)
   pub fews :
       (b ≢ open_code) → (b ≢ open_code + 1)
-      → r ≡ head.Holder (group_numbers 0 (b - few) 0) p of
+      → r ≡ Ok (head.Holder (Counted (b - few)) p of)
 
--- an object of the class k, whose code stands at p and whose fields begin at q
-abbrev pub instance_of : List ℕ → ℕ → ℕ → ℕ → Head
-instance_of ks p k q = pick (nat_lt k (slice_index ks classes_slot))
-    (head.Holder (group_numbers 1 (slice_index ks k) k) q Untyped) (head.Refused ungiven p)
+-- an object of the class k, whose code stands at p and whose fields, if the class is given, begin at q
+abbrev pub instance_by : ℕ → ℕ → ℕ → code-option.Option ℕ → Result Head Refused
+instance_by p k q None = Err (refused Ungiven p)
+instance_by p k q (Some n) = Ok (head.Holder (Fields k n) q Untyped)
+
+abbrev pub instance_of : Known → ℕ → ℕ → ℕ → Result Head Refused
+instance_of c p k q = instance_by p k q (slice_get c.classes k)
 
 -- ---- a definition or a value, read whole: o is what the reading gives
-pub record ReadsOne (o : ReadingAt One) (m t b : List ℕ) (s s' : Spot) (t' b' ks' : List ℕ) : Type 0 where
+pub record ReadsOne (K : Keeping) (o : ReadingAt One) (m t : List ℕ) (s s' : Spot) (t' : List ℕ) (ks' : code.Known)
+    : Type 0 where
   pub rows : List Row
   pub says : o ≡ ReadTo s'.at tt rows (known_in ks')
-  pub reads : ReadsRows m t b s s' t' b' ks' rows
+  pub reads : ReadsRows K m t s s' t' ks' rows
   pub forward : s.at < s'.at
 
 -- ---- class definitions
--- the field count at p, after a name of u units and b bytes
-abbrev pub FieldCountSays : List ℕ → ℕ → ℕ → ℕ → ClassRead → Type 0
-FieldCountSays m p u b (class-read.Is u' b' n q) =
-    (u' ≡ u) × (b' ≡ b) × (n ≤ base.fields)
-    × ((k : ℕ) × (number_at Int m p ≡ Done k n [] tt) × (0 < k) × (q ≡ p + k)) × (q ≤ length m)
-FieldCountSays m p u b (class-read.Refused x o) =
-    (number_at Int m p ≡ Fault x o) ⊎ (Negative m p x o ⊎ Wide m p x o)
+-- the field count at p
+abbrev pub FieldCountSays : List ℕ → ℕ → Result NumberPassed Refused → Type 0
+FieldCountSays m p (Ok n) = CountIs m p (base.fields + 1) n
+FieldCountSays m p (Err r) = (number_at Int m p ≡ fault r) ⊎ (IsNegative m p r ⊎ IsWide m p r)
 
-pub record FieldCountMet (m : List ℕ) (p u b : ℕ) (r : ClassRead) : Type 0 where
-  pub says : FieldCountSays m p u b r
+pub record FieldCountMet (m : List ℕ) (p : ℕ) (r : Result NumberPassed Refused) : Type 0 where
+  pub says : FieldCountSays m p r
 
--- a class's name and field count, after the 43 at p: what is left are the n field names from q on
-pub record ClassIs (m : List ℕ) (c : Known) (p u b n q : ℕ) : Type 0 where
+-- a class's name and field count, after the 43 at p: what is left are its field names
+pub record ClassIs (m : List ℕ) (c : Known) (p : ℕ) (x : ClassRead) : Type 0 where
   pub says :
       run (definition base p) c m (p + 1)
       ≡ topped p Definition
-      (front (row class_name_kind (p + 1) u b 1 ∷ [])
-      (on (run (names_left n 0) c m q) (λ e k c'. ReadTo e n [] (defined n c'))))
-  pub few : n ≤ base.fields
+      (front (row class_name_kind (p + 1) x.units x.bytes 1 ∷ [])
+      (on (run (names_left x.fields 0) c m x.next) (λ e k c'. ReadTo e x.fields [] (defined x.fields c'))))
+  pub few : x.fields ≤ base.fields
   pub free : length c.classes < base.classes
-  pub onward : p + 2 < q
-  pub within : q ≤ length m
-  pub named : StringHas Utf8 m (p + 1) u b
+  pub onward : p + 2 < x.next
+  pub within : x.next ≤ length m
+  pub named : StringHas Utf8 m (p + 1) x.units x.bytes
 
-abbrev pub ClassReadSays : List ℕ → Known → ℕ → ClassRead → Type 0
-ClassReadSays m c p (class-read.Is u b n q) = ClassIs m c p u b n q
-ClassReadSays m c p (class-read.Refused x o) = run (definition base p) c m (p + 1) ≡ RefusedAt x o
+abbrev pub ClassReadSays : List ℕ → Known → ℕ → Result ClassRead Refused → Type 0
+ClassReadSays m c p (Ok x) = ClassIs m c p x
+ClassReadSays m c p (Err r) = run (definition base p) c m (p + 1) ≡ lost r
 
-pub record ClassReadMet (m : List ℕ) (c : Known) (p : ℕ) (r : ClassRead) : Type 0 where
+pub record ClassReadMet (m : List ℕ) (c : Known) (p : ℕ) (r : Result ClassRead Refused) : Type 0 where
   pub says : ClassReadSays m c p r
 
 -- the n field names from s on are read
-pub record NamesAre (m t b : List ℕ) (s : Spot) (n : ℕ) (s' : Spot) (t' b' : List ℕ) : Type 0 where
+pub record NamesAre (K : Keeping) (m t : List ℕ) (s : Spot) (n : ℕ) (s' : Spot) (t' : List ℕ) : Type 0 where
   pub rows : List Row
   pub says : (c : Known) → run (names_left n 0) c m s.at ≡ ReadTo s'.at n rows c
   pub counted : length rows ≡ n
   pub reached : s'.row ≡ s.row + n
-  pub stores : StoresRows m t b s.row rows t' b'
+  pub stores : StoresRows K m t s.row rows t'
   pub onward : s.at + n ≤ s'.at
   pub within : s'.at ≤ length m
 
-abbrev pub NamesReadSays : List ℕ → List ℕ → List ℕ → Spot → ℕ → NamesRead → List ℕ → List ℕ → Type 0
-NamesReadSays m t b s n (names-read.Done s') t' b' = NamesAre m t b s n s' t' b'
-NamesReadSays m t b s n (names-read.Refused x o) t' b' = (c : Known) → run (names_left n 0) c m s.at ≡ RefusedAt x o
+abbrev pub NamesReadSays : Keeping → List ℕ → List ℕ → Spot → ℕ → Result Spot Refused → List ℕ → Type 0
+NamesReadSays K m t s n (Ok s') t' = NamesAre K m t s n s' t'
+NamesReadSays K m t s n (Err r) t' = (c : Known) → run (names_left n 0) c m s.at ≡ lost r
 
-pub record NamesReadMet (m t b : List ℕ) (s : Spot) (n : ℕ) (r : NamesRead) (t' b' : List ℕ) : Type 0 where
-  pub says : NamesReadSays m t b s n r t' b'
-
--- a class of n fields gets the next number
-pub record DefinesClass (ks : List ℕ) (n : ℕ) (ks' : List ℕ) : Type 0 where
-  pub known : known_in ks' ≡ defined n (known_in ks)
-  pub kept : Kept ks'
-  pub references : slice_index_or ks' references_slot 0 ≡ slice_index ks references_slot
+pub record NamesReadMet (K : Keeping) (m t : List ℕ) (s : Spot) (n : ℕ) (r : Result Spot Refused) (t' : List ℕ)
+    : Type 0 where
+  pub says : NamesReadSays K m t s n r t'
 
 -- the definition whose 43 is at s
 abbrev pub DefinitionReadSays :
-    ReadingAt One → List ℕ → List ℕ → List ℕ → Spot → DefinitionRead → List ℕ → List ℕ → List ℕ → Type 0
-DefinitionReadSays o m t b s (definition-read.Done s') t' b' ks' = ReadsOne o m t b s s' t' b' ks'
-DefinitionReadSays o m t b s (definition-read.Refused x y) t' b' ks' = o ≡ RefusedAt x y
+    Keeping → ReadingAt One → List ℕ → List ℕ → Spot → Result Spot Refused → List ℕ → code.Known → Type 0
+DefinitionReadSays K o m t s (Ok s') t' ks' = ReadsOne K o m t s s' t' ks'
+DefinitionReadSays K o m t s (Err r) t' ks' = o ≡ lost r
 
-pub record DefinitionReadMet (m t b ks : List ℕ) (s : Spot) (r : DefinitionRead) (t' b' ks' : List ℕ) : Type 0 where
-  pub says : DefinitionReadSays (run (definition base s.at) (known_in ks) m (s.at + 1)) m t b s r t' b' ks'
+pub record DefinitionReadMet
+    (K : Keeping) (m t : List ℕ) (ks : code.Known) (s : Spot)
+    (r : Result Spot Refused) (t' : List ℕ) (ks' : code.Known) : Type 0 where
+  pub says : DefinitionReadSays K (run (definition base s.at) (known_in ks) m (s.at + 1)) m t s r t' ks'
 
 -- ---- values
 -- a list, map or object of this type can open at s, its values beginning at q
-pub record HolderFits (ks : List ℕ) (s : Spot) (q : ℕ) (of : TypeItem) : Type 0 where
+pub record HolderFits (m : List ℕ) (ks : code.Known) (s : Spot) (q : ℕ) (of : TypeItem) : Type 0 where
   pub kept : Kept ks
-  pub room : TypeRoom of (slice_index ks types_slot)
-  pub references_few : slice_index_or ks references_slot 0 ≤ s.at
+  pub room : TypeRoom of ks.types
+  pub references_few : ks.references ≤ s.at
   pub rows_few : s.row ≤ s.at
   pub longer : s.at + 1 + length (type_rows (s.at + 1) of) ≤ q
   pub fits : q < 2 ^ 64
+  pub named : TypeNamed m (s.at + 1) of
 
+-- it opens, and the rows of its type are kept
 pub record OpensHolder
-    (ks : List ℕ)
-    (s : Spot) (g : GroupNumbers) (q : ℕ) (of : TypeItem)
-    (r : Beginning) (ks' : List ℕ) : Type 0 where
-  pub more : ℕ
-  pub is : r ≡ beginning.Holder s g of (slice_index ks types_slot) (record { at = q; row = s.row + 1 + more })
-  pub entered : EntersHolder ks of more ks'
+    (K : Keeping) (m t : List ℕ) (ks : code.Known)
+    (s : Spot) (g : Group) (q : ℕ) (of : TypeItem)
+    (r : Beginning) (t' : List ℕ) (ks' : code.Known) : Type 0 where
+  pub holder : r.holder ≡ Some (record { spot = s; group = g; type_number = type_of ks.types of })
+  pub next : r.next ≡ record { at = q; row = s.row + 1 + length (type_rows (s.at + 1) of) }
+  pub entered : EntersHolder ks of (type_of ks.types of) ks'
+  pub stores : StoresRows K m t (s.row + 1) (type_rows (s.at + 1) of) t'
 
--- what a head at s needs, and what it comes to
-abbrev pub HeadNeeds : List ℕ → Spot → Head → Type 0
-HeadNeeds ks s (head.Leaf k x y q) = s.row + 1 < 2 ^ 64
-HeadNeeds ks s (head.Holder g q of) = HolderFits ks s q of
-HeadNeeds ks s head.Definition = Unit {0}
-HeadNeeds ks s (head.Refused x o) = Unit {0}
+-- the item of a list, map or object after i values
+abbrev pub holder_item : Holder → ℕ → Item
+holder_item h i = headed_by h.group h.type_number (parts h.group i)
 
-pub record HeadFits (m ks : List ℕ) (s : Spot) (h : Head) : Type 0 where
-  pub fits : HeadNeeds ks s h
-  pub named : HeadRows m s.at h
-
-abbrev pub ByHeadSays :
-    List ℕ → List ℕ → List ℕ → List ℕ → Spot → Head → Beginning → List ℕ → List ℕ → List ℕ → Type 0
-ByHeadSays m t b ks s (head.Leaf k x y q) r t' b' ks' =
-    (r ≡ beginning.Leaf (record { at = q; row = s.row + 1 }))
-    × (ks' ≡ ks) × StoresRows m t b s.row (row k s.at x y 1 ∷ []) t' b'
-ByHeadSays m t b ks s (head.Holder g q of) r t' b' ks' =
-    OpensHolder ks s g q of r ks' × StoresRows m t b (s.row + 1) (type_rows (s.at + 1) of) t' b'
-ByHeadSays m t b ks s head.Definition r t' b' ks' = Unit {0}
-ByHeadSays m t b ks s (head.Refused x o) r t' b' ks' = r ≡ beginning.Refused x o
-
-pub record ByHeadMet
-    (m t b ks : List ℕ)
-    (s : Spot) (h : Head)
-    (r : Beginning) (t' b' ks' : List ℕ) : Type 0 where
-  pub says : ByHeadSays m t b ks s h r t' b' ks'
-
--- the value at s is read up to the values inside it: it is the list, map or object at y, its values begin at s', and d
+-- the value at s is read up to the values inside it: it is the list, map or object h, its values begin at s', and d
 -- containers may open where it stands; o is what the reading of all of it gives
 pub record ReadsToValues
-    (o : ReadingAt One) (m t b : List ℕ)
-    (s : Spot) (d : ℕ)
-    (y : Spot) (g : GroupNumbers) (of : TypeItem) (given : ℕ) (s' : Spot) (t' b' ks' : List ℕ) : Type 0 where
+    (K : Keeping) (o : ReadingAt One) (m t : List ℕ)
+    (s : Spot) (d : ℕ) (h : Holder) (s' : Spot) (t' : List ℕ) (ks' : code.Known) : Type 0 where
   -- the rows before its own, and those of its type
   pub before : List Row
-  pub says : o ≡ front before (holder_read m (known_in ks') y.at (d - 1) g s'.at of (type_of given of))
-  pub first : y.row ≡ s.row + length before
-  pub counted : s'.row ≡ y.row + 1 + length (type_rows (y.at + 1) of)
-  pub between_t : List ℕ
-  pub between_b : List ℕ
-  pub stores_before : StoresRows m t b s.row before between_t between_b
-  pub stores : StoresRows m between_t between_b (y.row + 1) (type_rows (y.at + 1) of) t' b'
-  pub onward : s.at ≤ y.at
-  pub deeper : y.at < s'.at
+  pub inner : List Row
+  pub says : o ≡ front before (holder_read m (known_in ks') h.spot.at (d - 1) h.group s'.at inner h.type_number)
+  pub first : h.spot.row ≡ s.row + length before
+  pub counted : s'.row ≡ h.spot.row + 1 + length inner
+  pub between : List ℕ
+  pub stores_before : StoresRows K m t s.row before between
+  pub stores : StoresRows K m between (h.spot.row + 1) inner t'
+  pub onward : s.at ≤ h.spot.at
+  pub deeper : h.spot.at < s'.at
   pub open_one : 0 < d
   pub ready : ReadyAt m ks' s'
 
+abbrev pub BegunSays :
+    Keeping → ReadingAt One → List ℕ → List ℕ → Spot → ℕ
+    → code-option.Option Holder → Spot → List ℕ → code.Known → Type 0
+BegunSays K o m t s d None s' t' ks' = ReadsOne K o m t s s' t' ks'
+BegunSays K o m t s d (Some h) s' t' ks' = ReadsToValues K o m t s d h s' t' ks'
+
 abbrev pub BeginningSays :
-    ReadingAt One → List ℕ → List ℕ → List ℕ → Spot → ℕ → Beginning → List ℕ → List ℕ → List ℕ → Type 0
-BeginningSays o m t b s d (beginning.Leaf s') t' b' ks' = ReadsOne o m t b s s' t' b' ks'
-BeginningSays o m t b s d (beginning.Holder y g of given s') t' b' ks' =
-    ReadsToValues o m t b s d y g of given s' t' b' ks'
-BeginningSays o m t b s d (beginning.Refused x y) t' b' ks' = o ≡ RefusedAt x y
+    Keeping → ReadingAt One → List ℕ → List ℕ → Spot → ℕ → Result Beginning Refused → List ℕ → code.Known → Type 0
+BeginningSays K o m t s d (Ok b) t' ks' = BegunSays K o m t s d b.holder b.next t' ks'
+BeginningSays K o m t s d (Err r) t' ks' = o ≡ lost r
 
-pub record BeginningMet (m t b ks : List ℕ) (s : Spot) (d : ℕ) (r : Beginning) (t' b' ks' : List ℕ) : Type 0 where
-  pub says : BeginningSays (run (byte_at (value_from Floats base d)) (known_in ks) m s.at) m t b s d r t' b' ks'
+pub record BeginningMet
+    (K : Keeping) (m t : List ℕ) (ks : code.Known) (s : Spot) (d : ℕ)
+    (r : Result Beginning Refused) (t' : List ℕ) (ks' : code.Known) : Type 0 where
+  pub says : BeginningSays K (run (byte_at (value_from Floats base d)) (known_in ks) m s.at) m t s d r t' ks'
 
--- the values of a group from s on are read: there are i of them; o is what the reading gives
+-- the values of a group from s on are read; o is what the reading gives
 pub record ValuesAre
-    (o : ReadingAt ℕ) (m t b : List ℕ)
-    (s : Spot) (g : Group)
-    (s' : Spot) (i : ℕ) (t' b' ks' : List ℕ) : Type 0 where
+    (K : Keeping) (o : ReadingAt ℕ) (m t : List ℕ)
+    (s : Spot) (g : Group) (v : ValuesRead) (t' : List ℕ) (ks' : code.Known) : Type 0 where
   pub rows : List Row
-  pub says : o ≡ ReadTo s'.at (parts g i) rows (known_in ks')
-  pub reads : ReadsRows m t b s s' t' b' ks' rows
+  pub says : o ≡ ReadTo v.next.at (parts g v.count) rows (known_in ks')
+  pub reads : ReadsRows K m t s v.next t' ks' rows
 
 abbrev pub ValuesReadSays :
-    ReadingAt ℕ → List ℕ → List ℕ → List ℕ → Spot → Group → ValuesRead → List ℕ → List ℕ → List ℕ → Type 0
-ValuesReadSays o m t b s g (values-read.Done s' i) t' b' ks' = ValuesAre o m t b s g s' i t' b' ks'
-ValuesReadSays o m t b s g (values-read.Refused x y) t' b' ks' = o ≡ RefusedAt x y
+    Keeping → ReadingAt ℕ → List ℕ → List ℕ → Spot → Group → Result ValuesRead Refused → List ℕ → code.Known → Type 0
+ValuesReadSays K o m t s g (Ok v) t' ks' = ValuesAre K o m t s g v t' ks'
+ValuesReadSays K o m t s g (Err r) t' ks' = o ≡ lost r
 
 pub record ValuesReadMet
-    (m t b ks : List ℕ)
+    (K : Keeping) (m t : List ℕ) (ks : code.Known)
     (s : Spot) (g : Group) (d : ℕ)
-    (r : ValuesRead) (t' b' ks' : List ℕ) : Type 0 where
-  pub says : ValuesReadSays (run (rest (value_from Floats base d) g 0) (known_in ks) m s.at) m t b s g r t' b' ks'
+    (r : Result ValuesRead Refused) (t' : List ℕ) (ks' : code.Known) : Type 0 where
+  pub says : ValuesReadSays K (run (rest (value_from Floats base d) g 0) (known_in ks) m s.at) m t s g r t' ks'
 
 -- ---- messages
 abbrev pub message_start : Spot
 message_start = record { at = 0; row = 0 }
 
 -- the one value of the message, with nothing known before it
-pub record OneValueMet (m t b : List ℕ) (r : ValuesRead) (t' b' : List ℕ) : Type 0 where
-  pub after : List ℕ
-  pub met : ValuesReadMet m t b (replicate known_size 0) message_start (Counted 1) base.containers r t' b' after
+pub record OneValueMet (K : Keeping) (m t : List ℕ) (r : Result ValuesRead Refused) (t' : List ℕ) : Type 0 where
+  pub after : code.Known
+  pub says :
+      ValuesReadSays K (run (rest (value_from Floats base base.containers) (Counted 1) 0) start m 0)
+      m t message_start (Counted 1) r t' after
 
--- the message is a record of n rows; s are the numbers lent for the sum
-pub record IsRecord (m s : List ℕ) (n : ℕ) (s' : List ℕ) : Type 0 where
+-- the message is a record of n rows, which are kept
+pub record IsRecord (K : Keeping) (m t : List ℕ) (n : ℕ) (t' : List ℕ) : Type 0 where
   pub rows : List Row
   pub after : Known
   pub says : run (byte_at (value_from Floats base base.containers)) start m 0 ≡ ReadTo (length m) tt rows after
   pub counted : length rows ≡ n
-  pub measured : s' ≡ noted_all (length s) 0 m s 0 (numbered 0 rows)
+  pub kept : t' ≡ keep_all K m t 0 (numbered 0 rows)
   pub some : 0 < length m
   pub short : length m ≤ base.longest
 
-abbrev pub JudgedSays : List ℕ → List ℕ → Judged → List ℕ → Type 0
-JudgedSays m s (judged.Record n) s' = IsRecord m s n s'
-JudgedSays m s (judged.Refused x o) s' = (lent : ℕ) → read Floats base lent m ≡ Refuse x 0 o
+abbrev pub JudgedSays : Keeping → List ℕ → List ℕ → Result ℕ Refused → List ℕ → Type 0
+JudgedSays K m t (Ok n) t' = IsRecord K m t n t'
+JudgedSays K m t (Err r) t' = (lent : ℕ) → read Floats base lent m ≡ Refuse (number_of r.refusal) 0 r.place
 
-pub record JudgedMet (m s : List ℕ) (r : Judged) (s' : List ℕ) : Type 0 where
-  pub says : JudgedSays m s r s'
+pub record JudgedMet (K : Keeping) (m t : List ℕ) (r : Result ℕ Refused) (t' : List ℕ) : Type 0 where
+  pub says : JudgedSays K m t r t'
 
--- an answer with a length
-abbrev pub with_length : FillAnswer → ℕ → ReadAnswer
-with_length (fill.Accepted rows length) n = answer.Accepted rows length n
-with_length (fill.Refused number place) n = answer.Refused number place
-with_length (fill.TooFew needed) n = answer.TooFew needed
+-- the length w of the shortest message, where the message is accepted
+abbrev pub length_told : ℕ → Result Filled ReadError → ℕ
+length_told w (Ok f) = w
+length_told w (Err e) = 0
 
--- the answer with `lent` rows, and both tables at the end; the length, where the sum was 0
-pub record ReadIntoMet (m t b s : List ℕ) (lent : ℕ) (r : FillAnswer) (t' b' s' : List ℕ) : Type 0 where
-  pub says : fill_report r ≡ read_numbers (read Floats base lent m)
-  pub measures : IsSum s
-      → shortest (with_length r (slice_index s' 0)) ≡ length_answered (length_by (length s) m) (read Floats base lent m)
-  pub numbers : t' ≡ filled as_numbers t (read Floats base lent m)
-  pub bytes : b' ≡ filled as_bytes b (read Floats base lent m)
+-- the answer, and the table at the end, by the rule ρ; of the slots u that are lent for measuring, that the record's rows
+-- are kept
+pub record ReadIntoMet
+    (K : Keeping) (L : Layout) (ρ : DoubleRule) (m t u : List ℕ)
+    (r : Result Filled ReadError) (t' u' : List ℕ) : Type 0 where
+  pub call : ReadCall ρ base L m t (fill_report r) t'
+  pub answered : (w : ℕ) → length_told w r ≡ length_answered w (read ρ base (lent_rows L t) m)
+  pub measured : IfOk r (λ (f : Filled). IsRecord K m u f.rows u')
 
 -- ---- 2026-11: the n rows that the table T holds, in thousandths
 pub record Retold (L : Layout) (m T : List ℕ) (n : ℕ) (T' : List ℕ) : Type 0 where

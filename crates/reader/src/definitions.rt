@@ -1,203 +1,133 @@
 // Class definitions. The laws of their meaning are in record's proofs/ForReader/ReadDefinitions.antt.
-ghost use Rattle.std.specs.Prelude.{◌≡◌, ◌+◌, ◌^◌, ◌<◌, ◌≤◌, slice_index};
+ghost use Rattle.std.specs.Prelude.{◌+◌, ◌^◌, ◌<◌};
 ghost use Rattle.scalar.specs.declared.Lead.TheVariants as lead;
-ghost use Rattle.record.specs.Model.Answers.{base};
-ghost use Rattle.record.specs.Laws.KnownArray.{Kept, known_in, classes_slot};
+ghost use Rattle.record.specs.Laws.KnownLaws.{Kept, known_in};
 ghost use Rattle.reader.specs.Promises.{PlaceIn, ReadyAt, LeadAt};
-ghost use Rattle.reader.specs.Promises.{FieldCountMet, ClassReadMet, NamesReadMet};
-ghost use Rattle.reader.specs.Promises.{DefinesClass, DefinitionReadMet};
+ghost use Rattle.reader.specs.Promises.{FieldCountMet, ClassReadMet, NamesReadMet, DefinitionReadMet};
 
 use crate::Spot;
-use crate::heads::Count;
+use crate::heads::count_at;
+use crate::slots::Slot;
+use numbers::NumberPassed;
 use record::Row;
-use record::kinds::{CLASS, CLASS_NAME, FIELD_NAME};
-use record::known::{CLASSES_GIVEN, KNOWN};
+use record::kinds::Kind;
+use record::known::Known;
 use record::limits::{CLASSES, FIELDS};
-use scalar::Encoding;
-use scalar::refusals::CEILING;
-use texts::StringPassed;
+use scalar::{Encoding, Refusal, Refused};
 
-// A class's name, by its units and bytes, its number of fields, and where their names begin; or a refusal's number and
-// place.
+// A class's name, by its units and bytes, its number of fields, and where their names begin.
 #[derive(Clone, Copy)]
-pub(crate) enum ClassRead {
-    Is {
-        units: u64,
-        bytes: u64,
-        fields: usize,
-        next: usize,
-    },
-    Refused {
-        number: u8,
-        place: usize,
-    },
+pub(crate) struct ClassRead {
+    pub units: u64,
+    pub bytes: u64,
+    pub fields: usize,
+    pub next: usize,
 }
 
-// Where reading is past field names; or a refusal's number and place.
-#[derive(Clone, Copy)]
-pub(crate) enum NamesRead {
-    Done { next: Spot },
-    Refused { number: u8, place: usize },
-}
-
-// Where reading is past a definition; or a refusal's number and place.
-#[derive(Clone, Copy)]
-pub(crate) enum DefinitionRead {
-    Done { next: Spot },
-    Refused { number: u8, place: usize },
-}
-
-// The field count at `at`, after a class name of so many units and bytes.
-fn field_count(message: &[u8], at: usize, units: u64, bytes: u64) -> ClassRead
+// The field count at `at`.
+fn field_count(message: &[u8], at: usize) -> Result<NumberPassed, Refused>
     requires { PlaceIn message.now at }
-    ensures { FieldCountMet message.now at units bytes result }
+    ensures { FieldCountMet message.now at result }
 {
-    match crate::heads::count_at(message, at) {
-        Count::Refused { number, place } => ClassRead::Refused { number, place },
-        Count::Is { value, size } => {
-            if FIELDS < value {
-                return ClassRead::Refused {
-                    number: CEILING,
-                    place: at,
-                };
-            }
-            ClassRead::Is {
-                units,
-                bytes,
-                fields: value as usize,
-                next: at + size,
-            }
-        }
+    let count = count_at(message, at)?;
+    if FIELDS < count.value {
+        return Err(Refused {
+            refusal: Refusal::Ceiling,
+            place: at,
+        });
     }
+    Ok(count)
 }
 
 // The class name and the field count of the definition at `at`.
-fn class_head(message: &[u8], known: &[u64; KNOWN], at: usize) -> ClassRead
+fn class_head(message: &[u8], known: &Known, at: usize) -> Result<ClassRead, Refused>
     requires { LeadAt message.now at lead.Definition × Kept known.now }
     ensures { ClassReadMet message.now (known_in known.now) at result }
 {
-    if CLASSES <= known[CLASSES_GIVEN] {
-        return ClassRead::Refused {
-            number: CEILING,
+    if CLASSES <= known.classes {
+        return Err(Refused {
+            refusal: Refusal::Ceiling,
             place: at,
-        };
+        });
     }
-    match texts::pass_string(Encoding::Utf8, message, at + 1) {
-        StringPassed::Refused { number, place } => ClassRead::Refused { number, place },
-        StringPassed::Content { units, bytes, size } => field_count(
-            message,
-            at + 1 + size,
-            units as u64,
-            bytes as u64,
-        ),
-    }
+    let name = texts::pass_string(Encoding::Utf8, message, at + 1)?;
+    let past = at + 1 + name.size;
+    let count = field_count(message, past)?;
+    Ok(ClassRead {
+        units: name.units as u64,
+        bytes: name.bytes as u64,
+        fields: count.value as usize,
+        next: past + count.size,
+    })
 }
 
-// So many field names from `from` on.
-fn field_names(
+// So many field names from `from` on: where reading is past them.
+fn field_names<S: Slot>(
     message: &[u8],
-    numbers: &mut [u64],
-    bytes: &mut [u8],
+    slots: &mut [S],
     from: Spot,
     count: usize,
-) -> NamesRead
+) -> Result<Spot, Refused>
     requires { PlaceIn message.now from.at × (from.row + count < 2 ^ 64) }
-    ensures { NamesReadMet
-        message.now numbers.old bytes.old
+    ensures { NamesReadMet S.kept
+        message.now (S.numbers slots.old)
         from count
-        result numbers.new bytes.new }
+        result (S.numbers slots.new) }
 {
     let mut here = from.at;
-    let mut i: usize = 0;
-    while i < count {
-        match texts::pass_string(Encoding::Utf8, message, here) {
-            StringPassed::Refused { number, place } => {
-                return NamesRead::Refused { number, place };
-            }
-            StringPassed::Content {
-                units,
-                bytes: held,
-                size,
-            } => {
-                let index = from.row + i;
-                let name = Row {
-                    kind: FIELD_NAME,
-                    place: here as u64,
-                    first: units as u64,
-                    second: held as u64,
-                    after: (index + 1) as u64,
-                };
-                crate::rows::store_row(message, numbers, bytes, index, name);
-                here += size;
-                i += 1;
-            }
-        }
+    for row in from.row..from.row + count {
+        let name = texts::pass_string(Encoding::Utf8, message, here)?;
+        let kept = Row {
+            kind: Kind::FieldName as u64,
+            place: here as u64,
+            first: name.units as u64,
+            second: name.bytes as u64,
+            after: (row + 1) as u64,
+        };
+        S::keep(message, slots, row, kept);
+        here += name.size;
     }
-    NamesRead::Done {
-        next: Spot {
-            at: here,
-            row: from.row + count,
-        },
-    }
+    Ok(Spot {
+        at: here,
+        row: from.row + count,
+    })
 }
 
-// The class of so many fields gets the next number.
-fn define(known: &mut [u64; KNOWN], fields: usize)
-    requires { Kept known.old × (slice_index known.old classes_slot < base.classes) × (fields ≤ base.fields) }
-    ensures { DefinesClass known.old fields known.new }
-{
-    record::known::define(known, fields as u64);
-}
-
-// The definition at `here`: its class gets the next number when its field names are read.
-pub(crate) fn definition(
+// The definition at `here`: its class gets the next number when its field names are read. Where reading is past it.
+pub(crate) fn definition<S: Slot>(
     message: &[u8],
-    numbers: &mut [u64],
-    bytes: &mut [u8],
-    known: &mut [u64; KNOWN],
+    slots: &mut [S],
+    known: &mut Known,
     here: Spot,
-) -> DefinitionRead
+) -> Result<Spot, Refused>
     requires { LeadAt message.now here.at lead.Definition × ReadyAt message.now known.old here }
-    ensures { DefinitionReadMet
-        message.now numbers.old bytes.old known.old
+    ensures { DefinitionReadMet S.kept
+        message.now (S.numbers slots.old) known.old
         here
-        result numbers.new bytes.new known.new }
+        result (S.numbers slots.new) known.new }
 {
-    match class_head(message, known, here.at) {
-        ClassRead::Refused { number, place } => DefinitionRead::Refused { number, place },
-        ClassRead::Is {
-            units,
-            bytes: held,
-            fields,
-            next,
-        } => {
-            let names = Spot {
-                at: next,
-                row: here.row + 2,
-            };
-            match field_names(message, numbers, bytes, names, fields) {
-                NamesRead::Refused { number, place } => DefinitionRead::Refused { number, place },
-                NamesRead::Done { next: end } => {
-                    let name = Row {
-                        kind: CLASS_NAME,
-                        place: (here.at + 1) as u64,
-                        first: units,
-                        second: held,
-                        after: (here.row + 2) as u64,
-                    };
-                    let class = Row {
-                        kind: CLASS,
-                        place: here.at as u64,
-                        first: fields as u64,
-                        second: 0,
-                        after: end.row as u64,
-                    };
-                    crate::rows::store_row(message, numbers, bytes, here.row + 1, name);
-                    crate::rows::store_row(message, numbers, bytes, here.row, class);
-                    define(known, fields);
-                    DefinitionRead::Done { next: end }
-                }
-            }
-        }
-    }
+    let class = class_head(message, known, here.at)?;
+    let names = Spot {
+        at: class.next,
+        row: here.row + 2,
+    };
+    let end = field_names(message, slots, names, class.fields)?;
+    let name = Row {
+        kind: Kind::ClassName as u64,
+        place: (here.at + 1) as u64,
+        first: class.units,
+        second: class.bytes,
+        after: names.row as u64,
+    };
+    S::keep(message, slots, here.row + 1, name);
+    let opening = Row {
+        kind: Kind::Class as u64,
+        place: here.at as u64,
+        first: class.fields as u64,
+        second: 0,
+        after: end.row as u64,
+    };
+    S::keep(message, slots, here.row, opening);
+    known.define(class.fields as u64);
+    Ok(end)
 }

@@ -1,371 +1,267 @@
 // Values: class definitions, a head, and the values inside. The laws of their meaning are in record's
 // proofs/ForReader/ReadLoops.antt and ReadValues.antt.
-ghost use Rattle.std.specs.Prelude.{◌≡◌, ◌+◌, ◌^◌, ◌<◌, length, slice_index};
+ghost use Rattle.std.specs.Prelude.{◌≡◌, ◌+◌, ◌^◌, ◌<◌, length};
 ghost use Rattle.record.specs.Model.Rows.{item_row};
-ghost use Rattle.record.specs.ForReader.ReadLoops.{closes, stops, past, parts};
+ghost use Rattle.record.specs.ForReader.ReadLoops.{closes, stops, past};
 ghost use Rattle.record.specs.Laws.RowLaws.{row_of};
-ghost use Rattle.record.specs.ForReader.ReadValues.{heading};
-ghost use Rattle.record.specs.Laws.KnownArray.{Kept, types_slot, references_slot};
-ghost use Rattle.reader.specs.Promises.{group_of, ReadyAt, StoresRows};
-ghost use Rattle.reader.specs.Promises.{type_of, type_rows, type_tag, type_second, TypeRoom, TypeNamed};
-ghost use Rattle.reader.specs.Promises.{EntersHolder};
-ghost use Rattle.reader.specs.Promises.{HolderFits, OpensHolder, HeadFits, ByHeadMet};
-ghost use Rattle.reader.specs.Promises.{BeginningMet, ValuesReadMet};
+ghost use Rattle.record.specs.Laws.KnownLaws.{Kept};
+ghost use Rattle.reader.specs.Promises.{ReadyAt, StoresRows, type_rows, TypeRoom, TypeNamed, EntersHolder};
+ghost use Rattle.reader.specs.Promises.{holder_item, HolderFits, OpensHolder, BeginningMet, ValuesReadMet};
 
 use crate::Spot;
-use crate::definitions::DefinitionRead;
-use crate::heads::{FIELD_VALUES, GroupNumbers, Head, OPEN, PAIRS, TypeItem};
-use record::Row;
-use record::kinds::{LIST, MAP, OBJECT, TYPE_NAME, TYPE_NUMBER};
-use record::known::{KNOWN, REFERENCES_GIVEN, TYPES_GIVEN};
-use scalar::refusals::BYTE;
+use crate::definitions::definition;
+use crate::heads::{Head, TypeItem, head_at};
+use crate::slots::Slot;
+use record::kinds::Kind;
+use record::known::Known;
+use record::{Group, Row};
+use scalar::Refused;
 
-// How a value begins: it holds no others, and is read; it is the list, map or object at `holder`, where so many types
-// were given, and its values begin at `next`; or a refusal.
+// A list, map or object that is open: where it begins, how its values are counted, and its type's number, if it has a
+// type.
 #[derive(Clone, Copy)]
-pub(crate) enum Beginning {
-    Leaf {
-        next: Spot,
-    },
-    Holder {
-        holder: Spot,
-        group: GroupNumbers,
-        of: TypeItem,
-        given: u64,
-        next: Spot,
-    },
-    Refused {
-        number: u8,
-        place: usize,
-    },
+pub(crate) struct Holder {
+    pub spot: Spot,
+    pub group: Group,
+    pub type_number: Option<u64>,
 }
 
-// What reading values comes to: where reading is past them, and how many they are; or a refusal's number and place.
+// How a value begins: what it opens, where it holds others, and where its values begin; or where reading is past it.
 #[derive(Clone, Copy)]
-pub(crate) enum ValuesRead {
-    Done { next: Spot, count: u64 },
-    Refused { number: u8, place: usize },
+pub(crate) struct Beginning {
+    pub holder: Option<Holder>,
+    pub next: Spot,
+}
+
+// Where reading is past the values of a group, and how many they are.
+#[derive(Clone, Copy)]
+pub(crate) struct ValuesRead {
+    pub next: Spot,
+    pub count: u64,
 }
 
 // Whether 5a stands at `at`.
 fn closed_at(message: &[u8], at: usize) -> bool
     ensures { result ≡ closes message.now at }
 {
-    if message.len() <= at {
-        return false;
-    }
-    message[at] == 0x5a
+    at < message.len() && message[at] == 0x5a
 }
 
 // Whether no value of the group is left at `at`, after i of them.
-fn stop(message: &[u8], at: usize, group: GroupNumbers, i: u64) -> bool
-    ensures { result ≡ stops message.now (group_of group) i at }
+fn stop(message: &[u8], at: usize, group: Group, i: u64) -> bool
+    ensures { result ≡ stops message.now group i at }
 {
-    if group.shape < OPEN {
-        return i == group.count;
+    match group {
+        Group::Counted(count) | Group::Fields(_, count) => i == count,
+        Group::Open => closed_at(message, at),
+        Group::Pairs => i % 2 == 0 && closed_at(message, at),
     }
-    if group.shape < PAIRS {
-        return closed_at(message, at);
-    }
-    if i % 2 == 0 {
-        return closed_at(message, at);
-    }
-    false
 }
 
 // The place past the group's values, which end at `at`.
-fn passed(at: usize, group: GroupNumbers) -> usize
+fn passed(at: usize, group: Group) -> usize
     requires { at + 1 < 2 ^ 64 }
-    ensures { result ≡ past (group_of group) at }
+    ensures { result ≡ past group at }
 {
-    if group.shape < OPEN {
-        return at;
+    match group {
+        Group::Counted(_) | Group::Fields(_, _) => at,
+        Group::Open | Group::Pairs => at + 1,
     }
-    at + 1
 }
 
-// The row of the type at `here`, if there is one.
-fn store_type(message: &[u8], numbers: &mut [u64], bytes: &mut [u8], here: Spot, of: TypeItem)
+// Keeps the row of the type at `here`, if there is one.
+fn keep_type<S: Slot>(message: &[u8], slots: &mut [S], here: Spot, of: TypeItem)
     requires { (here.row + length (type_rows here.at of) < 2 ^ 64) × TypeNamed message.now here.at of }
-    ensures { StoresRows
-        message.now numbers.old bytes.old
+    ensures { StoresRows S.kept
+        message.now (S.numbers slots.old)
         here.row (type_rows here.at of)
-        numbers.new bytes.new }
+        (S.numbers slots.new) }
 {
-    match of {
-        TypeItem::Untyped => {}
-        TypeItem::Named {
-            units,
-            bytes: size_of,
-        } => {
-            let name = Row {
-                kind: TYPE_NAME,
-                place: here.at as u64,
-                first: units,
-                second: size_of,
-                after: (here.row + 1) as u64,
-            };
-            crate::rows::store_row(message, numbers, bytes, here.row, name);
-        }
-        TypeItem::Numbered { number } => {
-            let by_number = Row {
-                kind: TYPE_NUMBER,
-                place: here.at as u64,
-                first: number,
-                second: 0,
-                after: (here.row + 1) as u64,
-            };
-            crate::rows::store_row(message, numbers, bytes, here.row, by_number);
-        }
-    }
+    let (kind, first, second) = match of {
+        TypeItem::Untyped => return,
+        TypeItem::Named { units, bytes } => (Kind::TypeName, units, bytes),
+        TypeItem::Numbered { number } => (Kind::TypeNumber, number, 0),
+    };
+    let row = Row {
+        kind: kind.number(),
+        place: here.at as u64,
+        first,
+        second,
+        after: (here.row + 1) as u64,
+    };
+    S::keep(message, slots, here.row, row);
 }
 
-// One where there is a type.
-fn type_tag(of: TypeItem) -> u64
-    ensures { result ≡ type_tag of }
+// The row of a list, map or object after i values of its group, which end before the row `after`.
+fn holder_row(holder: Holder, i: u64, after: usize) -> Row
+    ensures { row_of result ≡ item_row holder.spot.at after (holder_item holder i) }
 {
-    match of {
-        TypeItem::Untyped => 0,
-        TypeItem::Named { units: _, bytes: _ } => 1,
-        TypeItem::Numbered { number: _ } => 1,
-    }
-}
-
-// The type's number, where so many are given; 0 where there is no type.
-fn type_second(of: TypeItem, given: u64) -> u64
-    ensures { result ≡ type_second given of }
-{
-    match of {
-        TypeItem::Untyped => 0,
-        TypeItem::Named { units: _, bytes: _ } => given,
-        TypeItem::Numbered { number } => number,
-    }
-}
-
-// The row of the list, map or object at `place` after i values of its group, which end before the row `after`; `given`
-// types were given before it.
-fn holder_row(
-    place: usize,
-    group: GroupNumbers,
-    of: TypeItem,
-    given: u64,
-    i: u64,
-    after: usize,
-) -> Row
-    ensures { row_of result ≡ item_row place after (heading (group_of group) (type_of given of) (parts (group_of group) i)) }
-{
-    if group.shape == FIELD_VALUES {
-        return Row {
-            kind: OBJECT,
-            place: place as u64,
-            first: group.class,
-            second: i,
-            after: after as u64,
-        };
-    }
-    if group.shape < PAIRS {
-        return Row {
-            kind: LIST + type_tag(of),
-            place: place as u64,
-            first: i,
-            second: type_second(of, given),
-            after: after as u64,
-        };
-    }
+    let (kind, first, second) = match holder.group {
+        Group::Fields(class, _) => (Kind::Object, class, i),
+        Group::Pairs => match holder.type_number {
+            None => (Kind::Map, i / 2, 0),
+            Some(number) => (Kind::TypedMap, i / 2, number),
+        },
+        Group::Counted(_) | Group::Open => match holder.type_number {
+            None => (Kind::List, i, 0),
+            Some(number) => (Kind::TypedList, i, number),
+        },
+    };
     Row {
-        kind: MAP + type_tag(of),
-        place: place as u64,
-        first: i / 2,
-        second: type_second(of, given),
+        kind: kind.number(),
+        place: holder.spot.at as u64,
+        first,
+        second,
         after: after as u64,
     }
 }
 
 // A list, map or object of this type opens: it gets the next reference number, and a type name the next type number.
-// How many rows its type has.
-fn enter(known: &mut [u64; KNOWN], of: TypeItem) -> usize
-    requires { Kept known.old × (slice_index known.old references_slot + 1 < 2 ^ 64) × TypeRoom of (slice_index known.old types_slot) }
+// Its type's number, if it has a type.
+fn enter(known: &mut Known, of: TypeItem) -> Option<u64>
+    requires { Kept known.old × (known.old.references + 1 < 2 ^ 64) × TypeRoom of known.old.types }
     ensures { EntersHolder known.old of result known.new }
 {
-    known[REFERENCES_GIVEN] = known[REFERENCES_GIVEN] + 1;
+    known.references += 1;
     match of {
-        TypeItem::Untyped => 0,
-        TypeItem::Named { units: _, bytes: _ } => {
-            known[TYPES_GIVEN] = known[TYPES_GIVEN] + 1;
-            1
+        TypeItem::Untyped => None,
+        TypeItem::Named { .. } => {
+            let number = known.types;
+            known.types += 1;
+            Some(number)
         }
-        TypeItem::Numbered { number: _ } => 1,
+        TypeItem::Numbered { number } => Some(number),
     }
 }
 
-// The list, map or object at `holder` opens, after the row of its type is stored, and its values begin at `next`.
-fn open_holder(
-    known: &mut [u64; KNOWN],
-    holder: Spot,
-    group: GroupNumbers,
+// The list, map or object at `here` opens, and its values begin at `next`.
+fn open_holder<S: Slot>(
+    message: &[u8],
+    slots: &mut [S],
+    known: &mut Known,
+    here: Spot,
+    group: Group,
     next: usize,
     of: TypeItem,
 ) -> Beginning
-    requires { HolderFits known.old holder next of }
-    ensures { OpensHolder known.old holder group next of result known.new }
+    requires { HolderFits message.now known.old here next of }
+    ensures { OpensHolder S.kept
+        message.now (S.numbers slots.old) known.old
+        here group next of
+        result (S.numbers slots.new) known.new }
 {
-    let given = known[TYPES_GIVEN];
-    let more = enter(known, of);
-    Beginning::Holder {
-        holder,
-        group,
-        of,
-        given,
-        next: Spot {
-            at: next,
-            row: holder.row + 1 + more,
-        },
-    }
-}
-
-// The value at `here` by its head, and all of it where it holds no others.
-fn by_head(
-    message: &[u8],
-    numbers: &mut [u64],
-    bytes: &mut [u8],
-    known: &mut [u64; KNOWN],
-    here: Spot,
-    head: Head,
-) -> Beginning
-    requires { HeadFits message.now known.old here head }
-    ensures { ByHeadMet
-        message.now numbers.old bytes.old known.old
-        here head
-        result numbers.new bytes.new known.new }
-{
-    match head {
-        Head::Refused { number, place } => Beginning::Refused { number, place },
-        Head::Leaf {
-            kind,
-            first,
-            second,
-            next,
-        } => {
-            let after = here.row + 1;
-            let leaf = Row {
-                kind,
-                place: here.at as u64,
-                first,
-                second,
-                after: after as u64,
-            };
-            crate::rows::put_row(message, numbers, bytes, here.row, leaf);
-            Beginning::Leaf {
-                next: Spot {
-                    at: next,
-                    row: after,
-                },
-            }
-        }
-        Head::Holder { group, next, of } => {
-            let inner = Spot {
-                at: here.at + 1,
-                row: here.row + 1,
-            };
-            store_type(message, numbers, bytes, inner, of);
-            open_holder(known, here, group, next, of)
-        }
-        Head::Definition => Beginning::Refused {
-            number: BYTE,
-            place: here.at,
-        },
+    let inner = Spot {
+        at: here.at + 1,
+        row: here.row + 1,
+    };
+    keep_type(message, slots, inner, of);
+    let type_number = enter(known, of);
+    let row = if type_number.is_some() {
+        inner.row + 1
+    } else {
+        inner.row
+    };
+    Beginning {
+        holder: Some(Holder {
+            spot: here,
+            group,
+            type_number,
+        }),
+        next: Spot { at: next, row },
     }
 }
 
 // The definitions and the head of the value at `from`, and all of it where it holds no others.
-fn begin(
+fn begin<S: Slot>(
     message: &[u8],
-    numbers: &mut [u64],
-    bytes: &mut [u8],
-    known: &mut [u64; KNOWN],
+    slots: &mut [S],
+    known: &mut Known,
     from: Spot,
     allowed: usize,
-) -> Beginning
+) -> Result<Beginning, Refused>
     requires { ReadyAt message.now known.old from }
-    ensures { BeginningMet
-        message.now numbers.old bytes.old known.old
+    ensures { BeginningMet S.kept
+        message.now (S.numbers slots.old) known.old
         from allowed
-        result numbers.new bytes.new known.new }
+        result (S.numbers slots.new) known.new }
 {
     let mut here = from;
     loop {
-        let head = crate::heads::head_at(message, known, here.at, allowed);
-        if let Head::Definition = head {
-            match crate::definitions::definition(message, numbers, bytes, known, here) {
-                DefinitionRead::Refused { number, place } => {
-                    return Beginning::Refused { number, place };
-                }
-                DefinitionRead::Done { next } => {
-                    here = next;
-                }
+        match head_at(message, known, here.at, allowed)? {
+            Head::Definition => here = definition(message, slots, known, here)?,
+            Head::Leaf {
+                kind,
+                first,
+                second,
+                next,
+            } => {
+                let after = here.row + 1;
+                let leaf = Row {
+                    kind: kind.number(),
+                    place: here.at as u64,
+                    first,
+                    second,
+                    after: after as u64,
+                };
+                S::keep(message, slots, here.row, leaf);
+                let past = Spot {
+                    at: next,
+                    row: after,
+                };
+                return Ok(Beginning {
+                    holder: None,
+                    next: past,
+                });
             }
-        } else {
-            return by_head(message, numbers, bytes, known, here, head);
+            Head::Holder { group, next, of } => {
+                return Ok(open_holder(message, slots, known, here, group, next, of));
+            }
         }
     }
 }
 
 // Reads the values of a group, the first of them at `from`, with as many more lists, maps and objects as allowed open
 // within them.
-pub(crate) fn read_values(
+pub(crate) fn read_values<S: Slot>(
     message: &[u8],
-    numbers: &mut [u64],
-    bytes: &mut [u8],
-    known: &mut [u64; KNOWN],
+    slots: &mut [S],
+    known: &mut Known,
     from: Spot,
-    group: GroupNumbers,
+    group: Group,
     allowed: usize,
-) -> ValuesRead
+) -> Result<ValuesRead, Refused>
     requires { ReadyAt message.now known.old from }
-    ensures { ValuesReadMet
-        message.now numbers.old bytes.old known.old
-        from (group_of group) allowed
-        result numbers.new bytes.new known.new }
+    ensures { ValuesReadMet S.kept
+        message.now (S.numbers slots.old) known.old
+        from group allowed
+        result (S.numbers slots.new) known.new }
 {
     let mut here = from;
     let mut i: u64 = 0;
-    loop {
-        if stop(message, here.at, group, i) {
-            return ValuesRead::Done {
-                next: Spot {
-                    at: passed(here.at, group),
-                    row: here.row,
-                },
-                count: i,
-            };
-        }
-        match begin(message, numbers, bytes, known, here, allowed) {
-            Beginning::Refused { number, place } => {
-                return ValuesRead::Refused { number, place };
+    // No range counts the values: of the open forms only 5a tells how many they are.
+    while !stop(message, here.at, group, i) {
+        let begun = begin(message, slots, known, here, allowed)?;
+        here = match begun.holder {
+            None => begun.next,
+            Some(holder) => {
+                let inside = read_values(
+                    message,
+                    slots,
+                    known,
+                    begun.next,
+                    holder.group,
+                    allowed - 1,
+                )?;
+                let row = holder_row(holder, inside.count, inside.next.row);
+                S::keep(message, slots, holder.spot.row, row);
+                inside.next
             }
-            Beginning::Leaf { next } => {
-                here = next;
-                i += 1;
-            }
-            Beginning::Holder {
-                holder,
-                group: inner,
-                of,
-                given,
-                next,
-            } => {
-                match read_values(message, numbers, bytes, known, next, inner, allowed - 1) {
-                    ValuesRead::Refused { number, place } => {
-                        return ValuesRead::Refused { number, place };
-                    }
-                    ValuesRead::Done { next: end, count } => {
-                        let row = holder_row(holder.at, inner, of, given, count, end.row);
-                        crate::rows::store_lent(message, numbers, bytes, holder.row, row);
-                        here = end;
-                        i += 1;
-                    }
-                }
-            }
-        }
+        };
+        i += 1;
     }
+    let next = Spot {
+        at: passed(here.at, group),
+        row: here.row,
+    };
+    Ok(ValuesRead { next, count: i })
 }

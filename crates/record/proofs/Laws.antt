@@ -1,6 +1,7 @@
 pub mod Answering
 pub mod Back
 pub mod Bounds
+pub mod Cells
 pub mod Claimed
 pub mod ClaimedLengths
 pub mod Derives
@@ -9,7 +10,7 @@ pub mod Forest
 pub mod HopLaws
 pub mod InThousandths
 pub mod ItemLengths
-pub mod KnownArray
+pub mod KnownLaws
 pub mod MainSpelling
 pub mod Meaning
 pub mod NamedContents

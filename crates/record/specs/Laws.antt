@@ -1,5 +1,6 @@
 pub mod Claimed
-pub mod KnownArray
+pub mod KnownLaws
+pub mod Layouts
 pub mod RowLaws
 pub mod RowLengths
 pub mod Short

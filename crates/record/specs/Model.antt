@@ -5,6 +5,7 @@ pub mod Containers
 pub mod Grammar
 pub mod Hops
 pub mod Items
+pub mod KindNumbers
 pub mod Kinds
 pub mod Reading
 pub mod Rows

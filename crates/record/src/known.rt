@@ -1,30 +1,52 @@
-// What is known at a place of a message or table, in one array: each class's number of fields, and then how many
-// classes, types and references are given. specs/Laws/KnownArray.antt says what it means.
-ghost use Rattle.std.specs.Prelude.{◌≡◌};
-ghost use Rattle.record.specs.Laws.KnownArray.{defined_in};
+// What is known at a place of a message or table. specs/Laws/KnownLaws.antt says what it means.
+ghost use Rattle.std.specs.Prelude.{◌≡◌, slice_get};
+ghost use Rattle.record.specs.Model.Items.{start};
+ghost use Rattle.record.specs.Laws.KnownLaws.{Kept, known_in, defined_in};
 
 use crate::limits::CLASSES;
 
-// Where it counts the classes given, after the fields of each class that may be.
-pub const CLASSES_GIVEN: usize = CLASSES as usize;
+// Each given class's number of fields, and how many classes, types and references are given.
+#[derive(Drop)]
+pub struct Known {
+    pub fields: [u64; CLASSES as usize],
+    pub classes: u64,
+    pub types: u64,
+    pub references: u64,
+}
 
-// Where it counts the types given.
-pub const TYPES_GIVEN: usize = CLASSES_GIVEN + 1;
+impl Known {
+    // Nothing is known.
+    pub fn new() -> Known
+        ensures starts { known_in result ≡ start }
+        ensures kept { Kept result }
+    {
+        Known {
+            fields: [0; CLASSES as usize],
+            classes: 0,
+            types: 0,
+            references: 0,
+        }
+    }
 
-// Where it counts the references given.
-pub const REFERENCES_GIVEN: usize = TYPES_GIVEN + 1;
+    // A class of so many fields gets the next number, where there is room for one more.
+    pub fn define(&mut self, fields: u64)
+        ensures { self.new ≡ defined_in self.old fields }
+    {
+        let class = self.classes;
+        if class < CLASSES {
+            self.fields[class as usize] = fields;
+            self.classes = class + 1;
+        }
+    }
 
-// How many numbers it has.
-pub const KNOWN: usize = REFERENCES_GIVEN + 1;
-
-// A class of so many fields gets the next number, where there is room for one more.
-pub fn define(known: &mut [u64; KNOWN], fields: u64)
-    ensures { known.new ≡ defined_in known.old fields }
-{
-    let given = known[CLASSES_GIVEN];
-    if given < CLASSES {
-        let k = given as usize;
-        known[k] = fields;
-        known[CLASSES_GIVEN] = given + 1;
+    // How many fields a class has, if it is given.
+    pub fn fields_of(&self, class: u64) -> Option<u64>
+        ensures { result ≡ slice_get (known_in self.now).classes class }
+    {
+        if class < self.classes {
+            self.fields.get(class as usize).copied()
+        } else {
+            None
+        }
     }
 }

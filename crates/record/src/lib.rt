@@ -1,11 +1,12 @@
 // What a record is, how a message reads, its shortest message, and what the theorems say stand in specs/, the laws and
-// the proofs in proofs/: theory, the limits, the kinds of rows and the types that code shares, and the array of what is
+// the proofs in proofs/: theory, the limits, the kinds of rows, the tables and the types that code shares, and what is
 // known.
 #![tactic(auto)]
 
 pub mod kinds;
 pub mod known;
 pub mod limits;
+pub mod tables;
 
 // How the values of a list, map or object are counted: so many elements; the fields of an object, with its class and
 // how many; elements up to 5a; keys and values up to 5a.
@@ -26,7 +27,7 @@ pub enum Contents {
 }
 
 // A row of a table. `after` is the number of the row just after the value, definition or single item that the row
-// opens.
+// opens. The kind stays a number, not a Kind: a lent table may hold any, as the C interface has it.
 #[derive(Clone, Copy)]
 pub struct Row {
     pub kind: u64,
@@ -40,4 +41,4 @@ pub struct Row {
 pub const ROW_NUMBERS: usize = 5;
 
 // So many bytes has a row in a table of bytes.
-pub const ROW_BYTES: usize = 40;
+pub(crate) const ROW_BYTES: usize = 40;

@@ -11,13 +11,13 @@
 // and what is to be printed, stdout.
 #![tactic(auto)]
 
-use reader::ReadAnswer;
+use reader::{Accepted, ReadError};
 use record::ROW_NUMBERS;
 use record::limits::LONGEST;
-use scalar::refusals::ROOM;
+use scalar::{Refusal, Refused};
 use std::io;
 use std::io::{BufWriter, Read, Write};
-use vectors::{Scanned, Step};
+use vectors::{After, Lines};
 
 // The longest message that is looked at, longer than any that is accepted, and the most numbers lent.
 const LARGEST: usize = LONGEST + 8_000;
@@ -27,152 +27,77 @@ const MOST: usize = 8_000;
 // The most bytes of cases.
 const MOST_INPUT: u64 = 400_000;
 
+// How many numbers are lent in the table, and the message.
 #[derive(Clone, Copy)]
-enum Case {
-    Of { lent: usize, size: usize },
-    NoCase,
+struct Case<'a> {
+    lent: usize,
+    message: &'a [u8],
 }
-
-// ---- cases
 
 // The case that the line is, its message stored.
-fn parse(line: &[u8], message: &mut [u8]) -> Case {
-    match vectors::decimal(line, 0) {
-        Scanned::NoNumber => Case::NoCase,
-        Scanned::Number { value, next } => match vectors::groups(line, next, message) {
-            Step::Stuck => Case::NoCase,
-            Step::On { next: end, size } => {
-                if end != line.len() {
-                    return Case::NoCase;
-                }
-                Case::Of {
-                    lent: value as usize,
-                    size,
-                }
-            }
-        },
+fn parse<'a>(line: &[u8], message: &'a mut [u8]) -> Option<Case<'a>> {
+    let lent = vectors::decimal(line, 0)?;
+    let end = vectors::groups(line, lent.next, message)?;
+    if end.next != line.len() {
+        return None;
     }
+    Some(Case {
+        lent: lent.value as usize,
+        message: message.get(..end.size)?,
+    })
 }
 
-// ---- the table
+// ---- answers
 
-// What the number `i` of the table is before a message is read.
-fn blank(i: usize) -> u64 {
-    0xb1a0_0000_0000_0000 + i as u64 % 0x1_0000_0000
-}
-
-fn clear(table: &mut [u64]) {
-    let mut i = 0;
-    while i < table.len() {
-        table[i] = blank(i);
-        i += 1;
-    }
-}
-
-// Whether the table from the number `from` on is as it was.
-fn unchanged(table: &[u64], from: usize) -> bool {
-    let mut i = from;
-    while i < table.len() {
-        if table[i] != blank(i) {
-            return false;
-        }
-        i += 1;
-    }
-    true
-}
-
-fn sum(table: &[u64]) -> u64 {
-    let mut s: u64 = 7;
-    let mut i = 0;
-    while i < table.len() {
-        s = vectors::summed(vectors::summed(s, table[i] / 0x1_0000_0000), table[i]);
-        i += 1;
-    }
-    s
-}
-
-// ---- printing
-
-fn say(to: &mut impl Write, text: &[u8]) -> io::Result<()> {
-    to.write_all(text)
-}
-
-fn say_number(to: &mut impl Write, n: u64) -> io::Result<()> {
-    write!(to, "{n}")
-}
-
-// A refusal has no shortest message: its length is 0.
-fn say_answer(
+// An answer, and the table that it left. A refusal has no shortest message: its length is 0.
+fn say_read(
     to: &mut impl Write,
-    number: u8,
-    count: usize,
-    place: usize,
-    shortest: u64,
+    read: Result<Accepted, ReadError>,
+    table: &[u64],
 ) -> io::Result<()> {
-    say_number(to, wire::wide(number))?;
-    say(to, b" ")?;
-    say_number(to, count as u64)?;
-    say(to, b" ")?;
-    say_number(to, place as u64)?;
-    say(to, b" ")?;
-    say_number(to, shortest)?;
-    say(to, b" ")
-}
-
-// The table after an answer: its sum, and whether all from the number `from` on is as it was.
-fn say_table(to: &mut impl Write, table: &[u64], from: usize) -> io::Result<()> {
-    say_number(to, sum(table))?;
-    if unchanged(table, from) {
-        say(to, b" ok")?;
-    }
-    Ok(())
-}
-
-// An answer, and the table that it left.
-fn say_read(to: &mut impl Write, answer: ReadAnswer, table: &[u64]) -> io::Result<()> {
-    match answer {
-        ReadAnswer::Accepted {
-            rows,
-            length,
-            shortest,
-        } => {
-            say_answer(to, 0, rows, length, shortest)?;
-            if rows <= MOST {
-                say_table(to, table, rows * ROW_NUMBERS)?;
-            }
-            Ok(())
+    let left = After {
+        lent: table,
+        from: 0,
+    };
+    match read {
+        Ok(
+            Accepted {
+                rows,
+                length,
+                shortest,
+            },
+        ) => {
+            let from = rows.saturating_mul(ROW_NUMBERS);
+            write!(
+                to,
+                "0 {rows} {length} {shortest} {}",
+                After { from, ..left }
+            )
         }
-        ReadAnswer::Refused { number, place } => {
-            say_answer(to, number, 0, place, 0)?;
-            say_table(to, table, 0)
+        Err(ReadError::Refused(Refused { refusal, place })) => {
+            write!(to, "{} 0 {place} 0 {left}", refusal.number())
         }
-        ReadAnswer::TooFew { needed } => {
-            say_answer(to, ROOM, needed, 0, 0)?;
-            say_table(to, table, 0)
+        Err(ReadError::TooFew { needed }) => {
+            write!(to, "{} {needed} 0 0 {left}", Refusal::Room.number())
         }
     }
-}
-
-// The lengths of the shortest message that are answered without a table.
-fn say_lengths(to: &mut impl Write, message: &[u8]) -> io::Result<()> {
-    say_number(to, reader::shortest_length(message))?;
-    say(to, b" ")?;
-    say_number(to, reader::shortest_length_thousandths(message))
 }
 
 fn answer(to: &mut impl Write, message: &[u8], table: &mut [u64]) -> io::Result<()> {
-    clear(table);
-    let float = reader::read(message, table);
-    say_read(to, float, table)?;
-    say(to, b"; ")?;
-    clear(table);
+    vectors::fill(table);
+    let floats = reader::read(message, table);
+    say_read(to, floats, table)?;
+    write!(to, "; ")?;
+    vectors::fill(table);
     let thousandths = reader::read_thousandths(message, table);
     say_read(to, thousandths, table)?;
-    say(to, b"; ")?;
-    say_lengths(to, message)
+    write!(
+        to,
+        "; {} {}",
+        reader::shortest_length(message),
+        reader::shortest_length_thousandths(message)
+    )
 }
-
-// ---- lines
 
 fn answer_line(
     to: &mut impl Write,
@@ -180,23 +105,13 @@ fn answer_line(
     message: &mut [u8],
     table: &mut [u64],
 ) -> io::Result<()> {
-    match parse(line, message) {
-        Case::NoCase => say(to, b"bad"),
-        Case::Of { lent, size } => {
-            if message.len() < size {
-                say(to, b"bad")
-            } else if table.len() < lent {
-                say(to, b"bad")
-            } else {
-                answer(to, &message[0..size], &mut table[0..lent])
-            }
-        }
-    }
-}
-
-fn run(to: &mut impl Write, line: &[u8], message: &mut [u8], table: &mut [u64]) -> io::Result<()> {
-    answer_line(to, line, message, table)?;
-    say(to, b"\n")
+    let Some(Case { lent, message }) = parse(line, message) else {
+        return write!(to, "bad");
+    };
+    let Some(table) = table.get_mut(..lent) else {
+        return write!(to, "bad");
+    };
+    answer(to, message, table)
 }
 
 fn run_all(
@@ -205,11 +120,9 @@ fn run_all(
     message: &mut [u8],
     table: &mut [u64],
 ) -> io::Result<()> {
-    let mut at = 0;
-    while at < input.len() {
-        let end = vectors::line_end(input, at);
-        run(to, &input[at..end], message, table)?;
-        at = end + 1;
+    for line in Lines::new(input) {
+        answer_line(to, line, message, table)?;
+        writeln!(to)?;
     }
     Ok(())
 }

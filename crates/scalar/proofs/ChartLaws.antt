@@ -1,5 +1,7 @@
 -- The chart of first bytes: what holds of every byte, by computation over all 256.
 use Rattle.std.specs.Prelude.{◌≡◌, refl, Bool, true, not, ◌&&◌, List, [], ◌∷◌, ℕ, zero, suc, ◌+◌, ◌-◌, ◌/◌, ◌%◌, ◌≤◌, ◌<◌, T, eqb, leb, ltb, get_or}
+use Rattle.std.specs.Prelude.{Some, None}
+use Rattle.std.specs.declared.option.Option as code
 use Rattle.std.proofs.Common.{sym, ◌∙◌, ap, subst, arith, T_not, eqb→eq, leb→le, lt→ltb}
 use borrow.Author.Tests.{eqb-true, eqb-false}
 use Rattle.std.proofs.Math.Dec.{eqb_refl}
@@ -9,11 +11,10 @@ use Rattle.scalar.specs.declared.Sort.{Sort}
 use Rattle.scalar.specs.declared.Sort.TheVariants.{Null, False, True, Int, Long, Double, Date}
 use Rattle.scalar.specs.declared.Rule.{Rule}
 use Rattle.scalar.specs.declared.Begun.{Begun}
-use Rattle.scalar.specs.declared.Begun.TheVariants.{Starts, NoForm}
 use Rattle.scalar.specs.declared.Lead.{Lead}
 use Rattle.scalar.specs.declared.Lead.TheVariants as lead
 use Rattle.scalar.specs.declared.Encoding.TheVariants.{Utf8, Binary}
-use Rattle.scalar.specs.Scalars.{Form, forms_of, form_at, part_head, last_heads}
+use Rattle.scalar.specs.Scalars.{Form, forms_of, begun, form_at, part_head, last_heads}
 use Rattle.scalar.specs.Chart.{ranges, range_of, lead_of, kind_of, follow_of, entry}
 use Rattle.scalar.specs.ChartLaws.{entry_runs, spread}
 
@@ -219,9 +220,9 @@ forms_by lead.Definition = []
 forms_by lead.Close = []
 forms_by lead.Reserved = []
 
-abbrev suits : Lead → ℕ → Begun → Bool
-suits x b NoForm = not (opens x b)
-suits x b (Starts k u r) = opens x b && eqb (follow_of b) k
+abbrev suits : Lead → ℕ → code.Option Begun → Bool
+suits x b None = not (opens x b)
+suits x b (Some z) = opens x b && eqb (follow_of b) z.more
 
 abbrev agrees : Lead → ℕ → Bool
 agrees x b = suits x b (form_at (forms_by x) b)
@@ -243,30 +244,33 @@ all_agree (number Date) = tt
 all_agree text = tt
 all_agree byte_string = tt
 
-agreed : {x : Lead} → HasForms x → (b : ℕ) (y : Begun) → b < 256 → form_at (forms_by x) b ≡ y → T (suits x b y)
-agreed {x} h b y l e = subst (λ (z : Begun). T (suits x b z)) e (every_at 256 (agrees x) (all_agree h) b l)
+agreed : {x : Lead} → HasForms x → (b : ℕ) (y : code.Option Begun) → b < 256 → form_at (forms_by x) b ≡ y → T (suits x b y)
+agreed {x} h b y l e = subst (λ (z : code.Option Begun). T (suits x b z)) e (every_at 256 (agrees x) (all_agree h) b l)
 
-pub lead_form : {x : Lead} → HasForms x → (b k u : ℕ) (r : Rule) → b < 256 → form_at (forms_by x) b ≡ Starts k u r
-    → (lead_of b ≡ x) × (follow_of b ≡ k)
-lead_form {x} h b k u r l e =
-    let t = agreed h b (Starts k u r) l e in (
-      opened x b (and_left (opens x b) (eqb (follow_of b) k) t),
-      eqb→eq (follow_of b) k (and_right (opens x b) (eqb (follow_of b) k) t),
+pub lead_form : {x : Lead} → HasForms x → (b : ℕ) (z : Begun) → b < 256 → form_at (forms_by x) b ≡ Some z
+    → (lead_of b ≡ x) × (follow_of b ≡ z.more)
+lead_form {x} h b z l e =
+    let t = agreed h b (Some z) l e in (
+      opened x b (and_left (opens x b) (eqb (follow_of b) z.more) t),
+      eqb→eq (follow_of b) z.more (and_right (opens x b) (eqb (follow_of b) z.more) t),
     )
 
 -- the byte begins a form, after which as many bytes follow
 pub record Begins (x : Lead) (b : ℕ) : Type 0 where
   pub held : ℕ
   pub rule : Rule
-  pub starts : form_at (forms_by x) b ≡ Starts (follow_of b) held rule
+  pub starts : form_at (forms_by x) b ≡ Some (begun (follow_of b) held rule)
 
 pub form_lead : {x : Lead} → HasForms x → (b : ℕ) → b < 256 → lead_of b ≡ x → Begins x b
 form_lead {x} h b l e = go (form_at (forms_by x) b) refl
   where
-    go : (y : Begun) → form_at (forms_by x) b ≡ y → Begins x b
-    go (Starts k u r) y =
-        record { held = u; rule = r; starts = y ∙ ap (λ (n : ℕ). Starts n u r) (sym (lead_form h b k u r l y).1) }
-    go NoForm y = absurd (T_not (opens x b) (agreed h b NoForm l y) (rw e (eqb_refl (kind_of x))))
+    go : (y : code.Option Begun) → form_at (forms_by x) b ≡ y → Begins x b
+    go (Some z) y = record {
+      held = z.held;
+      rule = z.rule;
+      starts = y ∙ ap (λ (n : ℕ). Some (begun n z.held z.rule)) (sym (lead_form h b z l y).1);
+    }
+    go None y = absurd (T_not (opens x b) (agreed h b None l y) (rw e (eqb_refl (kind_of x))))
 
 -- what else a byte opens has a kind above a byte string's
 all_alone : T (every 256 (λ b. implies (ltb 8 (kind_of (lead_of b))) (eqb (follow_of b) 0)))
@@ -279,6 +283,6 @@ nothing_follows b l h =
     (every_at 256 (λ b. implies (ltb 8 (kind_of (lead_of b))) (eqb (follow_of b) 0)) all_alone b l)
     (lt→ltb 8 (kind_of (lead_of b)) h))
 
-pub lead_number : (s : Sort) (b k u : ℕ) (r : Rule) → b < 256 → form_at (forms_of s) b ≡ Starts k u r
-    → (lead_of b ≡ lead.Number s) × (follow_of b ≡ k)
-lead_number s b k u r l e = lead_form (number s) b k u r l e
+pub lead_number : (s : Sort) (b : ℕ) (z : Begun) → b < 256 → form_at (forms_of s) b ≡ Some z
+    → (lead_of b ≡ lead.Number s) × (follow_of b ≡ z.more)
+lead_number s b z l e = lead_form (number s) b z l e

@@ -1,6 +1,7 @@
 -- The forms of each kind of value, of each head of a chunk, and what goes over a list of forms, case by case, so that
 -- the crates above need not open these definitions.
-use Rattle.std.specs.Prelude.{◌≡◌, true, false, List, [], ◌∷◌, ℕ, ◌-◌}
+use Rattle.std.specs.Prelude.{◌≡◌, true, false, List, [], ◌∷◌, ℕ, ◌-◌, Some, None}
+use Rattle.std.specs.declared.option.Option as code
 use Rattle.std.proofs.Math.Path.{refl}
 use Rattle.std.proofs.Math.Option.{none}
 use Rattle.flow.specs.Tests.{pick_either}
@@ -8,10 +9,9 @@ use Rattle.scalar.specs.declared.Sort.TheVariants.{Null, False, True, Int, Long,
 use Rattle.scalar.specs.declared.Rule.TheVariants.{Exactly, Plain, Offset, Signed, Minutes}
 use Rattle.scalar.specs.declared.Rule.TheVariants.{WholeByte, WholePair, Float}
 use Rattle.scalar.specs.declared.Begun.{Begun}
-use Rattle.scalar.specs.declared.Begun.TheVariants.{Starts, NoForm}
 use Rattle.scalar.specs.declared.Encoding.{Encoding}
 use Rattle.scalar.specs.declared.Encoding.TheVariants.{Utf8, Binary}
-use Rattle.scalar.specs.Scalars.{Form, form, forms_of, inside, form_at, shortest, part_head, last_heads}
+use Rattle.scalar.specs.Scalars.{Form, form, forms_of, inside, begun, form_at, shortest, part_head, last_heads}
 use Rattle.scalar.specs.NumberLaws.{tried}
 
 -- ---- the forms of a kind
@@ -97,12 +97,12 @@ last_heads_law Utf8 = refl
 last_heads_law Binary = refl
 
 -- ---- what a byte begins: of no forms; of the first, or of the others (and `form_here`, `form_skip`: NumberLaws.antt)
-pub form_none : (b : ℕ) → form_at [] b ≡ NoForm
+pub form_none : (b : ℕ) → form_at [] b ≡ None
 unfolding form_at
 form_none b = refl
 
-pub form_either : (P : Begun → Type 0) (w : Form) (ws : List Form) (b : ℕ)
-    → (inside w b ≡ true → P (Starts w.extra (b - w.head) w.rule)) → (inside w b ≡ false → P (form_at ws b))
+pub form_either : (P : code.Option Begun → Type 0) (w : Form) (ws : List Form) (b : ℕ)
+    → (inside w b ≡ true → P (Some (begun w.extra (b - w.head) w.rule))) → (inside w b ≡ false → P (form_at ws b))
     → P (form_at (w ∷ ws) b)
 unfolding form_at
 form_either P w ws b h k = pick_either P (inside w b) h k

@@ -1,5 +1,7 @@
 -- A value at a place of a whole message, by its first byte and by what is left of the message.
 use Rattle.std.specs.Prelude.{◌≡◌, refl, List, [], ◌∷◌, ℕ, zero, suc, ◌+◌, ◌*◌, ◌≤◌, ◌<◌, length, take, drop, get_or}
+use Rattle.std.specs.Prelude.{Some, None}
+use Rattle.std.specs.declared.option.Option as code
 use Rattle.std.proofs.Common.{sym, ◌∙◌, ap, add-zero, arith, length-drop, drop_of_length-le, drop-cons}
 use Rattle.std.proofs.Math.Nat.{min-eq_left, min-eq_right}
 use Rattle.flow.specs.Flow.{Outcome, Done, Fault, One, byte_at}
@@ -7,9 +9,7 @@ use Rattle.flow.specs.Steps.{stepped, alone}
 use Rattle.flow.specs.Lifts.{Lifts, give_lifts, fail_lifts, byte_lifts, map_lifts}
 use Rattle.wire.specs.BigEndian.{joined}
 use Rattle.scalar.specs.declared.Sort.{Sort}
-use Rattle.scalar.specs.declared.Rule.{Rule}
 use Rattle.scalar.specs.declared.Begun.{Begun}
-use Rattle.scalar.specs.declared.Begun.TheVariants.{Starts, NoForm}
 use Rattle.scalar.specs.Scalars.{value, DoubleRule, Floats, value_under, Form, forms_of, form_at, bytes_of}
 use Rattle.scalar.specs.Scalars.{number_under}
 use Rattle.scalar.specs.Scalars.{number_from}
@@ -43,21 +43,21 @@ module _ (ws : List Form) (m : List ℕ) (p : ℕ) where
     first : at_place ≡ stepped (number_by (form_at ws (get_or m p 0)) p tt (p + 1) (drop (suc p) m))
     first = rw (drop-cons m p 0 l, min-eq_left {n = p} {m = length m} (omega arith))
 
-    none_here : form_at ws (get_or m p 0) ≡ NoForm → at_place ≡ Fault 3 p
+    none_here : form_at ws (get_or m p 0) ≡ None → at_place ≡ Fault 3 p
     none_here e = first ∙ rw e refl
 
-    module _ (k u : ℕ) (r : Rule) (e : form_at ws (get_or m p 0) ≡ Starts k u r) where
-      cut : length m ≤ p + k → at_place ≡ Fault 2 (length m)
+    module _ (z : Begun) (e : form_at ws (get_or m p 0) ≡ Some z) where
+      cut : length m ≤ p + z.more → at_place ≡ Fault 2 (length m)
       cut h =
           first
-          ∙ rw (e, bytes_cut {I = One} k u (tt {0}) (p + 1) (drop (suc p) m) (omega (arith, length-drop (suc p) m)))
+          ∙ rw (e, bytes_cut {I = One} z.more z.held (tt {0}) (p + 1) (drop (suc p) m) (omega (arith, length-drop (suc p) m)))
           (ap (λ (o : ℕ). Fault 2 o) (omega (arith, length-drop (suc p) m)))
 
-      there : p + k < length m → at_place ≡ Done (suc k) (value r (joined u (take k (drop (suc p) m)))) [] tt
+      there : p + z.more < length m → at_place ≡ Done (suc z.more) (value z.rule (joined z.held (take z.more (drop (suc p) m)))) [] tt
       there h =
           first
           ∙ rw
-          (e, bytes_there {I = One} k u (tt {0}) (p + 1) (drop (suc p) m) (omega (arith, length-drop (suc p) m))) refl
+          (e, bytes_there {I = One} z.more z.held (tt {0}) (p + 1) (drop (suc p) m) (omega (arith, length-drop (suc p) m))) refl
 
 -- ---- the same of a kind of value
 module _ (s : Sort) (m : List ℕ) (p : ℕ) where
@@ -66,19 +66,19 @@ module _ (s : Sort) (m : List ℕ) (p : ℕ) where
   number_ends l = ends (forms_of s) m p l
 
   module _ (l : p < length m) where
-    pub number_none : form_at (forms_of s) (get_or m p 0) ≡ NoForm → number_at s m p ≡ Fault 3 p
+    pub number_none : form_at (forms_of s) (get_or m p 0) ≡ None → number_at s m p ≡ Fault 3 p
     unfolding number_at
     number_none e = none_here (forms_of s) m p l e
 
-    module _ (k u : ℕ) (r : Rule) (e : form_at (forms_of s) (get_or m p 0) ≡ Starts k u r) where
-      pub number_cut : length m ≤ p + k → number_at s m p ≡ Fault 2 (length m)
+    module _ (z : Begun) (e : form_at (forms_of s) (get_or m p 0) ≡ Some z) where
+      pub number_cut : length m ≤ p + z.more → number_at s m p ≡ Fault 2 (length m)
       unfolding number_at
-      number_cut h = cut (forms_of s) m p l k u r e h
+      number_cut h = cut (forms_of s) m p l z e h
 
-      pub number_there : p + k < length m
-          → number_at s m p ≡ Done (suc k) (value r (joined u (take k (drop (suc p) m)))) [] tt
+      pub number_there : p + z.more < length m
+          → number_at s m p ≡ Done (suc z.more) (value z.rule (joined z.held (take z.more (drop (suc p) m)))) [] tt
       unfolding number_at
-      number_there h = there (forms_of s) m p l k u r e h
+      number_there h = there (forms_of s) m p l z e h
 
 -- ---- what is known, and what the items are, does not matter
 module _ {C I : Type 0} (c : C) where
@@ -86,9 +86,9 @@ module _ {C I : Type 0} (c : C) where
   bytes_lifts zero u = give_lifts c u
   bytes_lifts (suc k) u = byte_lifts c (λ p b. bytes_lifts k (256 * u + b))
 
-  by_lifts : (ρ : DoubleRule) (x : Begun) (p : ℕ) → Lifts {I = I} c (begun_under ρ x p) (begun_under ρ x p)
-  by_lifts ρ NoForm p = fail_lifts c 3 p
-  by_lifts ρ (Starts k u r) p = map_lifts c (value_under ρ r) (bytes_lifts k u)
+  by_lifts : (ρ : DoubleRule) (x : code.Option Begun) (p : ℕ) → Lifts {I = I} c (begun_under ρ x p) (begun_under ρ x p)
+  by_lifts ρ None p = fail_lifts c 3 p
+  by_lifts ρ (Some z) p = map_lifts c (value_under ρ z.rule) (bytes_lifts z.more z.held)
 
   pub under_lifts : (ρ : DoubleRule) (ws : List Form) (p b : ℕ)
       → Lifts {I = I} c (number_under ρ ws p b) (number_under ρ ws p b)

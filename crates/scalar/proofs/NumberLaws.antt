@@ -1,6 +1,8 @@
 -- Single values: what is read is a form of the grammar, and a form of the grammar is read; the shortest form.
 use Rattle.std.specs.Prelude.{◌≡◌, refl, Bool, true, false, cond, ◌&&◌, ℕ, zero, suc, ◌+◌, ◌*◌, ◌-◌, ◌≤◌, ◌<◌, length}
 use Rattle.std.proofs.Common.{sym, ◌∙◌, ap, subst, arith}
+use Rattle.std.specs.Prelude.{Some, None}
+use Rattle.std.specs.declared.option.Option as code
 use mathlib.Core.List.{List, [], ◌∷◌}
 use Rattle.std.proofs.Math.Option.{Option, none, some}
 use lib.Dec.{T, ltb, leb, leb→le, eqb, eqb→eq, eqb_refl, ltb→lt}
@@ -11,17 +13,16 @@ use Rattle.flow.specs.Laws.{Goal, Parsed, gives, takes, maps, Makes, byte_makes,
 use Rattle.wire.specs.BigEndian.{joined, be, high, wider}
 use Rattle.wire.specs.Laws.{be_length, be_bytes, joined_be, high_below, joined_below}
 use Rattle.scalar.specs.declared.Begun.{Begun}
-use Rattle.scalar.specs.declared.Begun.TheVariants.{Starts, NoForm}
-use Rattle.scalar.specs.Scalars.{value, DoubleRule, Floats, value_under, Form, inside, form_at, bytes_of}
+use Rattle.scalar.specs.Scalars.{value, DoubleRule, Floats, value_under, Form, inside, begun, form_at, bytes_of}
 use Rattle.scalar.specs.Scalars.{number_under, spelling, fits, shortest}
 use Rattle.scalar.specs.Grammar.{HeldUnder, NumberUnder, Held, held, Number, here, later}
 use Rattle.scalar.specs.Guesses.{guess}
 
 -- reading by what the first byte, at p, began: for proofs
-abbrev pub begun_under : {C I : Type 0} → DoubleRule → Begun → ℕ → Read C I ℕ
-begun_under ρ x p = elim x [ NoForm ↦ fail 3 p | Starts k u r ↦ mapped (value_under ρ r) (bytes_of k u) ]
+abbrev pub begun_under : {C I : Type 0} → DoubleRule → code.Option Begun → ℕ → Read C I ℕ
+begun_under ρ x p = elim x [ None ↦ fail 3 p | Some z ↦ mapped (value_under ρ z.rule) (bytes_of z.more z.held) ]
 
-abbrev pub number_by : {C I : Type 0} → Begun → ℕ → Read C I ℕ
+abbrev pub number_by : {C I : Type 0} → code.Option Begun → ℕ → Read C I ℕ
 number_by = begun_under Floats
 
 -- how many numbers a form holds
@@ -30,7 +31,7 @@ size w = wider w.extra w.codes
 
 -- ---- the first byte
 pub form_here : (w : Form) (ws : List Form) (b : ℕ) → inside w b ≡ true
-    → form_at (w ∷ ws) b ≡ Starts w.extra (b - w.head) w.rule
+    → form_at (w ∷ ws) b ≡ Some (begun w.extra (b - w.head) w.rule)
 unfolding form_at
 form_here w ws b h = pick_true _ _ h
 
@@ -89,7 +90,7 @@ module _ {C I : Type 0} where
   unfolding form_at
   number_reads ρ [] H p b c at s l h = tt
   number_reads ρ (w ∷ ws) H p b c at s l h =
-      pick_either (λ (x : Begun). Parsed (H b) s (begun_under ρ x p c at s)) (inside w b)
+      pick_either (λ (x : code.Option Begun). Parsed (H b) s (begun_under ρ x p c at s)) (inside w b)
       (λ x. let r = within_is w.head (w.head + w.codes) b (rw x tt) in
       maps (H b) (value_under ρ w.rule) s (bytes_of w.extra (b - w.head) c at s)
       (bytes_read w.extra (b - w.head) (λ u a is c'. H b u (value_under ρ w.rule a) is c') c at s l
@@ -120,15 +121,15 @@ module _ {C : Type 0} (I : Type 0) where
       → LedUnder I ρ ws t v c → LedUnder I ρ (w ∷ ws) t v c
   skip_form ρ w ws c [] v x h = h
   skip_form ρ w ws c (b ∷ t) v x h =
-      λ p. subst (λ (z : Begun). Makes {I = I} (begun_under ρ z p) c t v [] c) (sym (form_skip w ws b x)) (h p)
+      λ p. subst (λ (z : code.Option Begun). Makes {I = I} (begun_under ρ z p) c t v [] c) (sym (form_skip w ws b x)) (h p)
 
   pub number_makes : {ρ : DoubleRule} {ws : List Form} {t : List ℕ} {v : ℕ} → NumberUnder ρ ws t v → T (proper ws)
       → (c : C) → LedUnder I ρ ws t v c
   number_makes {ρ} (here {w = w} {ws = ws} (held q t l e i)) x c = λ p.
-      let d : Starts w.extra (w.head + q - w.head) w.rule ≡ Starts w.extra q w.rule =
-      ap (λ (z : ℕ). Starts w.extra z w.rule) (omega arith) in
-      subst (λ (z : Begun). Makes {I = I} (begun_under ρ z p) c t (value_under ρ w.rule (joined q t)) [] c)
-      (sym (form_here w ws (w.head + q) (inside_self w q l) ∙ d))
+      let d : begun w.extra (w.head + q - w.head) w.rule ≡ begun w.extra q w.rule =
+      ap (λ (z : ℕ). begun w.extra z w.rule) (omega arith) in
+      subst (λ (z : code.Option Begun). Makes {I = I} (begun_under ρ z p) c t (value_under ρ w.rule (joined q t)) [] c)
+      (sym (form_here w ws (w.head + q) (inside_self w q l) ∙ ap Some d))
       (map_makes (value_under ρ w.rule) (bytes_of w.extra q) (bytes_make w.extra q t e c))
   number_makes {ρ} (later {w = w} {ws = ws} {t = t} {v = v} n) x c =
       skip_form ρ w ws c t v (number_apart w n (and_left (clear w ws) (leb (w.head + w.codes) 256 && proper ws) x))

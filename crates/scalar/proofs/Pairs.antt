@@ -26,7 +26,14 @@ pub paired_length : (d x y z : ℕ) → length (paired d x y z) ≡ 4
 unfolding paired
 paired_length d x y z = refl
 
--- the four bytes as one number, as code stores them
+-- the four bytes, one by one
+pub paired_bytes : (d x y z : ℕ) → paired d x y z
+    ≡ (0xf0 + (d % 16 + 1) / 4) ∷ (0x80 + (d % 16 + 1) % 4 * 16 + x % 64 / 4) ∷ (0x80 + x % 4 * 16 + y % 16)
+    ∷ (0x80 + z % 64) ∷ []
+unfolding paired
+paired_bytes d x y z = refl
+
+-- the four bytes as one number
 pub paired_be : (d x y z : ℕ) → be 4 (
     (((0xf0 + (d % 16 + 1) / 4) * 256
     + (0x80 + (d % 16 + 1) % 4 * 16 + x % 64 / 4)) * 256

@@ -2,6 +2,8 @@
 -- of these, and so of each refusal that is given. At most `bound` bytes are left, as in flow's laws: so the number that
 -- only bounds the recursion of `chunks` runs out only at the end.
 use Rattle.std.specs.Prelude.{List, [], ◌∷◌, ◌++◌, ℕ, zero, suc, ◌+◌, ◌*◌, ◌<◌, length}
+use Rattle.std.specs.Prelude.{Some, None}
+use Rattle.std.specs.declared.option.Option as code
 use Rattle.std.proofs.Math.Option.{Option, none, some}
 use Rattle.std.proofs.Common.{arith}
 use Rattle.flow.specs.RefusalNumbers.{cut, wrong_byte, not_utf8}
@@ -12,7 +14,6 @@ use Rattle.flow.specs.Refusals.{cut_tells, next_tells, byte_tells}
 use Rattle.scalar.specs.declared.Sort.{Sort}
 use Rattle.scalar.specs.declared.Sort.TheVariants as sort
 use Rattle.scalar.specs.declared.Begun.{Begun}
-use Rattle.scalar.specs.declared.Begun.TheVariants.{Starts, NoForm}
 use Rattle.scalar.specs.declared.Encoding.{Encoding}
 use Rattle.scalar.specs.declared.Encoding.TheVariants.{Utf8, Binary}
 use Rattle.scalar.specs.declared.CharLead.{CharLead}
@@ -38,9 +39,9 @@ module _ {C I : Type 0} {P : ℕ → ℕ → Type 0} {end : ℕ} (ends : P cut e
     bytes_tell zero u = give_tells u
     bytes_tell (suc k) u = byte_tells ends (λ p b m. bytes_tell k (256 * u + b))
 
-    by_tells : (ρ : DoubleRule) (x : Begun) (p : ℕ) → p < end → Tells {C = C} {I = I} P end bound (begun_under ρ x p)
-    by_tells ρ NoForm p m = fail_tells (wrong p m)
-    by_tells ρ (Starts k u r) p m = mapped_tells (value_under ρ r) (bytes_tell k u)
+    by_tells : (ρ : DoubleRule) (x : code.Option Begun) (p : ℕ) → p < end → Tells {C = C} {I = I} P end bound (begun_under ρ x p)
+    by_tells ρ None p m = fail_tells (wrong p m)
+    by_tells ρ (Some z) p m = mapped_tells (value_under ρ z.rule) (bytes_tell z.more z.held)
 
     number_tells : (ρ : DoubleRule) (ws : List Form) → TellsFrom {C = C} {I = I} P end bound (number_under ρ ws)
     number_tells ρ ws p b m = by_tells ρ (form_at ws b) p m

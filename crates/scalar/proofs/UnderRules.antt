@@ -2,6 +2,8 @@
 -- read by the main rule.
 use Rattle.std.proofs.Math.Path.{◌≡◌, refl, ap, subst}
 use Rattle.std.proofs.Common.{sym, ◌∙◌, inl, inr, length-drop}
+use Rattle.std.specs.Prelude.{Some}
+use Rattle.std.specs.declared.option.Option as code
 use Rattle.std.specs.Prelude.{Bool, ◌&&◌, ◌⊎◌, leb, length, take, drop, get_or}
 use Rattle.std.proofs.Math.Bool.{true, false}
 use mathlib.Core.List.{List, [], ◌∷◌}
@@ -17,14 +19,13 @@ use Rattle.flow.specs.Tests.{pick_true, pick_false, pick_either, by_cases, split
 use Rattle.wire.specs.BigEndian.{joined}
 use Rattle.wire.specs.Laws.{high_below}
 use Rattle.scalar.specs.declared.{Sort.Sort, Rule.Rule, Begun.Begun, Lead.Lead}
-use Rattle.scalar.specs.declared.Begun.TheVariants.{Starts}
 use Rattle.scalar.specs.declared.Encoding.TheVariants.{Utf8, Binary}
 use Rattle.scalar.specs.declared.Lead.TheVariants as lead
 use Rattle.scalar.specs.declared.Sort.TheVariants.{Null, False, True, Int, Long, Double, Date}
 use Rattle.scalar.specs.declared.Rule.TheVariants.{Exactly, Plain, Offset, Signed, Minutes}
 use Rattle.scalar.specs.declared.Rule.TheVariants.{WholeByte, WholePair, Float}
 use Rattle.scalar.specs.Scalars.{thousandths, value, DoubleRule, Floats, Thousandths, value_under, Form, form}
-use Rattle.scalar.specs.Scalars.{forms_of, form_at, inside, bytes_of, number_under, number_from, scalar_from}
+use Rattle.scalar.specs.Scalars.{forms_of, begun, form_at, inside, bytes_of, number_under, number_from, scalar_from}
 use Rattle.scalar.specs.Scalars.{sort_kind, string_from, int_from, text_from, Scalar, Num, Str}
 use Rattle.scalar.specs.Grammar.{HeldUnder, held, NumberUnder, Number, here, later, SpeltUnder, Spelt}
 use Rattle.scalar.specs.Grammar.{a_number, a_string}
@@ -113,7 +114,7 @@ module _ {C I : Type 0} (p b : ℕ) (c : C) (at : ℕ) (s : List ℕ) where
   number_settled [] x = refl
   number_settled (w ∷ ws) x =
       pick_either
-      (λ (z : Begun). begun_under {I = I} Thousandths z p c at s ≡ begun_under Floats z p c at s) (inside w b)
+      (λ (z : code.Option Begun). begun_under {I = I} Thousandths z p c at s ≡ begun_under Floats z p c at s) (inside w b)
       (λ t. one x.0 t) (λ t. number_settled ws x.1)
     where
       one : T (settled w.rule) ⊎ (inside w b ≡ false) → inside w b ≡ true
@@ -124,7 +125,7 @@ module _ {C I : Type 0} (p b : ℕ) (c : C) (at : ℕ) (s : List ℕ) where
           (value_settled Thousandths w.rule h)
       one (inr h) t = let z : ◌≡◌ {A = ℕ} 0 1 = cc in absurd (omega arith)
 
-five_form : (b : ℕ) → b ≡ 0x5f → form_at (forms_of Double) b ≡ Starts 4 0 Float
+five_form : (b : ℕ) → b ≡ 0x5f → form_at (forms_of Double) b ≡ Some (begun 4 0 Float)
 unfolding forms_of
 five_form b e = rw e (
     skips (form 0x5b 1 0 (Exactly 0)) _ refl
@@ -184,7 +185,7 @@ module _ (m : List ℕ) (p : ℕ) where
     five : b ≡ 0x5f → number_under {I = I} Thousandths (forms_of Double) p b c (p + 1) (drop (p + 1) m)
         ≡ renamed (in_thousandths_at m p Double) (number_from (forms_of Double) p b c (p + 1) (drop (p + 1) m))
     unfolding in_thousandths_at is_double
-    five e = subst (λ (z : Begun). begun_under {I = I} Thousandths z p c (p + 1) (drop (p + 1) m)
+    five e = subst (λ (z : code.Option Begun). begun_under {I = I} Thousandths z p c (p + 1) (drop (p + 1) m)
         ≡ renamed (in_thousandths_at m p Double) (begun_under Floats z p c (p + 1) (drop (p + 1) m)))
         (sym (five_form b e)) (split (length (drop (p + 1) m)) 4 cut whole)
       where

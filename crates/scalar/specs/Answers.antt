@@ -5,8 +5,9 @@ use lib.{Dec.leb, Dec.eqb, ListN.length}
 use Rattle.flow.specs.RefusalNumbers.{no_room, no_record}
 use Rattle.flow.specs.Flow.{pick, Done, Fault, byte_at, stored, Report, reported}
 use Rattle.flow.specs.Steps.{Answer, alone, renamed}
-use Rattle.scalar.specs.declared.{Sort.Sort, Encoding.Encoding, Written.Written, Written.TheVariants.Stored}
-use Rattle.scalar.specs.declared.{Written.TheVariants.NoRoom, Written.TheVariants.NoSuchForm}
+use Rattle.std.specs.Prelude.{Result, Ok, Err}
+use Rattle.scalar.specs.declared.{Sort.Sort, Encoding.Encoding, Unwritten.Unwritten}
+use Rattle.scalar.specs.declared.{Unwritten.TheVariants.NoRoom, Unwritten.TheVariants.NoSuchForm}
 use Rattle.scalar.specs.Scalars.{forms_of, number_from, shortest, units, string_at, shortest_string}
 
 -- what stands at the place p of the message m, read as a value of this kind
@@ -14,10 +15,10 @@ unfoldable pub number_at : Sort → List ℕ → ℕ → Answer ℕ
 number_at s m p = alone (byte_at (number_from (forms_of s))) m p
 
 -- the bytes stored or needed
-abbrev pub report : Written → Report
-report (Stored n) = reported 0 n
-report (NoRoom n) = reported no_room n
-report NoSuchForm = reported no_record 0
+abbrev pub report : Result ℕ Unwritten → Report
+report (Ok n) = reported 0 n
+report (Err (NoRoom n)) = reported no_room n
+report (Err NoSuchForm) = reported no_record 0
 
 -- what storing a form from the index at on comes to, in a slice of len bytes; and what the slice then holds
 unfoldable pub report_of : Option (List ℕ) → ℕ → ℕ → Report

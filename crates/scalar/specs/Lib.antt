@@ -1,3 +1,4 @@
+pub mod Refusals
 pub mod Guesses
 pub mod Scalars
 pub mod Grammar

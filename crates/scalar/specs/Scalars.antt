@@ -10,8 +10,9 @@ use Rattle.flow.specs.RefusalNumbers.{cut, wrong_byte, not_utf8}
 use Rattle.flow.specs.Flow.{pick, within, same_list, Outcome, Done, Fault, Read, From, One}
 use Rattle.flow.specs.Flow.{give, fail, byte_at, mapped, bind}
 use Rattle.wire.specs.BigEndian.{be, high, wider}
+use Rattle.std.specs.Prelude.{Some, None}
+use Rattle.std.specs.declared.option.Option as code
 use Rattle.scalar.specs.declared.{Sort.Sort, Rule.Rule, Begun.Begun, Encoding.Encoding}
-use Rattle.scalar.specs.declared.Begun.TheVariants.{Starts, NoForm}
 use Rattle.scalar.specs.declared.Encoding.TheVariants.{Utf8, Binary}
 use Rattle.scalar.specs.declared.Sort.TheVariants.{Null, False, True, Int, Long, Double, Date}
 use Rattle.scalar.specs.declared.Rule.TheVariants.{Exactly, Plain, Offset, Signed, Minutes}
@@ -129,9 +130,12 @@ sort_kind s = elim s [ Null ↦ 0 | False ↦ 1 | True ↦ 2 | Int ↦ 3 | Long 
 abbrev pub inside : Form → ℕ → Bool  -- the byte b is one of the form's first bytes
 inside w b = within w.head (w.head + w.codes) b
 
-unfoldable pub form_at : List Form → ℕ → Begun  -- what the byte b begins
-form_at [] b = NoForm
-form_at (w ∷ ws) b = pick (inside w b) (Starts w.extra (b - w.head) w.rule) (form_at ws b)
+abbrev pub begun : ℕ → ℕ → Rule → Begun
+begun k u r = record { more = k; held = u; rule = r }
+
+unfoldable pub form_at : List Form → ℕ → code.Option Begun  -- what the byte b begins, if anything
+form_at [] b = None
+form_at (w ∷ ws) b = pick (inside w b) (Some (begun w.extra (b - w.head) w.rule)) (form_at ws b)
 
 module _ {C I : Type 0} where
   abbrev pub bytes_of : ℕ → ℕ → Read C I ℕ  -- k bytes more, the highest first, after u
@@ -141,7 +145,10 @@ module _ {C I : Type 0} where
   -- a value of one of these forms, whose first byte is b, at p; any other is a wrong byte
   abbrev pub number_under : DoubleRule → List Form → From C I ℕ
   number_under ρ ws p b =
-      elim (form_at ws b) [ NoForm ↦ fail wrong_byte p | Starts k u r ↦ mapped (value_under ρ r) (bytes_of k u) ]
+      elim (form_at ws b) [
+        | None ↦ fail wrong_byte p
+        | Some x ↦ mapped (value_under ρ x.rule) (bytes_of x.more x.held)
+      ]
 
   -- by the main rule: also the counts, numbers and lengths, which are no doubles
   abbrev pub number_from : List Form → From C I ℕ

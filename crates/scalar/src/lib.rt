@@ -4,8 +4,10 @@
 
 pub mod refusals;
 
+pub use refusals::{Refusal, Refused};
+
 // A kind of single value.
-#[derive(Clone, Copy)]
+#[derive(Clone, Copy, PartialEq, Eq)]
 pub enum Sort {
     Null,
     False,
@@ -56,13 +58,14 @@ pub enum Rule {
 
 // What a first byte begins: how many bytes follow, what it holds itself, and the rule for the number in all.
 #[derive(Clone, Copy)]
-pub enum Begun {
-    Starts { more: usize, held: u64, rule: Rule },
-    NoForm,
+pub struct Begun {
+    pub more: usize,
+    pub held: u64,
+    pub rule: Rule,
 }
 
 // What a string holds: characters in UTF-8, or bytes.
-#[derive(Clone, Copy)]
+#[derive(Clone, Copy, PartialEq, Eq)]
 pub enum Encoding {
     Utf8,
     Binary,
@@ -79,11 +82,9 @@ pub enum CharLead {
     NoChar,
 }
 
-// What storing a shortest form comes to: the bytes stored; the bytes needed, where they do not fit; or there is no such
-// form.
-#[derive(Clone, Copy)]
-pub enum Written {
-    Stored { size: usize },
+// Why a shortest form is not stored: it does not fit, and needs so many bytes; or there is no such form.
+#[derive(Clone, Copy, PartialEq, Eq)]
+pub enum Unwritten {
     NoRoom { needed: usize },
     NoSuchForm,
 }

@@ -15,13 +15,13 @@
 // What is no case is `bad`. vectors.py writes the cases, stdin, and what is to be printed, stdout.
 #![tactic(auto)]
 
-ghost use Rattle.std.specs.Prelude.{◌≤◌, ◌<◌, length};
+ghost use Rattle.std.specs.Prelude.{◌*◌, ◌≤◌, ◌<◌, length, IfSome};
 
-use scalar::{Encoding, Written};
-use std::io;
+use scalar::{Encoding, Refused, Unwritten};
 use std::io::{BufWriter, Read, Write};
+use std::{fmt, io};
 use texts::StringRead;
-use vectors::{Scanned, Step};
+use vectors::{Hex, Lines};
 
 // The most bytes of cases.
 const MOST_INPUT: u64 = 65_536;
@@ -41,376 +41,246 @@ const LONG: usize = 5_000;
 // Bytes that stand this often are a segment of their own.
 const OFTEN: usize = 4;
 
-#[derive(Clone, Copy)]
-enum Case {
-    Of {
-        kind: Encoding,
-        at: usize,
-        size: usize,
-    },
-    NoCase,
-}
-
-// Bytes that repeat: how many at once, how often, and how many in all.
-#[derive(Clone, Copy)]
-struct Group {
-    width: usize,
-    times: usize,
-    bytes: usize,
-}
+// The most bytes at once that may be one.
+const WIDEST: usize = 4;
 
 // ---- cases
 
-fn case_of(letter: u8, at: usize, size: usize) -> Case {
+// The text or byte string at a place of a message.
+#[derive(Clone, Copy)]
+struct Item<'a> {
+    kind: Encoding,
+    message: &'a [u8],
+    at: usize,
+}
+
+impl Item<'_> {
+    // It as it is read, by the function for texts where it is one.
+    fn read(self) -> Result<StringRead, Refused> {
+        match self.kind {
+            Encoding::Utf8 => texts::read_text(self.message, self.at),
+            Encoding::Binary => texts::read_string(Encoding::Binary, self.message, self.at),
+        }
+    }
+
+    // How long its shortest form is.
+    fn length(self) -> usize {
+        text_writer::string_length(self.kind, self.message, self.at)
+    }
+
+    // Its shortest form, stored at PLACE.
+    fn store(self, out: &mut [u8]) -> Result<usize, Unwritten> {
+        text_writer::write_string(self.kind, self.message, self.at, out, PLACE)
+    }
+}
+
+fn kind_of(letter: u8) -> Option<Encoding> {
     match letter {
-        b'u' => Case::Of {
-            kind: Encoding::Utf8,
-            at,
-            size,
-        },
-        b'b' => Case::Of {
-            kind: Encoding::Binary,
-            at,
-            size,
-        },
-        _ => Case::NoCase,
+        b'u' => Some(Encoding::Utf8),
+        b'b' => Some(Encoding::Binary),
+        _ => None,
     }
 }
 
 // The case that the line is, its message stored.
-fn parse(line: &[u8], message: &mut [u8]) -> Case {
-    if line.len() < 3 {
-        return Case::NoCase;
+fn parse<'a>(line: &[u8], message: &'a mut [u8]) -> Option<Item<'a>> {
+    let [letter, b' ', ..] = line else {
+        return None;
+    };
+    let kind = kind_of(*letter)?;
+    let place = vectors::decimal(line, 2)?;
+    let end = vectors::groups(line, place.next, message)?;
+    if end.next != line.len() {
+        return None;
     }
-    if line[1] != b' ' {
-        return Case::NoCase;
-    }
-    match vectors::decimal(line, 2) {
-        Scanned::NoNumber => Case::NoCase,
-        Scanned::Number { value, next } => match vectors::groups(line, next, message) {
-            Step::Stuck => Case::NoCase,
-            Step::On { next: end, size } => {
-                if end != line.len() {
-                    return Case::NoCase;
-                }
-                case_of(line[0], value as usize, size)
-            }
-        },
-    }
+    Some(Item {
+        kind,
+        message: message.get(..end.size)?,
+        at: place.value as usize,
+    })
 }
 
 // ---- printing
 
-fn say(to: &mut impl Write, text: &[u8]) -> io::Result<()> {
-    to.write_all(text)
-}
-
-fn say_number(to: &mut impl Write, n: usize) -> io::Result<()> {
-    write!(to, "{n}")
-}
-
-// The first `count` bytes, in hexadecimal digits.
-fn say_bytes(to: &mut impl Write, bytes: &[u8], count: usize) -> io::Result<()> {
-    let mut i = 0;
-    while i < bytes.len() {
-        if count <= i {
-            return Ok(());
-        }
-        let byte = bytes[i];
-        write!(to, "{byte:02x}")?;
-        i += 1;
-    }
-    Ok(())
+// Bytes that repeat at the start of some: the bytes once, how often, and what comes after them.
+#[derive(Clone, Copy)]
+struct Group<'a> {
+    once: &'a [u8],
+    times: usize,
+    rest: &'a [u8],
 }
 
 // How often the first `width` bytes stand in a row at the start.
-fn group_at(bytes: &[u8], width: usize) -> Group
+fn times_of(bytes: &[u8], width: usize) -> usize
     requires { (0 < width) × (width ≤ length bytes.now) }
-    ensures { (0 < result.bytes) × (result.bytes ≤ length bytes.now) }
+    ensures { (0 < width * result) × (width * result ≤ length bytes.now) }
 {
-    let mut times = 1;
-    let mut all = width;
-    let mut phase = width;
-    let mut back = 0;
-    let mut here = width;
-    while here < bytes.len() {
-        if bytes[here] != bytes[back] {
-            break;
-        }
-        here += 1;
-        back += 1;
-        phase -= 1;
-        if phase == 0 {
-            phase = width;
-            times += 1;
-            all = here;
-        }
-    }
-    Group {
-        width,
-        times,
-        bytes: all,
-    }
+    let later = &bytes[width..];
+    let same = bytes
+        .iter()
+        .zip(later)
+        .take_while(|(b, c)| *b == *c)
+        .count();
+    1 + same / width
 }
 
-// The fewest bytes at the start, up to four, that repeat; or the first byte.
-fn first_group(bytes: &[u8]) -> Group
-    requires { 0 < length bytes.now }
-    ensures { (0 < result.bytes) × (result.bytes ≤ length bytes.now) }
+// The fewest bytes at the start, up to WIDEST, that stand there OFTEN.
+fn first_group(bytes: &[u8]) -> Option<Group<'_>>
+    ensures { IfSome result (λ g. length g.rest.now < length bytes.now) }
 {
-    let mut width = 1;
-    while width < 5 {
-        if bytes.len() < width {
-            break;
+    for width in 1..WIDEST.min(bytes.len()) + 1 {
+        let times = times_of(bytes, width);
+        if OFTEN <= times {
+            let (once, rest) = (&bytes[..width], &bytes[width * times..]);
+            return Some(Group { once, times, rest });
         }
-        let g = group_at(bytes, width);
-        if OFTEN <= g.times {
-            return g;
-        }
-        width += 1;
     }
-    Group {
-        width: 1,
-        times: 1,
-        bytes: 1,
-    }
+    None
 }
 
-// A group as a segment, or as a part of one.
-fn say_group(to: &mut impl Write, bytes: &[u8], g: Group, plain: bool) -> io::Result<()> {
-    if OFTEN <= g.times {
-        say(to, b" ")?;
-        say_bytes(to, bytes, g.width)?;
-        say(to, b"*")?;
-        say_number(to, g.times)
-    } else {
-        if !plain {
-            say(to, b" ")?;
-        }
-        say_bytes(to, bytes, g.width)
-    }
-}
+// Bytes in segments, a space before each.
+#[derive(Clone, Copy)]
+struct Segments<'a>(&'a [u8]);
 
-// The bytes in segments, a space before each.
-fn say_segments(to: &mut impl Write, bytes: &[u8]) -> io::Result<()> {
-    let len = bytes.len();
-    let mut at = 0;
-    let mut plain = false;
-    while at < len {
-        let g = first_group(&bytes[at..]);
-        say_group(to, &bytes[at..], g, plain)?;
-        plain = g.times < OFTEN;
-        at += g.bytes;
+impl fmt::Display for Segments<'_> {
+    fn fmt<W: fmt::Write>(&self, f: &mut fmt::Formatter<W>) -> fmt::Result {
+        let mut left = self.0;
+        let mut plain = false;
+        while let [first, others @ ..] = left {
+            match first_group(left) {
+                Some(Group { once, times, rest }) => {
+                    write!(f, " {}*{times}", Hex(once))?;
+                    plain = false;
+                    left = rest;
+                }
+                None => {
+                    if !plain {
+                        write!(f, " ")?;
+                    }
+                    write!(f, "{first:02x}")?;
+                    plain = true;
+                    left = others;
+                }
+            }
+        }
+        Ok(())
     }
-    Ok(())
 }
 
 // ---- reading and writing
 
-// Storing the string at `at`, of this length, where only `lent` bytes are lent is refused as it should be, and changes
+// Storing the item, whose form has this length, where only `lent` bytes are lent is refused as it should be, and changes
 // nothing.
-fn refused(
-    kind: Encoding,
-    message: &[u8],
-    at: usize,
-    length: usize,
-    out: &mut [u8],
-    lent: usize,
-) -> bool {
-    if out.len() < lent {
+fn refused(item: Item<'_>, length: usize, out: &mut [u8], lent: usize) -> bool {
+    let Some(out) = out.get_mut(..lent) else {
         return false;
-    }
-    let written = text_writer::write_string(kind, message, at, &mut out[0..lent], PLACE);
-    if !vectors::unchanged(&out[0..lent], 0) {
-        return false;
-    }
-    match written {
-        Written::Stored { size: _ } => false,
-        Written::NoRoom { needed } => needed == length && 0 < length,
-        Written::NoSuchForm => length == 0,
+    };
+    let due = if length == 0 {
+        Unwritten::NoSuchForm
+    } else {
+        Unwritten::NoRoom { needed: length }
+    };
+    item.store(out) == Err(due) && vectors::unchanged(out, 0)
+}
+
+// The item is stored where `lent` bytes are lent.
+fn fits(item: Item<'_>, length: usize, out: &mut [u8], lent: usize) -> bool {
+    match out.get_mut(..lent) {
+        Some(out) => item.store(out) == Ok(length),
+        None => false,
     }
 }
 
-// The string at PLACE is read as one of these sizes, which is its own shortest form.
-fn read_again(kind: Encoding, out: &[u8], units: usize, bytes: usize, size: usize) -> bool {
-    match texts::read_string(kind, out, PLACE) {
-        StringRead::Content {
-            units: u,
-            bytes: b,
-            size: s,
-            shortest: w,
-        } => u == units && b == bytes && s == size && w == size,
-        StringRead::Refused {
-            number: _,
-            place: _,
-        } => false,
-    }
+// The item, whose form ends at `end`, is refused where one byte less is lent. One that is not long is also refused where
+// PLACE lies past what is lent, and stored where no byte more is lent.
+fn room_told(item: Item<'_>, length: usize, out: &mut [u8], end: usize) -> bool
+    requires { 0 < end }
+{
+    refused(item, length, out, end - 1)
+        && (LONG < length || refused(item, length, out, PLACE - 1) && fits(item, length, out, end))
+}
+
+// The string at PLACE is read as one of these units and bytes, whose shortest form it is.
+fn read_again(kind: Encoding, out: &[u8], read: StringRead, size: usize) -> bool {
+    texts::read_string(kind, out, PLACE).is_ok_and(|r| {
+        r.units == read.units && r.bytes == read.bytes && r.size == size && r.shortest == size
+    })
 }
 
 // The form of `size` bytes that is stored in `out`, and what was kept.
 fn say_stored(
     to: &mut impl Write,
     kind: Encoding,
+    read: StringRead,
     out: &[u8],
-    units: usize,
-    bytes: usize,
     size: usize,
 ) -> io::Result<()> {
-    let len = out.len();
-    if LARGEST < size {
+    let Some((before, rest)) = out.split_at_checked(PLACE) else {
         return Ok(());
-    }
-    let end = PLACE + size;
-    if len < end {
+    };
+    let Some(form) = rest.get(..size) else {
         return Ok(());
+    };
+    write!(to, "{}", Segments(form))?;
+    if vectors::unchanged(before, 0) && vectors::unchanged(out, PLACE + size) {
+        write!(to, " rest ok")?;
     }
-    say_segments(to, &out[PLACE..end])?;
-    if vectors::unchanged(&out[0..PLACE], 0) && vectors::unchanged(out, end) {
-        say(to, b" rest ok")?;
-    }
-    if read_again(kind, out, units, bytes, size) {
-        say(to, b" back ok")?;
+    if read_again(kind, out, read, size) {
+        write!(to, " back ok")?;
     }
     Ok(())
 }
 
-// The string at `at` is stored where `lent` bytes are lent.
-fn fits(
-    kind: Encoding,
-    message: &[u8],
-    at: usize,
-    length: usize,
-    out: &mut [u8],
-    lent: usize,
-) -> bool {
-    if out.len() < lent {
-        return false;
-    }
-    match text_writer::write_string(kind, message, at, &mut out[0..lent], PLACE) {
-        Written::Stored { size } => size == length,
-        Written::NoRoom { needed: _ } => false,
-        Written::NoSuchForm => false,
-    }
-}
-
-// The string at `at`, whose form ends at `end`, is refused where one byte less is lent. One that is not long is also
-// refused where PLACE lies past what is lent, and stored where no byte more is lent.
-fn room_told(
-    kind: Encoding,
-    message: &[u8],
-    at: usize,
-    length: usize,
-    out: &mut [u8],
-    end: usize,
-) -> bool
-    requires { 0 < end }
-{
-    if !refused(kind, message, at, length, out, end - 1) {
-        return false;
-    }
-    if LONG < length {
-        return true;
-    }
-    if !refused(kind, message, at, length, out, PLACE - 1) {
-        return false;
-    }
-    fits(kind, message, at, length, out, end)
-}
-
-// The shortest form of the string at `at`, of these units and bytes, stored in `out`.
+// The shortest form of the item, which is read so, stored in `out`.
 fn say_form(
     to: &mut impl Write,
-    kind: Encoding,
-    message: &[u8],
-    at: usize,
-    units: usize,
-    bytes: usize,
+    item: Item<'_>,
+    read: StringRead,
     out: &mut [u8],
 ) -> io::Result<()> {
-    let length = text_writer::string_length(kind, message, at);
-    say_number(to, length)?;
+    let length = item.length();
+    write!(to, "{length}")?;
     if LARGEST < length {
         return Ok(());
     }
     let end = PLACE + length;
-    let lent = end + BEHIND;
-    if out.len() < lent {
+    let Some(out) = out.get_mut(..end + BEHIND) else {
         return Ok(());
+    };
+    match item.store(out) {
+        Ok(size) => say_stored(to, item.kind, read, out, size)?,
+        Err(Unwritten::NoRoom { needed: _ }) => write!(to, " no room")?,
+        Err(Unwritten::NoSuchForm) => write!(to, " none")?,
     }
-    match text_writer::write_string(kind, message, at, &mut out[0..lent], PLACE) {
-        Written::Stored { size } => say_stored(to, kind, &out[0..lent], units, bytes, size)?,
-        Written::NoRoom { needed: _ } => say(to, b" no room")?,
-        Written::NoSuchForm => say(to, b" none")?,
+    vectors::fill(out);
+    if room_told(item, length, out, end) {
+        write!(to, " short ok")?;
     }
-    vectors::fill(&mut out[0..lent]);
-    if room_told(kind, message, at, length, out, end) {
-        say(to, b" short ok")?;
-    }
-    vectors::fill(&mut out[0..lent]);
+    vectors::fill(out);
     Ok(())
 }
 
-fn say_content(
-    to: &mut impl Write,
-    units: usize,
-    bytes: usize,
-    size: usize,
-    shortest: usize,
-) -> io::Result<()> {
-    say_number(to, units)?;
-    say(to, b" ")?;
-    say_number(to, bytes)?;
-    say(to, b" ")?;
-    say_number(to, size)?;
-    say(to, b" ")?;
-    say_number(to, shortest)?;
-    say(to, b" ")
+// No such item has a length or is stored.
+fn none_told(item: Item<'_>, out: &mut [u8]) -> bool {
+    item.length() == 0 && refused(item, 0, out, PLACE + BEHIND)
 }
 
-fn say_refused(to: &mut impl Write, number: u8, place: usize) -> io::Result<()> {
-    say(to, b"refused ")?;
-    write!(to, "{number}")?;
-    say(to, b" ")?;
-    say_number(to, place)
-}
-
-// No string at `at` has a length or is stored.
-fn none_told(kind: Encoding, message: &[u8], at: usize, out: &mut [u8]) -> bool {
-    if text_writer::string_length(kind, message, at) != 0 {
-        return false;
-    }
-    refused(kind, message, at, 0, out, PLACE + BEHIND)
-}
-
-// The string at `at`, by the function for texts where it is one.
-fn read(kind: Encoding, message: &[u8], at: usize) -> StringRead {
-    match kind {
-        Encoding::Utf8 => texts::read_text(message, at),
-        Encoding::Binary => texts::read_string(Encoding::Binary, message, at),
-    }
-}
-
-fn answer(
-    to: &mut impl Write,
-    kind: Encoding,
-    message: &[u8],
-    at: usize,
-    out: &mut [u8],
-) -> io::Result<()> {
-    match read(kind, message, at) {
-        StringRead::Content {
-            units,
-            bytes,
-            size,
-            shortest,
-        } => {
-            say_content(to, units, bytes, size, shortest)?;
-            say_form(to, kind, message, at, units, bytes, out)
+fn answer(to: &mut impl Write, item: Item<'_>, out: &mut [u8]) -> io::Result<()> {
+    match item.read() {
+        Ok(read) => {
+            let StringRead {
+                units,
+                bytes,
+                size,
+                shortest,
+            } = read;
+            write!(to, "{units} {bytes} {size} {shortest} ")?;
+            say_form(to, item, read, out)
         }
-        StringRead::Refused { number, place } => {
-            say_refused(to, number, place)?;
-            if none_told(kind, message, at, out) {
-                say(to, b" none ok")?;
+        Err(Refused { refusal, place }) => {
+            write!(to, "refused {} {place}", refusal.number())?;
+            if none_told(item, out) {
+                write!(to, " none ok")?;
             }
             Ok(())
         }
@@ -419,40 +289,18 @@ fn answer(
 
 // ---- lines
 
-fn answer_line(
-    to: &mut impl Write,
-    line: &[u8],
-    message: &mut [u8],
-    out: &mut [u8],
-) -> io::Result<()> {
-    match parse(line, message) {
-        Case::NoCase => say(to, b"bad"),
-        Case::Of { kind, at, size } => {
-            if message.len() < size {
-                say(to, b"bad")
-            } else {
-                answer(to, kind, &message[0..size], at, out)
-            }
-        }
-    }
-}
-
-fn run(to: &mut impl Write, line: &[u8], message: &mut [u8], out: &mut [u8]) -> io::Result<()> {
-    answer_line(to, line, message, out)?;
-    say(to, b"\n")
-}
-
 fn run_all(
     to: &mut impl Write,
     input: &[u8],
     message: &mut [u8],
     out: &mut [u8],
 ) -> io::Result<()> {
-    let mut at = 0;
-    while at < input.len() {
-        let end = vectors::line_end(input, at);
-        run(to, &input[at..end], message, out)?;
-        at = end + 1;
+    for line in Lines::new(input) {
+        match parse(line, message) {
+            Some(item) => answer(to, item, out)?,
+            None => write!(to, "bad")?,
+        }
+        writeln!(to)?;
     }
     Ok(())
 }

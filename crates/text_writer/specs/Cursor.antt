@@ -1,7 +1,10 @@
 -- Cursors in the content of a text or byte string: the next chunk is opened, bytes are passed and copied.
-use Rattle.std.specs.Prelude.{◌≡◌, Bool, cond, ℕ, ◌+◌, ◌-◌, ◌^◌, ◌≤◌, ◌<◌, min, take, drop, get_or, eqb}
+use Rattle.std.specs.Prelude.{◌≡◌, Bool, cond, ℕ, ◌+◌, ◌-◌, ◌^◌, ◌≤◌, ◌<◌, min, take, drop, get_or}
+use Rattle.std.specs.Prelude.{Result, Ok, Err, Some, None}
+use Rattle.std.specs.Result.{result_ok}
 use Rattle.std.proofs.Math.Path.{refl, ap, subst}
-use Rattle.std.proofs.Common.{sym, ◌∙◌, length-take, length-drop, drop_of_length-le, take-append-drop, take-add, take_at, take-take, length-take-le, get_or-take, get_or-drop, drop_at, drop-drop, eqb→eq}
+use Rattle.std.proofs.Common.{sym, ◌∙◌, add-zero, length-take, length-drop, drop_of_length-le, take-append-drop}
+use Rattle.std.proofs.Common.{take-add, take_at, take-take, length-take-le, get_or-take, get_or-drop, drop_at, drop-drop, eqb→eq}
 use Rattle.std.proofs.Math.Bool.{true, false}
 use mathlib.Core.List.{List, [], ◌∷◌, ◌++◌, append_assoc, append-nil}
 use native.Mathlib.Omega.{arith}
@@ -9,10 +12,12 @@ use Rattle.std.proofs.Math.ListN.{length, length-append}
 use Rattle.std.proofs.Math.Seq.{take-length, take-append_seam, drop-append_seam}
 use Rattle.flow.specs.Steps.{Answer}
 use Rattle.flow.specs.Flow.{Done, Fault, stored}
-use Rattle.flow.specs.OverlayLaws.{stored_sets, stored_seam, length_stored}
+use Rattle.flow.specs.Tests.{split}
+use Rattle.flow.specs.OverlayLaws.{stored_sets, stored_out, stored_seam, length_stored}
 use Rattle.scalar.specs.declared.Encoding.{Encoding}
 use Rattle.scalar.specs.declared.Encoding.TheVariants.{Utf8, Binary}
-use Rattle.texts.specs.declared.ChunkRead.TheVariants as chunk
+use Rattle.scalar.specs.declared.refusals.Refused.{Refused}
+use Rattle.texts.specs.declared.ChunkRead.{ChunkRead}
 use Rattle.text_writer.specs.declared.Cursor.{Cursor}
 use Rattle.text_writer.specs.declared.Piece.{Piece}
 use Rattle.text_writer.specs.declared.Copied.{Copied}
@@ -23,9 +28,13 @@ use Rattle.scalar.proofs.Greedy.{span_cut, span_most, span_fits}
 use Rattle.scalar.specs.Decoded.{decoded}
 use Rattle.scalar.proofs.Decoded.{run_decoded, plain_same, plain_drop, plain_run}
 use Rattle.texts.specs.Ascii.{few_are, ascii_are}
-use Rattle.texts.specs.Answers.{prefixed, ChunkSays}
-use Rattle.text_writer.specs.Writing.{content_of, IsDone, window, bytes_left, rest, Going, Opens, singles_at}
-use Rattle.text_writer.specs.Writing.{PieceMet, NextMet, Copies, CopyMet}
+use Rattle.texts.specs.Answers.{prefixed, ChunkSays, ChunkMet}
+use Rattle.text_writer.specs.Writing.{content_of, IsDone, window, bytes_left, rest, Going, opening, Opens, singles_at}
+use Rattle.text_writer.specs.Writing.{Passed, Stops, Goes, Halts, Copies, CopyMet}
+
+-- nothing is stored
+stored_none : (l : List ℕ) (to : ℕ) → stored l to [] ≡ l
+stored_none l to = split (length l) (to + 0) (stored_out l to []) (stored_sets l to [])
 
 no : {A : Type 0} → true ≡ false → A
 no e = let z : ◌≡◌ {A = ℕ} 0 1 = cc in absurd (omega arith)
@@ -50,37 +59,63 @@ prefixed_content : (n : ℕ) (cs : List ℕ) (o : Answer (List ℕ)) → IsDone 
 prefixed_content n cs (Done m ds es c) d = (tt, refl)
 prefixed_content n cs (Fault x o) d = absurd d
 
-abbrev pub opening : (p h n b u : ℕ) → Bool → Cursor
-opening p h n b u a = record { here = p + h; left = n; units = u; last = a; plain = eqb n b }
+-- by what reading it gives
+module _ {k : Encoding} {m : List ℕ} {p : ℕ} (r : Result ChunkRead Refused) (t : ChunkMet k m p r) where
+  pub chunk_there : (x : ChunkRead) → result_ok r ≡ Some x → ChunkSays k m p (Ok x)
+  chunk_there x = go r t.says
+    where
+      go : (r : Result ChunkRead Refused) → ChunkSays k m p r → result_ok r ≡ Some x → ChunkSays k m p (Ok x)
+      go (Ok y) s e = let f : y ≡ x = cc in subst (λ (z : ChunkRead). ChunkSays k m p (Ok z)) f s
+      go (Err y) s e = cc
 
-module _ (k : Encoding) (m : List ℕ) (p : ℕ) where
-  chunk_going : (h n b u : ℕ) (a : Bool) → ChunkSays k m p (chunk.Chunk h n b u a)
-      → (a ≡ false → IsDone (string_at k m (p + h + n))) → Going k m (opening p h n b u a)
-  chunk_going h n b u a s o = record {
+  pub chunk_none : result_ok r ≡ None → IsDone (string_at k m p) → ⊥
+  chunk_none = go r t.says
+    where
+      go : (r : Result ChunkRead Refused) → ChunkSays k m p r → result_ok r ≡ None → IsDone (string_at k m p) → ⊥
+      go (Ok y) s e d = cc
+      go (Err y) s e d = subst IsDone s d
+
+module _ (k : Encoding) (m : List ℕ) (p : ℕ) (c : ChunkRead) (s : ChunkSays k m p (Ok c)) where
+  -- a chunk begins before the message ends, and ends in it
+  pub chunk_inside : (p < p + c.head) × (p + c.head + c.size ≤ length m)
+  chunk_inside = (omega (arith, s.1), omega (arith, s.2))
+
+  chunk_going : (c.last ≡ false → IsDone (string_at k m (p + c.head + c.size))) → Going k m (opening p c)
+  chunk_going o = record {
     inside = omega (arith, s.2);
     behind = o;
     units_are = sym s.4;
     plainly = λ t.
-        let e = eqb→eq n b (rw t tt) in
-        record { same = omega (arith, s.5, window_length m (p + h) n (omega (arith, s.2))) };
+        let e = eqb→eq c.size c.bytes (rw t tt) in
+        record { same = omega (arith, s.5, window_length m (p + c.head) c.size (omega (arith, s.2))) };
   }
 
-  pub opens_chunk : (h n b u : ℕ) (a : Bool) → ChunkSays k m p (chunk.Chunk h n b u a)
-      → Opens k m p (opening p h n b u a)
+  -- its content, and what follows it, is that of the string at p
+  content_there : IsDone (string_at k m p)
+      → Going k m (opening p c) × (rest k m (opening p c) ≡ content_of (string_at k m p))
   unfolding rest
-  opens_chunk h n b u true s = record {
-    opens = λ d. (chunk_going h n b u true s (λ e. no e), rw s.0 (append-nil _), omega (arith, s.1));
-  }
-  opens_chunk h n b u false s = record {
-    opens = λ d.
-        let e : p + h + n ≡ p + (h + n) = omega arith in
-        let f = subst IsDone s.0 d in
-        let q = prefixed_content (h + n) (decoded k (window m (p + h) n)) (string_at k m (p + (h + n))) f in
-        (chunk_going h n b u false s (λ f. rw e q.0), rw (s.0, e) (sym q.1), omega (arith, s.1));
-  }
+  content_there d = go c.last refl
+    where
+      e : p + c.head + c.size ≡ p + (c.head + c.size)
+      e = omega arith
 
-  pub opens_none : (x o : ℕ) (r : Cursor) → ChunkSays k m p (chunk.Refused x o) → Opens k m p r
-  opens_none x o r s = record { opens = λ d. absurd (subst IsDone s d) }
+      front : List ℕ
+      front = decoded k (window m (p + c.head) c.size)
+
+      go : (a : Bool) → c.last ≡ a
+          → Going k m (opening p c) × (rest k m (opening p c) ≡ content_of (string_at k m p))
+      go true f = (chunk_going (λ q. no (sym f ∙ q)), rw (s.0, f) (append-nil _))
+      go false f =
+          let q = prefixed_content (c.head + c.size) front (string_at k m (p + (c.head + c.size)))
+          (subst IsDone (rw f at s.0) d) in
+          (chunk_going (λ z. rw e q.0), rw (s.0, f, e) (sym q.1))
+
+  pub opens_chunk : Opens k m p (opening p c)
+  opens_chunk = record { opens = λ d. let o = content_there d in (o.0, o.1, chunk_inside.0) }
+
+pub opens_none : (k : Encoding) (m : List ℕ) (p : ℕ) (x : Refused) (r : Cursor) → ChunkSays k m p (Err x)
+    → Opens k m p r
+opens_none k m p x r s = record { opens = λ d. absurd (subst IsDone s d) }
 
 -- ---- the content from the cursor c on
 abbrev pub moved : Cursor → Piece → Cursor
@@ -101,15 +136,44 @@ module _ (k : Encoding) (m : List ℕ) (c : Cursor) where
   unfolding rest
   rest_open z f = let e : c.here + c.left ≡ c.here = omega arith in rw (e, z, f) refl
 
-  rest_stops : (cap : ℕ) → ((v : List ℕ) → fitting cap (weights k (decoded k (bytes_left m c) ++ v)) ≡ 0)
-      → fitting cap (weights k (rest k m c)) ≡ 0
+  pub rest_stops : {cap : ℕ} {l l' : List ℕ} → Stops k (bytes_left m c) cap l l' → Halts k m c cap l l'
   unfolding rest
-  rest_stops cap h = h (cond c.last [] (content_of (string_at k m (c.here + c.left))))
+  rest_stops x = record {
+    kept = x.kept;
+    stops = x.stops (cond c.last [] (content_of (string_at k m (c.here + c.left))));
+  }
+
+  pub rest_ends : c.left ≡ 0 → c.last ≡ true → (cap : ℕ) (l : List ℕ) → Halts k m c cap l l
+  rest_ends z f cap l = record { kept = refl; stops = rw (rest_end z f) refl }
+
+  -- the next chunk
+  module _ (z : c.left ≡ 0) (f : c.last ≡ false) (g : Going k m c) where
+    at_end : c.here + c.left ≡ c.here
+    at_end = omega arith
+
+    pub next_done : IsDone (string_at k m c.here)
+    next_done = rw at_end at (g.behind f)
+
+    pub next_opens : (r : Cursor) → Opens k m c.here r → (cap : ℕ) (l : List ℕ) (to : ℕ)
+        → (c.here < r.here) × Goes k m c cap l to (record { next = r; bytes = 0; units = 0 }) l
+    next_opens r x cap l to =
+        let o = x.opens next_done in (
+          o.2,
+          record {
+            going = o.0;
+            front = [];
+            joins = rest_open z f ∙ sym o.1;
+            bytes_are = refl;
+            units_are = refl;
+            fits = omega arith;
+            holds = sym (stored_none l to);
+          },
+        )
 
 -- ---- a piece is passed
 module _
     {k : Encoding} {m : List ℕ} {c : Cursor} (g : Going k m c)
-    {cap : ℕ} {l : List ℕ} {to : ℕ} {r : Piece} {l' : List ℕ} (x : PieceMet k (bytes_left m c) cap l to r l') where
+    {cap : ℕ} {l : List ℕ} {to : ℕ} {r : Piece} {l' : List ℕ} (x : Passed k (bytes_left m c) cap l to r l') where
   pub piece_inside : r.size ≤ c.left
   piece_inside = omega (arith, x.inside, window_length m c.here c.left g.inside)
 
@@ -127,7 +191,7 @@ module _
   pub piece_units : r.units ≤ c.units
   piece_units = omega (arith, both_units)
 
-  piece_rest : rest k m c ≡ x.front ++ rest k m (moved c r)
+  pub piece_rest : rest k m c ≡ x.front ++ rest k m (moved c r)
   unfolding rest
   piece_rest =
       rw (end, x.decodes, behind)
@@ -142,17 +206,16 @@ module _
     plainly = λ f. record { same = rw behind at (plain_drop k r.size (bytes_left m c) (g.plainly f).same) };
   }
 
-  -- what fits is the piece, and what fits of the rest
-  piece_span : fitting cap (weights k (rest k m c)) ≡ r.bytes + fitting (cap - r.units)
-      (weights k (rest k m (moved c r)))
-  piece_span =
-      let ws = weights k x.front in
-      let vs = weights k (rest k m (moved c r)) in
-      let d : length (weights k x.front) ≡ r.bytes = weights_length k x.front ∙ x.bytes_are in
-      let j : total (take r.bytes (ws ++ vs)) ≡ r.units = ap total (take_at ws vs r.bytes d) ∙ x.units_are in
-      let o = span_most cap r.bytes (ws ++ vs) (omega (arith, d, length-append ws vs)) (omega (arith, j, x.fits)) in
-      rw (piece_rest, weights_append k x.front (rest k m (moved c r)))
-      (span_cut cap r.bytes (ws ++ vs) o ∙ rw (j, drop_at ws vs r.bytes d) refl)
+  pub piece_goes : Goes k m c cap l to (record { next = moved c r; bytes = r.bytes; units = r.units }) l'
+  piece_goes = record {
+    going = piece_going;
+    front = x.front;
+    joins = piece_rest;
+    bytes_are = x.bytes_are;
+    units_are = x.units_are;
+    fits = x.fits;
+    holds = x.holds;
+  }
 
 -- ---- from the cursor a on `front` is passed, and is in the list, where it fits. What fits cap units is that, and what
 -- fits of the rest
@@ -183,7 +246,7 @@ copying_start k m a cap l to g =
       within = omega arith;
       spans = rw e (omega arith);
       same = refl;
-      holds = λ h. sym (stored_sets l to [] h);
+      holds = λ h. sym (stored_none l to);
     }
 
 module _
@@ -197,10 +260,10 @@ module _
   abbrev answer : Copied
   answer = record { next = c; bytes = bytes; units = done }
 
-  stopped : fitting (cap - done) (weights k (rest k m c)) ≡ 0 → CopyMet k m a cap l to answer l'
-  stopped e = record {
+  pub copying_stop : (l'' : List ℕ) → Halts k m c (cap - done) l' l'' → CopyMet k m a cap l to answer l''
+  copying_stop l'' x = rw x.kept (record {
     spans = record {
-      bytes = omega (arith, R.spans);
+      bytes = omega (arith, R.spans, x.stops);
       units_are = rw (← R.joins, ← R.bytes_are, take-append_seam R.front (rest k m c)) (sym R.units_are);
     };
     copies = record {
@@ -209,70 +272,80 @@ module _
       same = R.same;
       holds = λ h. rw (← R.joins, ← R.bytes_are, take-append_seam R.front (rest k m c)) (R.holds h);
     };
-  }
+  })
 
   pub copying_end : c.left ≡ 0 → c.last ≡ true → CopyMet k m a cap l to answer l'
-  copying_end z f = stopped (rw (rest_end k m c z f) refl)
+  copying_end z f = copying_stop l' (rest_ends k m c z f (cap - done) l')
 
-  pub copying_stop : (r : Piece) (l'' : List ℕ) → NextMet k (bytes_left m c) (cap - done) l' (to + bytes) r l''
-      → r.size ≡ 0 → CopyMet k m a cap l to answer l''
-  copying_stop r l'' x z = rw (x.kept z) (stopped (rest_stops k m c (cap - done) (x.stops z)))
+  -- more is passed
+  module _ (r : Copied) (l'' : List ℕ) (x : Goes k m c (cap - done) l' (to + bytes) r l'') where
+    -- what fits is that, and what fits of the rest
+    passed_spans : fitting (cap - done) (weights k (rest k m c))
+        ≡ r.bytes + fitting (cap - done - r.units) (weights k (rest k m r.next))
+    passed_spans =
+        let ws = weights k x.front in
+        let vs = weights k (rest k m r.next) in
+        let d : length (weights k x.front) ≡ r.bytes = weights_length k x.front ∙ x.bytes_are in
+        let j : total (take r.bytes (ws ++ vs)) ≡ r.units = ap total (take_at ws vs r.bytes d) ∙ x.units_are in
+        let o = span_most (cap - done) r.bytes (ws ++ vs) (omega (arith, d, length-append ws vs))
+        (omega (arith, j, x.fits)) in
+        rw (x.joins, weights_append k x.front (rest k m r.next))
+        (span_cut (cap - done) r.bytes (ws ++ vs) o ∙ rw (j, drop_at ws vs r.bytes d) refl)
+
+    pub copying_on : Copying k m a cap l to r.next (bytes + r.bytes) (done + r.units) l''
+    copying_on =
+        let d : cap - done - r.units ≡ cap - (done + r.units) = omega arith in
+        let f = length-append R.front x.front in
+        let b = R.bytes_are in
+        record {
+          front = R.front ++ x.front;
+          going = x.going;
+          joins = append_assoc R.front x.front (rest k m r.next) ∙ rw x.joins at R.joins;
+          bytes_are = omega (arith, x.bytes_are);
+          units_are = omega (arith, R.units_are, x.units_are, units_append k R.front x.front);
+          within = omega (arith, R.within, x.fits);
+          spans = R.spans ∙ rw (passed_spans, d) (omega arith);
+          same = ap length x.holds ∙ length_stored l' (to + bytes) x.front ∙ R.same;
+          holds = λ h.
+              let o = stored_seam l to R.front x.front (omega (arith, x.bytes_are)) in
+              x.holds ∙ rw (R.holds (omega arith), ← R.bytes_are) o;
+        }
 
   -- the next chunk
   module _ (r : Cursor) (z : c.left ≡ 0) (f : c.last ≡ false) (o : Opens k m c.here r) where
-    opened : Going k m r × (rest k m r ≡ content_of (string_at k m c.here)) × (c.here < r.here)
-    opened =
-        let e : c.here + c.left ≡ c.here = omega arith in
-        o.opens (subst (λ (i : ℕ). IsDone (string_at k m i)) e (R.going.behind f))
-
     pub copying_open : Copying k m a cap l to r bytes done l'
     copying_open =
-        let e : rest k m c ≡ rest k m r = rest_open k m c z f ∙ sym opened.1 in
-        record {
-          front = R.front;
-          going = opened.0;
-          joins = rw e at R.joins;
-          bytes_are = R.bytes_are;
-          units_are = R.units_are;
-          within = R.within;
-          spans = rw e at R.spans;
-          same = R.same;
-          holds = R.holds;
-        }
+        let x = next_opens k m c z f R.going r o (cap - done) l' (to + bytes) in
+        rw (add-zero bytes, add-zero done) at (copying_on _ l' x.1)
 
     pub open_further : (c.here < r.here) × (r.here ≤ length m)
-    open_further = (opened.2, omega (arith, opened.0.inside))
+    open_further =
+        let x = o.opens (next_done k m c z f R.going) in (x.2, omega (arith, x.0.inside))
 
   -- a piece
-  pub copying_piece : (r : Piece) (l'' : List ℕ) → PieceMet k (bytes_left m c) (cap - done) l' (to + bytes) r l''
+  pub copying_piece : (r : Piece) (l'' : List ℕ) → Passed k (bytes_left m c) (cap - done) l' (to + bytes) r l''
       → Copying k m a cap l to (moved c r) (bytes + r.bytes) (done + r.units) l''
-  copying_piece r l'' x =
-      let d : cap - done - r.units ≡ cap - (done + r.units) = omega arith in
-      let f = length-append R.front x.front in
-      let b = R.bytes_are in
-      record {
-        front = R.front ++ x.front;
-        going = piece_going R.going x;
-        joins = append_assoc R.front x.front (rest k m (moved c r)) ∙ rw (piece_rest R.going x) at R.joins;
-        bytes_are = omega (arith, x.bytes_are);
-        units_are = omega (arith, R.units_are, x.units_are, units_append k R.front x.front);
-        within = omega (arith, R.within, x.fits);
-        spans = R.spans ∙ rw (piece_span R.going x, d) (omega arith);
-        same = ap length x.holds ∙ length_stored l' (to + bytes) x.front ∙ R.same;
-        holds = λ h.
-            let o = stored_seam l to R.front x.front (omega (arith, x.bytes_are)) in
-            x.holds ∙ rw (R.holds (omega arith), ← R.bytes_are) o;
-      }
+  copying_piece r l'' x = copying_on _ l'' (piece_goes R.going x)
 
--- where cap is the content's units, that is all of it
+-- where cap is the content's units, all of it is copied
+module _
+    {k : Encoding} {m : List ℕ} {c : Cursor} {u : ℕ} {l : List ℕ} {to : ℕ} {r : Copied} {l' : List ℕ}
+    (y : CopyMet k m c u l to r l') (e : u ≡ units k (rest k m c)) where
+  pub all_bytes : r.bytes ≡ length (rest k m c)
+  all_bytes =
+      let ws = weights k (rest k m c) in
+      let a = span_most u (length ws) ws (omega arith) (rw (take-length ws) (omega arith)) in
+      omega (arith, y.spans.bytes, (span_fits u ws).0, weights_length k (rest k m c))
+
+  pub all_stored : to + r.bytes ≤ length l → l' ≡ stored l to (rest k m c)
+  all_stored h =
+      y.copies.holds h ∙ ap (λ (n : ℕ). stored l to (take n (rest k m c))) all_bytes
+      ∙ rw (take-length (rest k m c))
+
 pub all_copied : {k : Encoding} {m : List ℕ} {c : Cursor} {u : ℕ} {l : List ℕ} {to : ℕ} {r : Copied} {l' : List ℕ}
     → CopyMet k m c u l to r l' → u ≡ units k (rest k m c) → (n : ℕ) → n ≡ length (rest k m c)
     → Copies k m c n l to l' r.next
-all_copied {k} {m} {c} {u} {r = r} y e n d =
-    let ws = weights k (rest k m c) in
-    let a = span_most u (length ws) ws (omega arith) (rw (take-length ws) (omega arith)) in
-    let b : r.bytes ≡ n = omega (arith, y.spans.bytes, (span_fits u ws).0, weights_length k (rest k m c)) in
-    rw b at y.copies
+all_copied y e n d = rw (all_bytes y e ∙ sym d) at y.copies
 
 -- ---- the rest of a chunk whose bytes stand in the content as they are
 abbrev pub left_of : Cursor → Piece
@@ -280,7 +353,7 @@ left_of c = record { size = c.left; bytes = c.left; units = c.units }
 
 module _ {k : Encoding} {m : List ℕ} {c : Cursor} (g : Going k m c) (p : c.plain ≡ true) where
   pub piece_plain : (cap : ℕ) → c.units ≤ cap → (l : List ℕ) (to : ℕ) (l' : List ℕ) → l' ≡ stored l to (bytes_left m c)
-      → PieceMet k (bytes_left m c) cap l to (left_of c) l'
+      → Passed k (bytes_left m c) cap l to (left_of c) l'
   piece_plain cap h l to l' d =
       let n = window_length m c.here c.left g.inside in
       let e = plain_same k (bytes_left m c) (g.plainly p).same in
@@ -365,7 +438,7 @@ module _
   singles_inside = omega (arith, g.inside, singles_few k m c.here most n e)
 
   pub piece_singles : (l : List ℕ) (to : ℕ) (l' : List ℕ) → l' ≡ stored l to (window m c.here n)
-      → PieceMet k (bytes_left m c) cap l to (record { size = n; bytes = n; units = n }) l'
+      → Passed k (bytes_left m c) cap l to (record { size = n; bytes = n; units = n }) l'
   piece_singles l to l' h =
       let f = singles_few k m c.here most n e in
       let i = singles_inside in

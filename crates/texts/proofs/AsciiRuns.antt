@@ -4,17 +4,15 @@ use Rattle.flow.specs.Tests.{bytes_all}
 use Rattle.flow.specs.Flow.{Done}
 use Rattle.scalar.specs.declared.Encoding.{Encoding}
 use Rattle.scalar.specs.declared.Encoding.TheVariants.{Utf8}
-use Rattle.texts.specs.declared.HeadForm.TheVariants.{Starts}
-use Rattle.texts.specs.declared.ChunkRead.TheVariants.{Chunk}
-use Rattle.texts.specs.declared.StringPassed.TheVariants.{Content}
+use Rattle.std.specs.Prelude.{Some, Ok}
 use Rattle.scalar.specs.Scalars.{characters}
-use Rattle.texts.specs.Answers.{extent_at, Passing, head_form, chunked, with_content, chunk_by, chunk_at, ChunkMet}
-use Rattle.texts.specs.Answers.{PassedMet}
+use Rattle.texts.specs.Answers.{extent_at, Passing, starts, head_form, head_read, chunked, chunk_read, with_content}
+use Rattle.texts.specs.Answers.{chunk_by, chunk_at, told_chunk, ChunkMet, PassedMet}
 use Rattle.texts.specs.Ascii.{Ascii, ShortText, ascii_at, run_few, run_inside, run_ascii, few_are}
 use Rattle.texts.specs.Ascii.{inside_are, ascii_are}
 use Rattle.texts.specs.At.{basic, continued_none, characters_next, body_there, string_there}
-use Rattle.texts.proofs.Strings.{passing_start, passing_more, passing_end, leads_at, head_at_law, starts}
-use Rattle.texts.proofs.Strings.{head_there, joining_start, pass_last}
+use Rattle.texts.proofs.Strings.{passing_start, passing_more, passing_end, leads_at, head_at_law, held}
+use Rattle.texts.proofs.Strings.{head_there, joining_start, passed, pass_last}
 
 -- ---- a loop over characters: they are passed
 pub passing_ascii : {n : ℕ} {m : List ℕ} {at p b : ℕ} (left r : ℕ) → Passing n m at p left b → r ≤ left
@@ -51,7 +49,7 @@ within_run n room used h few R {r} e =
     let d : n - used - r ≡ n - (used + r) = omega arith in
     (rw d at (passing_run R (omega arith) e), omega (arith, few_are _ _ _ e))
 
-module _ (m : List ℕ) (p n : ℕ) (l : p ≤ length m) {r : ℕ} (e : r ≡ ascii_at m p n / 32 * 32) where
+module _ (m : List ℕ) (p n : ℕ) (l : p ≤ length m) {r : ℕ} (e : r ≡ 32 * (ascii_at m p n / 32)) where
   pub steps_few : (r ≤ n) × (p + r ≤ length m)
   steps_few = (omega (arith, run_few m p n), omega (arith, run_inside m p n l))
 
@@ -70,24 +68,25 @@ module _ (m : List ℕ) (p n : ℕ) (l : p + 1 + n ≤ length m) (x : Ascii m (p
       rw (e, d) at
       (passing_end (passing_ascii n n (passing_start n m (p + 1) (omega arith)) (omega arith) l x) (omega arith))
 
-  short_head : n ≡ get_or m p 0 → n < 0x20 → head_form Utf8 (get_or m p 0) ≡ Starts 0 n true
-  short_head e h = sym (head_at_law Utf8 1 tt (omega arith) (omega arith) (starts (omega arith)))
+  short_head : n ≡ get_or m p 0 → n < 0x20 → Some (starts 0 n true) ≡ head_form Utf8 (get_or m p 0)
+  short_head e h = head_at_law Utf8 refl 1 tt (omega arith) (omega arith) (held (omega arith))
 
-  short_is : ((i : ℕ) → Fits w8 (get_or m i 0)) → n ≡ get_or m p 0 → n < 0x20 → Chunk 1 n n n true ≡ chunk_at Utf8 m p
+  short_is : ((i : ℕ) → Fits w8 (get_or m i 0)) → n ≡ get_or m p 0 → n < 0x20
+      → told_chunk (Ok (chunk_read 1 n n n true)) ≡ chunk_at Utf8 m p
   unfolding chunk_at
   short_is bytes e h =
-      ap (with_content 1 n true) ascii_extent
+      ap (with_content (head_read 1 n true)) ascii_extent
       ∙ ap (chunk_by Utf8 m p)
-      (head_there Utf8 m p (omega arith) (head_form Utf8 (get_or m p 0)) refl 0 n true (short_head e h) bytes
-      (omega arith) n refl).is
+      (head_there Utf8 m p (omega arith) (starts 0 n true) (short_head e h) bytes (omega arith) n refl).is
 
-  short_there : ((i : ℕ) → Fits w8 (get_or m i 0)) → n ≡ get_or m p 0 → n < 0x20 → ChunkMet Utf8 m p (Chunk 1 n n n true)
+  short_there : ((i : ℕ) → Fits w8 (get_or m i 0)) → n ≡ get_or m p 0 → n < 0x20
+      → ChunkMet Utf8 m p (Ok (chunk_read 1 n n n true))
   short_there bytes e h =
       let z = body_there Utf8 n m (p + 1) (bytes_all m (λ i. (bytes i).fits)) n n (omega arith) ascii_extent in
       record {
         is = short_is bytes e h;
         says = (
-          string_there Utf8 m p (omega arith) 0 n true (short_head e h) (omega arith) n refl
+          string_there Utf8 m p (omega arith) (starts 0 n true) (sym (short_head e h)) (omega arith) n refl
               ∙ ap (chunked Utf8 m p 1 true) z.0,
           omega arith,
           omega arith,
@@ -99,20 +98,16 @@ module _ (m : List ℕ) (p n : ℕ) (l : p + 1 + n ≤ length m) (x : Ascii m (p
         );
       }
 
-module _ (m : List ℕ) (p s : ℕ) (bytes : (i : ℕ) → Fits w8 (get_or m i 0)) (z : 0 < s) (f : 0 < s → ShortText m p s) where
-  short_chunk : ChunkMet Utf8 m p (Chunk 1 (s - 1) (s - 1) (s - 1) true)
-  short_chunk =
-      let h = f z in
-      short_there m p (s - 1) (omega (arith, h.inside)) h.ascii bytes (omega (arith, h.counted))
-      (omega (arith, h.short))
+module _ (m : List ℕ) (p n : ℕ) (bytes : (i : ℕ) → Fits w8 (get_or m i 0)) (h : ShortText m p n) where
+  short_chunk : ChunkMet Utf8 m p (Ok (chunk_read 1 n n n true))
+  short_chunk = short_there m p n h.inside h.ascii bytes h.counted h.short
 
-  pub chunk_short : (k : Encoding) → k ≡ Utf8 → ChunkMet k m p (Chunk 1 (s - 1) (s - 1) (s - 1) true)
+  pub chunk_short : (k : Encoding) → k ≡ Utf8 → ChunkMet k m p (Ok (chunk_read 1 n n n true))
   chunk_short k e = rw e short_chunk
 
-  -- s: its bytes in all
-  pub pass_short : PassedMet Utf8 m p (Content (s - 1) (s - 1) s)
+  pub pass_short : PassedMet Utf8 m p (Ok (passed n n (n + 1)))
   pass_short =
-      let start = joining_start Utf8 m p (omega (arith, (f z).inside)) in
-      let e : p + (1 + (s - 1)) - p ≡ s = omega arith in
-      let d : 0 + (s - 1) ≡ s - 1 = omega arith in
-      rw (e, d) at (pass_last start _ short_chunk 1 (s - 1) (s - 1) (s - 1) true refl refl)
+      let start = joining_start Utf8 m p (omega (arith, h.inside)) in
+      let e : p + (1 + n) - p ≡ n + 1 = omega arith in
+      let d : 0 + n ≡ n = omega arith in
+      rw (e, d) at (pass_last start (chunk_read 1 n n n true) short_chunk refl)

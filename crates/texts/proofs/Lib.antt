@@ -1,2 +1,3 @@
 pub mod Strings
 pub mod AsciiRuns
+pub mod AsciiLaws

@@ -1,29 +1,33 @@
 -- What the contracts on texts and byte strings ask at each way out of the code.
-use Rattle.std.proofs.Common.{◌≡◌, ℕ, suc, ◌+◌, ◌-◌, ◌*◌, ◌%◌, ◌^◌, ◌<◌, ◌≤◌, Bool, true, false, T, List, [], ◌∷◌, ◌++◌, map, length, get_or, take, drop, sym, refl, ap, ◌∙◌, subst, append_assoc, arith, length-append, length-drop, take-append-drop, length-take-le, w8, w64, Fits, le-leb}
+use Rattle.std.proofs.Common.{◌≡◌, ℕ, suc, ◌+◌, ◌-◌, ◌*◌, ◌%◌, ◌^◌, ◌<◌, ◌≤◌, Bool, true, false, T, List, [], ◌∷◌, ◌++◌, map, length, get_or, take, drop, sym, refl, ap, ◌∙◌, subst, append_assoc, arith, length-append, length-drop, length-take, add-one, take-append-drop, length-take-le, w8, w64, Fits, le-leb}
 use lib.ListN.{get_or-eq_default}
-use Rattle.flow.specs.Flow.{pick, Entry, One, Done, Fault}
+use Rattle.std.proofs.Math.Seq.{take-suc}
+use Rattle.std.specs.Prelude.{Some, None, Result, Ok, Err}
+use Rattle.std.specs.declared.option.Option as code
+use Rattle.std.specs.Result.{IsErrAnd, result_unwrap_or}
+use Rattle.std.proofs.lemmas.Result.{err_from_is_err_and}
+use Rattle.flow.specs.Flow.{pick, Bytes, Entry, One, Done, Fault}
 use Rattle.flow.specs.Steps.{Answer, renamed}
 use borrow.Author.Tests.{lt-leb}
 use Rattle.flow.specs.Tests.{split, pick_true, pick_false, bytes_drop, bytes_take, bytes_all}
 use Rattle.wire.specs.BigEndian.{joined, wider}
-use Rattle.wire.specs.Laws.{joined_one, joined_below}
+use Rattle.wire.specs.Laws.{joined_snoc, joined_below}
 use Rattle.scalar.specs.declared.Begun.{Begun}
+use Rattle.scalar.specs.declared.refusals.Refusal.{Refusal}
+use Rattle.scalar.specs.declared.refusals.Refusal.TheVariants.{Cut, Byte, Utf8 as IllFormed}
+use Rattle.scalar.specs.declared.refusals.Refused.{Refused}
+use Rattle.scalar.specs.Refusals.{fault}
 use Rattle.scalar.specs.declared.Encoding.{Encoding}
 use Rattle.scalar.specs.declared.Encoding.TheVariants.{Utf8, Binary}
 use Rattle.scalar.specs.declared.CharLead.{CharLead}
 use Rattle.scalar.specs.declared.CharLead.TheVariants.{Basic, Supplementary, Halved, NoChar}
 use Rattle.texts.specs.declared.Extent.{Extent}
-use Rattle.texts.specs.declared.Extent.TheVariants as extent
 use Rattle.texts.specs.declared.CharRead.{CharRead}
-use Rattle.texts.specs.declared.CharRead.TheVariants as char
 use Rattle.texts.specs.declared.HeadForm.{HeadForm}
-use Rattle.texts.specs.declared.HeadForm.TheVariants.{Starts, NoHead}
 use Rattle.texts.specs.declared.HeadRead.{HeadRead}
-use Rattle.texts.specs.declared.HeadRead.TheVariants as head
 use Rattle.texts.specs.declared.StringPassed.{StringPassed}
-use Rattle.texts.specs.declared.StringPassed.TheVariants as string-passed
 use Rattle.texts.specs.declared.ChunkRead.{ChunkRead}
-use Rattle.texts.specs.declared.ChunkRead.TheVariants as chunk
+use Rattle.texts.specs.declared.Parts as code_parts
 use Rattle.scalar.specs.Scalars.{Form, form_at, inside, last_heads, char_lead, units, continued, characters}
 use Rattle.scalar.specs.Scalars.{body, string_at, shortest_head, shortest_string}
 use Rattle.scalar.proofs.Rows.{Row, row, chosen, nth, apart, Outside, chosen_at, chosen_none}
@@ -39,15 +43,16 @@ use Rattle.scalar.proofs.StringLengths.{parts_within, parts_few, cuts_few, parts
 use Rattle.scalar.proofs.StringLengths.{parts_split, content_first, form_length, shortest_length_law}
 use Rattle.scalar.proofs.TextTheorems.{text_no_shorter, text_within}
 use Rattle.scalar.specs.Answers.{Sizes, sized, sizes, measured_at, length_of}
-use Rattle.texts.specs.Answers.{extent_at, told_extent, shifted, text_at, Passes, CharSays, CharMet, Passing}
-use Rattle.texts.specs.Answers.{Over, WithinSays, WithinMet, CutMet, last_form}
-use Rattle.texts.specs.Answers.{head_form, prefixed, chunked, head_by, head_at, HeadSays, HeadMet, with_content}
-use Rattle.texts.specs.Answers.{chunk_by, chunk_at, ChunkSays, ChunkMet, Joining, Parting, Cutting, HeadsMet}
-use Rattle.texts.specs.Answers.{PassedSays, PassedMet, StringHas, shortest_of, PassedLength}
+use Rattle.texts.specs.Answers.{extent_at, told_extent, shifted, text_at, Passes, CharSays, CharMet}
+use Rattle.texts.specs.Answers.{Passing, Over, WithinSays, WithinMet, PartsMet, starts, last_form}
+use Rattle.texts.specs.Answers.{head_form, prefixed, chunked, head_read, head_by, head_at, told_head, HeadSays, HeadMet}
+use Rattle.texts.specs.Answers.{chunk_read, with_content, chunk_by, chunk_at, told_chunk, content_of, ChunkSays}
+use Rattle.texts.specs.Answers.{ChunkMet, Joining, Parting, Cutting, HeadsMet}
+use Rattle.texts.specs.Answers.{StringIs, PassedSays, PassedMet, StringHas, shortest_of, PassedLength}
 use Rattle.texts.specs.At.{Opens, basic, below_half, supplementary, opens_units, Halves, HighHalf}
 use Rattle.texts.specs.At.{continued_size, characters_none, characters_ends, characters_other, characters_half}
 use Rattle.texts.specs.At.{characters_low, characters_alone, characters_fault, characters_next}
-use Rattle.texts.specs.At.{pair_there, pair_bad, pair_bad_2, pair_bad_3, pair_bad_4, pair_good}
+use Rattle.texts.specs.At.{Good, Bad, pair_there, pair_bad, pair_bad_2, pair_bad_3, pair_bad_4, pair_good}
 use Rattle.texts.specs.At.{pair_one_more, pair_two_more, pair_three_more, pair_fault, pair_next}
 use Rattle.texts.specs.At.{octets_done, octets_fault, body_there, body_holds, body_quiet, body_fault}
 use Rattle.texts.specs.At.{head_small, string_none, string_cut, string_there}
@@ -73,10 +78,6 @@ pub along_start : (whole : Answer ℕ) (m : List ℕ) (at : ℕ) → at ≤ leng
 along_start whole m at l =
     let e : at - at ≡ 0 = omega arith in record { says = rw e (shifted_none whole); onward = omega arith; inside = l }
 
--- where the content is the bytes
-pub plain_start : (whole : Answer ℕ) (m : List ℕ) (at : ℕ) → at ≤ length m → Along whole whole m at at (at - at)
-plain_start whole m at l = let e : at - at ≡ 0 = omega arith in rw e (along_start whole m at l)
-
 module _ {whole rest : Answer ℕ} {m : List ℕ} {at here bytes : ℕ} (R : Along whole rest m at here bytes) where
   pub along_end : rest ≡ Done 0 0 [] tt → Done (here - at) bytes [] tt ≡ whole
   along_end e =
@@ -100,12 +101,17 @@ module _ {whole rest : Answer ℕ} {m : List ℕ} {at here bytes : ℕ} (R : Alo
         inside = l;
       }
 
-pub plain_more : {whole rest : Answer ℕ} {m : List ℕ} {at here : ℕ} → Along whole rest m at here (here - at)
-    → (left : Answer ℕ) → rest ≡ shifted 1 1 left → here + 1 ≤ length m
-    → Along whole left m at (here + 1) (here + 1 - at)
-plain_more {at = at} {here = here} R left e l =
-    let d : here - at + 1 ≡ here + 1 - at = omega (arith, R.onward) in
-    rw d at (along_more R 1 1 left e (omega arith) l)
+-- where the content is the bytes: k of them so far
+pub bytes_start : (whole : Answer ℕ) (m : List ℕ) (at : ℕ) → at ≤ length m → Along whole whole m at (at + 0) 0
+bytes_start whole m at l = let e : at + 0 ≡ at = omega arith in rw e (along_start whole m at l)
+
+module _ {whole rest : Answer ℕ} {m : List ℕ} {at k : ℕ} (R : Along whole rest m at (at + k) k) where
+  pub bytes_end : rest ≡ Done 0 0 [] tt → Done k k [] tt ≡ whole
+  bytes_end e = let d : at + k - at ≡ k = omega arith in rw d at (along_end R e)
+
+  pub bytes_more : (left : Answer ℕ) → rest ≡ shifted 1 1 left → at + k + 1 ≤ length m
+      → Along whole left m at (at + (k + 1)) (k + 1)
+  bytes_more left e l = let d : at + k + 1 ≡ at + (k + 1) = omega arith in rw d at (along_more R 1 1 left e (omega arith) l)
 
 -- ---- a loop over contents: what is left reads as the whole does, but for the content so far
 prefixed_none : (r : Answer (List ℕ)) → prefixed 0 [] r ≡ r
@@ -181,16 +187,27 @@ pub leads_none : (b : ℕ) → Outside NoChar lead_rows b → NoChar ≡ char_le
 leads_none b h = chosen_none NoChar lead_rows b h ∙ sym (lead_rows_law b)
 
 -- ---- a character
+-- a refusal, and what is read, as the code has them
+abbrev pub refused : Refusal → ℕ → Refused
+refused x o = record { refusal = x; place = o }
+
+abbrev pub char_read : ℕ → ℕ → ℕ → CharRead
+char_read j b u = record { size = j; bytes = b; units = u }
+
+-- what `?` hands on
+pub raised : {A : Type 0} (P : Result A Refused → Type 0) (y : Result A Refused) (r : Refused) → IsErrAnd y (λ z. z ≡ r)
+    → P (Err r) → P y
+raised P y r h e =
+    let p = err_from_is_err_and y h in
+    subst P (sym (p.1 ∙ ap (λ (z : Refused). Err z) p.2)) e
+
 -- the bytes after the first lie in the message
-module _ (o k lo hi : ℕ) (m : List ℕ) (p : ℕ) (l : p < length m) (x : Extent)
-    (t : told_extent x ≡ extent_at (continued o k lo hi) m (p + 1)) (j b : ℕ) (e : x ≡ extent.Takes j b) where
-  char_sized : (p + 1 + j ≤ length m) × (j ≡ k) × (Done j j [] tt ≡ extent_at (continued o k lo hi) m (p + 1))
-  char_sized = continued_size o k lo hi m (p + 1) j b (omega arith) (ap told_extent (sym e) ∙ t)
+module _ (o k lo hi : ℕ) (m : List ℕ) (p : ℕ) (l : p < length m)
+    (t : Done k k [] tt ≡ extent_at (continued o k lo hi) m (p + 1)) where
+  char_room : p + (k + 1) ≤ length m
+  char_room = omega (arith, (continued_size o k lo hi m (p + 1) k k (omega arith) t).0)
 
-  char_room : p + (j + 1) ≤ length m
-  char_room = omega (arith, char_sized.0)
-
-  pub char_fits : Fits w64 (length m) → Fits w64 (j + 1)
+  pub char_fits : Fits w64 (length m) → Fits w64 (k + 1)
   char_fits f = let r = char_room in omega arith
 
 module _ {m : List ℕ} {p : ℕ} (x : CharLead) (is : x ≡ char_lead (get_or m p 0)) where
@@ -212,119 +229,78 @@ module _ (m : List ℕ) (p : ℕ) (e : Halves m p) where
   below_end h = below_half e.led (rw (get_or-eq_default m 0 h) (omega arith))
 
 module _ (n : ℕ) (m : List ℕ) (p : ℕ) (z : 0 < n) where
-  pub char_ends : length m ≤ p → p ≤ length m → CharMet n m p (char.Refused 2 (length m))
+  pub char_ends : length m ≤ p → p ≤ length m → CharMet n m p (Err (refused Cut (length m)))
   char_ends l r = record { says = characters_ends n m p z l r }
 
   module _ (l : p < length m) where
     module _ (x : CharLead) (is : x ≡ char_lead (get_or m p 0)) where
-      pub char_other : x ≡ NoChar → CharMet n m p (char.Refused 4 p)
+      pub char_other : x ≡ NoChar → CharMet n m p (Err (refused IllFormed p))
       char_other e = record { says = characters_other n m p z l (sym is ∙ e) }
 
-      pub char_half : (lo hi : ℕ) → x ≡ Supplementary lo hi → n ≡ 1 → CharMet n m p (char.Refused 4 p)
+      pub char_half : (lo hi : ℕ) → x ≡ Supplementary lo hi → n ≡ 1 → CharMet n m p (Err (refused IllFormed p))
       char_half lo hi e u = record { says = characters_half n m p z l lo hi (sym is ∙ e) u }
 
     -- a half that is alone
     module _ (e : Halves m p) (k : p + 1 < length m) where
-      pub lone_low : 0xb0 ≤ get_or m (p + 1) 0 → CharMet n m p (char.Refused 4 p)
+      pub lone_low : 0xb0 ≤ get_or m (p + 1) 0 → CharMet n m p (Err (refused IllFormed p))
       lone_low h = record { says = characters_low n m p z l e k h }
 
-      pub lone_high : 0xa0 ≤ get_or m (p + 1) 0 → n < 2 → CharMet n m p (char.Refused 4 p)
+      pub lone_high : 0xa0 ≤ get_or m (p + 1) 0 → n < 2 → CharMet n m p (Err (refused IllFormed p))
       lone_high h u =
           split (get_or m (p + 1) 0) 0xb0 (λ i. record { says = characters_alone n m p z l e k h i (omega arith) })
           (λ i. lone_low i)
 
-    -- x: what is read of the bytes after the first
-    module _ (k lo hi u : ℕ) (o : Opens m p k lo hi u) (h : u ≤ n) (x : Extent)
-        (t : told_extent x ≡ extent_at (continued p k lo hi) m (p + 1)) where
-      pub char_fault : (y q : ℕ) → x ≡ extent.Refused y q → CharMet n m p (char.Refused y q)
-      char_fault y q e = record { says = characters_fault n m p z l k lo hi u o h y q (ap told_extent (sym e) ∙ t) }
+    -- by what is read of the bytes after the first
+    module _ (k lo hi u : ℕ) (o : Opens m p k lo hi u) (h : u ≤ n) where
+      pub char_fault : (r : Refused) → fault r ≡ extent_at (continued p k lo hi) m (p + 1) → CharMet n m p (Err r)
+      char_fault r t = record { says = characters_fault n m p z l k lo hi u o h _ _ t }
 
-      pub char_next : (j b : ℕ) → x ≡ extent.Takes j b → CharMet n m p (char.Char (j + 1) (j + 1) u)
-      char_next j b e =
-          let w = char_sized p k lo hi m p l x t j b e in
-          let v = opens_units o in
-          record {
-            says = (
-              characters_next n m p z l k lo hi u o h j w.2,
-              omega arith,
-              char_room p k lo hi m p l x t j b e,
-              omega (arith, v.0),
-              h,
-              omega arith,
-            );
-          }
+      pub char_next : Done k k [] tt ≡ extent_at (continued p k lo hi) m (p + 1)
+          → CharMet n m p (Ok (char_read (k + 1) (k + 1) u))
+      char_next t = record {
+        says = (
+          characters_next n m p z l k lo hi u o h k t,
+          omega arith,
+          char_room p k lo hi m p l t,
+          omega (arith, (opens_units o).0),
+          h,
+          omega arith,
+        );
+      }
 
-told : {x y : Extent} {r : Answer ℕ} → x ≡ y → told_extent x ≡ r → told_extent y ≡ r
-told e t = ap told_extent (sym e) ∙ t
-
--- ---- a pair of halves: what is read of each of its last four bytes. They lie in the message
-module _ (m : List ℕ) (p : ℕ) (k : p + 1 < length m) (x₁ : Extent)
-    (t₁ : told_extent x₁ ≡ extent_at (continued p 1 0x80 0xc0) m (p + 2)) (j₁ b₁ : ℕ) (d₁ : x₁ ≡ extent.Takes j₁ b₁) where
-  pub pair_room_1 : p + 3 ≤ length m
-  pair_room_1 = pair_one_more m p 0 (omega arith) (j₁, b₁, told d₁ t₁)
-
-  module _ (x₂ : Extent) (t₂ : told_extent x₂ ≡ extent_at (continued p 1 0xed 0xee) m (p + 3)) (j₂ b₂ : ℕ)
-      (d₂ : x₂ ≡ extent.Takes j₂ b₂) where
-    pub pair_room_2 : p + 4 ≤ length m
-    pair_room_2 = pair_two_more m p 0 (omega arith) (j₁, b₁, told d₁ t₁) (j₂, b₂, told d₂ t₂)
-
-    pub pair_room_3 : (x₃ : Extent) → told_extent x₃ ≡ extent_at (continued p 1 0xb0 0xc0) m (p + 4) → (j₃ b₃ : ℕ)
-        → x₃ ≡ extent.Takes j₃ b₃ → p + 5 ≤ length m
-    pair_room_3 x₃ t₃ j₃ b₃ d₃ =
-        pair_three_more m p 0 (omega arith) (j₁, b₁, told d₁ t₁) (j₂, b₂, told d₂ t₂) (j₃, b₃, told d₃ t₃)
-
+-- ---- a pair of halves, by what is read of each of its last four bytes
 module _ (m : List ℕ) (p : ℕ) (k : p + 1 < length m) (e : HighHalf m p) (n : ℕ) (u : 2 ≤ n) where
-  abbrev Told : Extent → ℕ → ℕ → ℕ → Type 0
-  Told x q lo hi = told_extent x ≡ extent_at (continued p 1 lo hi) m q
+  ends : (r : Refused) → pair_there m p (get_or m (p + 1) 0) ≡ fault r → CharMet n m p (Err r)
+  ends r d = record { says = pair_fault n m p (omega arith) (omega arith) e.ed k e.from e.below u _ _ d }
 
-  refused : (y o : ℕ) → pair_there m p (get_or m (p + 1) 0) ≡ Fault y o → CharMet n m p (char.Refused y o)
-  refused y o d = record { says = pair_fault n m p (omega arith) (omega arith) e.ed k e.from e.below u y o d }
+  pub pair_cut_1 : (r : Refused) → Bad m p (p + 2) 0x80 0xc0 r → CharMet n m p (Err r)
+  pair_cut_1 r t = ends r (pair_bad m p _ (omega arith) r t)
 
-  module _ (x₁ : Extent) (t₁ : Told x₁ (p + 2) 0x80 0xc0) where
-    pub pair_cut_1 : (y o : ℕ) → x₁ ≡ extent.Refused y o → CharMet n m p (char.Refused y o)
-    pair_cut_1 y o d = refused y o (pair_bad m p (get_or m (p + 1) 0) (omega arith) y o (told d t₁))
+  module _ (t₁ : Good m p (p + 2) 0x80 0xc0) where
+    pub pair_cut_2 : (r : Refused) → Bad m p (p + 3) 0xed 0xee r → CharMet n m p (Err r)
+    pair_cut_2 r t = ends r (pair_bad_2 m p _ (omega arith) t₁ r t)
 
-    module _ (j₁ b₁ : ℕ) (d₁ : x₁ ≡ extent.Takes j₁ b₁) where
-      module _ (x₂ : Extent) (t₂ : Told x₂ (p + 3) 0xed 0xee) where
-        pub pair_cut_2 : (y o : ℕ) → x₂ ≡ extent.Refused y o → CharMet n m p (char.Refused y o)
-        pair_cut_2 y o d =
-            refused y o (pair_bad_2 m p (get_or m (p + 1) 0) (omega arith) (j₁, b₁, told d₁ t₁) y o (told d t₂))
+    module _ (t₂ : Good m p (p + 3) 0xed 0xee) where
+      pub pair_cut_3 : (r : Refused) → Bad m p (p + 4) 0xb0 0xc0 r → CharMet n m p (Err r)
+      pair_cut_3 r t = ends r (pair_bad_3 m p _ (omega arith) t₁ t₂ r t)
 
-        module _ (j₂ b₂ : ℕ) (d₂ : x₂ ≡ extent.Takes j₂ b₂) where
-          module _ (x₃ : Extent) (t₃ : Told x₃ (p + 4) 0xb0 0xc0) where
-            pub pair_cut_3 : (y o : ℕ) → x₃ ≡ extent.Refused y o → CharMet n m p (char.Refused y o)
-            pair_cut_3 y o d =
-                refused y o
-                (pair_bad_3 m p (get_or m (p + 1) 0) (omega arith) (j₁, b₁, told d₁ t₁) (j₂, b₂, told d₂ t₂) y o
-                (told d t₃))
+      module _ (t₃ : Good m p (p + 4) 0xb0 0xc0) where
+        pub pair_cut_4 : (r : Refused) → Bad m p (p + 5) 0x80 0xc0 r → CharMet n m p (Err r)
+        pair_cut_4 r t = ends r (pair_bad_4 m p _ (omega arith) t₁ t₂ t₃ r t)
 
-            module _ (j₃ b₃ : ℕ) (d₃ : x₃ ≡ extent.Takes j₃ b₃) where
-              module _ (x₄ : Extent) (t₄ : Told x₄ (p + 5) 0x80 0xc0) where
-                pub pair_cut_4 : (y o : ℕ) → x₄ ≡ extent.Refused y o → CharMet n m p (char.Refused y o)
-                pair_cut_4 y o d =
-                    refused y o
-                    (pair_bad_4 m p (get_or m (p + 1) 0) (omega arith) (j₁, b₁, told d₁ t₁) (j₂, b₂, told d₂ t₂)
-                    (j₃, b₃, told d₃ t₃) y o (told d t₄))
-
-                pub pair_whole : (j b : ℕ) → x₄ ≡ extent.Takes j b → CharMet n m p (char.Char 6 4 2)
-                pair_whole j b d =
-                    let w =
-                    pair_good m p (get_or m (p + 1) 0) (omega arith) (j₁, b₁, told d₁ t₁) (j₂, b₂, told d₂ t₂)
-                    (j₃, b₃, told d₃ t₃) (j, b, told d t₄) in
-                    record {
-                      says = (
-                        pair_next n m p (omega arith) (omega arith) e.ed k e.from e.below u _ _ _ w.1,
-                        omega arith,
-                        w.0,
-                        omega arith,
-                        u,
-                        omega arith,
-                      );
-                    }
-
--- what is said of a character, by what it is
-pub char_says : {n : ℕ} {m : List ℕ} {p : ℕ} {x y : CharRead} → CharMet n m p x → x ≡ y → CharSays n m p y
-char_says {n} {m} {p} t e = subst (CharSays n m p) e t.says
+        pub pair_whole : Good m p (p + 5) 0x80 0xc0 → CharMet n m p (Ok (char_read 6 4 2))
+        pair_whole t =
+            let w = pair_good m p (get_or m (p + 1) 0) (omega arith) t₁ t₂ t₃ t in
+            record {
+              says = (
+                pair_next n m p (omega arith) (omega arith) e.ed k e.from e.below u _ _ _ w.1,
+                omega arith,
+                w.0,
+                omega arith,
+                u,
+                omega arith,
+              );
+            }
 
 -- ---- characters that fit so many units
 first_weight : (ws vs : List ℕ) (r : ℕ) → r < get_or ws 0 0 → r < get_or (ws ++ vs) 0 0
@@ -347,28 +323,28 @@ over_next n m p j b u r x h =
 -- so many units are used of the room
 module _ (n room used : ℕ) (h : room < n) (few : used ≤ room) {m : List ℕ} {at here bytes : ℕ}
     (R : Passing n m at here (n - used) bytes) where
-  pub within_fault : {r : CharRead} → CharMet (n - used) m here r → (x o : ℕ) → r ≡ char.Refused x o
-      → WithinMet n room m at (char.Refused x o)
-  within_fault t x o e = record { says = passing_fault R x o (char_says t e) }
+  pub within_fault : (r : Refused) → CharMet (n - used) m here (Err r) → WithinMet n room m at (Err r)
+  within_fault r t = record { says = passing_fault R _ _ t.says }
 
-  pub within_more : {r : CharRead} → CharMet (n - used) m here r → (j b u : ℕ) → r ≡ char.Char j b u
-      → u ≤ room - used → Passing n m at (here + j) (n - (used + u)) (bytes + b) × (used + u ≤ room)
-  within_more t j b u e l =
-      let s = char_says t e in
-      let d : n - used - u ≡ n - (used + u) = omega arith in
-      (rw d at (passing_more R j b u s.0 s.4 s.5 s.2), omega arith)
-
-  within_met : Over (room - used) (n - used) m here → WithinMet n room m at (char.Char (here - at) bytes used)
+  within_met : Over (room - used) (n - used) m here → WithinMet n room m at (Ok (char_read (here - at) bytes used))
   within_met x =
       let a : here ≡ at + (here - at) = omega (arith, R.onward) in
       record { says = (rw (← a) R, few, rw (← a) x) }
 
-  pub within_over : {r : CharRead} → CharMet (n - used) m here r → (j b u : ℕ) → r ≡ char.Char j b u → room - used < u
-      → WithinMet n room m at (char.Char (here - at) bytes used)
-  within_over t j b u e l = within_met (over_next (n - used) m here j b u (room - used) (char_says t e).0 l)
+  module _ (c : CharRead) (t : CharMet (n - used) m here (Ok c)) where
+    pub within_more : c.units ≤ room - used
+        → Passing n m at (here + c.size) (n - (used + c.units)) (bytes + c.bytes) × (used + c.units ≤ room)
+    within_more l =
+        let s = t.says in
+        let d : n - used - c.units ≡ n - (used + c.units) = omega arith in
+        (rw d at (passing_more R c.size c.bytes c.units s.0 s.4 s.5 s.2), omega arith)
+
+    pub within_over : room - used < c.units → WithinMet n room m at (Ok (char_read (here - at) bytes used))
+    within_over l =
+        within_met (over_next (n - used) m here c.size c.bytes c.units (room - used) t.says.0 l)
 
   pub within_all : ((i : ℕ) → Fits w8 (get_or m i 0)) → room ≤ used
-      → WithinMet n room m at (char.Char (here - at) bytes used)
+      → WithinMet n room m at (Ok (char_read (here - at) bytes used))
   within_all fit z =
       within_met
       record {
@@ -377,49 +353,50 @@ module _ (n room used : ℕ) (h : room < n) (few : used ≤ room) {m : List ℕ}
             omega (arith, content_first x (omega arith));
       }
 
-pub within_says : {n room : ℕ} {m : List ℕ} {p : ℕ} {x y : CharRead} → WithinMet n room m p x → x ≡ y
-    → WithinSays n room m p y
-within_says {n} {room} {m} {p} t e = subst (WithinSays n room m p) e t.says
-
 -- ---- a chunk's first byte: the head of a chunk that is not the last, and those of the last
-abbrev head_row : Form → (ℕ → HeadForm) → Row HeadForm
+abbrev Head : Type 0
+Head = code.Option HeadForm
+
+abbrev head_row : Form → (ℕ → Head) → Row Head
 head_row w f = row w.head (w.head + w.codes) f
 
-abbrev last_row : Form → Row HeadForm
-last_row w = head_row w (λ b. Starts w.extra (b - w.head) true)
+abbrev last_row : Form → Row Head
+last_row w = head_row w (λ b. Some (starts w.extra (b - w.head) true))
 
-abbrev pub head_rows : Encoding → List (Row HeadForm)
-head_rows k = head_row (part_form k) (λ b. Starts 2 0 false) ∷ map last_row (last_forms k)
+abbrev pub head_rows : Encoding → List (Row Head)
+head_rows k = head_row (part_form k) (λ b. Some (starts 2 0 false)) ∷ map last_row (last_forms k)
 
-head_rows_law : (k : Encoding) (b : ℕ) → head_form k b ≡ chosen NoHead (head_rows k) b
+head_rows_law : (k : Encoding) (b : ℕ) → head_form k b ≡ chosen None (head_rows k) b
 unfolding head_form
 head_rows_law k b =
     ap (λ (w : Form). by_forms w (last_heads k)) (part_head_law k)
     ∙ ap (by_forms (part_form k)) (last_heads_law k)
-    ∙ ap (pick (inside (part_form k) b) (Starts 2 0 false)) (go (last_forms k))
+    ∙ ap (pick (inside (part_form k) b) (Some (starts 2 0 false))) (go (last_forms k))
   where
-    by_forms : Form → List Form → HeadForm
-    by_forms w ws = pick (inside w b) (Starts 2 0 false) (last_form (form_at ws b))
+    by_forms : Form → List Form → Head
+    by_forms w ws = pick (inside w b) (Some (starts 2 0 false)) (last_form (form_at ws b))
 
-    go : (ws : List Form) → last_form (form_at ws b) ≡ chosen NoHead (map last_row ws) b
+    go : (ws : List Form) → last_form (form_at ws b) ≡ chosen None (map last_row ws) b
     go [] = ap last_form (form_none b)
-    go (w ∷ ws) = form_either (λ (x : Begun). last_form x ≡ chosen NoHead (map last_row (w ∷ ws)) b) w ws b
+    go (w ∷ ws) = form_either (λ (x : code.Option Begun). last_form x ≡ chosen None (map last_row (w ∷ ws)) b) w ws b
         (λ t. sym (pick_true _ _ t)) (λ t. go ws ∙ sym (pick_false _ _ t))
 
-pub head_at_law : (k : Encoding) (i : ℕ) → T (apart NoHead (head_rows k) i) → {b : ℕ} {x : HeadForm}
-    → (nth NoHead (head_rows k) i).from ≤ b → b < (nth NoHead (head_rows k) i).below
-    → x ≡ (nth NoHead (head_rows k) i).says b → x ≡ head_form k b
-head_at_law k i t {b} h l s = s ∙ chosen_at NoHead (head_rows k) i t h l ∙ sym (head_rows_law k b)
+-- of the kind j
+module _ {k : Encoding} (j : Encoding) (e : k ≡ j) where
+  pub head_at_law : (i : ℕ) → T (apart None (head_rows j) i) → {b : ℕ} {x : Head}
+      → (nth None (head_rows j) i).from ≤ b → b < (nth None (head_rows j) i).below
+      → x ≡ (nth None (head_rows j) i).says b → x ≡ head_form k b
+  head_at_law i t {b} h l s = rw e (s ∙ chosen_at None (head_rows j) i t h l ∙ sym (head_rows_law j b))
 
-pub head_none : (k : Encoding) (b : ℕ) → Outside NoHead (head_rows k) b → NoHead ≡ head_form k b
-head_none k b h = chosen_none NoHead (head_rows k) b h ∙ sym (head_rows_law k b)
+  pub head_none : (b : ℕ) → Outside None (head_rows j) b → None ≡ head_form k b
+  head_none b h = rw e (chosen_none None (head_rows j) b h ∙ sym (head_rows_law j b))
 
-pub starts : {j u v : ℕ} {l : Bool} → u ≡ v → Starts j u l ≡ Starts j v l
-starts {j} {l = l} e = ap (λ (n : ℕ). Starts j n l) e
+pub held : {j u v : ℕ} {l : Bool} → u ≡ v → ◌≡◌ {A = Head} (Some (starts j u l)) (Some (starts j v l))
+held {j} {l = l} e = ap (λ (n : ℕ). Some (starts j n l)) e
 
 -- ---- a chunk's content
 module _ (k : Encoding) (n : ℕ) (m : List ℕ) (p : ℕ) where
-  pub content_text : (x : Extent) → k ≡ Utf8 → told_extent x ≡ extent_at (characters n) m p
+  pub content_text : (x : Result Extent Refused) → k ≡ Utf8 → told_extent x ≡ extent_at (characters n) m p
       → told_extent x ≡ extent_at (body k n) m p
   content_text x e t = rw e t
 
@@ -429,143 +406,123 @@ module _ (k : Encoding) (n : ℕ) (m : List ℕ) (p : ℕ) where
   pub content_cut : k ≡ Binary → p ≤ length m → length m - p < n → Fault 2 (length m) ≡ extent_at (body k n) m p
   content_cut e l h = rw e (sym (octets_fault n m p l h))
 
--- ---- the length that a head says: u, and up to two bytes more, from i on
-module _ (m : List ℕ) (bytes : (i : ℕ) → Fits w8 (get_or m i 0)) (i u : ℕ) (l : u < 256) (a : ℕ)
-    (e : a ≡ get_or m i 0) where
-  pub one_more : Fits w64 (u * 256 + a)
-  one_more = record { fits = omega (arith, (bytes i).fits) }
+-- ---- the length that a head says: v, by what its first byte holds, u, and i bytes of s, the one or two after that
+module _ (s : List ℕ) (fit : (i : ℕ) → Fits w8 (get_or s i 0)) (i u : ℕ) {v : ℕ} (e : v ≡ joined u (take i s)) where
+  pub held_few : u < 256 → length s ≤ 2 → v < 2 ^ 24
+  held_few l h = rw e (few (take i s) u (simp length-take (omega arith)) (bytes_take i s (bytes_all s (λ i. (fit i).fits))) l)
+    where
+      few : (t : List ℕ) (u : ℕ) → length t ≤ 2 → Bytes t → u < 256 → joined u t < 2 ^ 24
+      few [] u h b l = omega arith
+      few (x ∷ []) u h b l = omega (arith, b.0)
+      few (x ∷ y ∷ []) u h b l = omega (arith, b.0, b.1.0)
+      few (x ∷ y ∷ z ∷ t) u h b l = absurd (omega arith)
 
-  pub one_held : (j : ℕ) → j ≡ 1 → i + j ≤ length m → u * 256 + a ≡ joined u (take j (drop i m))
-  one_held j f h = rw (f, joined_one m i 0 u (omega arith)) (omega (arith, e))
-
-  pub two_room : Fits w64 ((u * 256 + a) * 256)
-  two_room = record { fits = omega (arith, (bytes i).fits) }
-
-  module _ (b : ℕ) (f : b ≡ get_or m (i + 1) 0) where
-    pub two_more : Fits w64 ((u * 256 + a) * 256 + b)
-    two_more = record { fits = omega (arith, (bytes i).fits, (bytes (i + 1)).fits) }
-
-    pub two_held : (j : ℕ) → (j ≡ 0 → ⊥) → (j ≡ 1 → ⊥) → j ≤ 2 → i + j ≤ length m
-        → (u * 256 + a) * 256 + b ≡ joined u (take j (drop i m))
-    two_held j x y z h =
-        let g : j ≡ 2 = omega arith in
-        let k : suc i ≡ i + 1 = omega arith in
-        rw (g, joined_one m i 1 u (omega arith), k, joined_one m (i + 1) 0 (256 * u + get_or m i 0) (omega arith))
-        (omega (arith, e, f))
+  pub held_more : {b : ℕ} → i < length s → b ≡ get_or s i 0 → v * 256 + b ≡ joined u (take (i + 1) s)
+  held_more l f = rw (add-one i, take-suc s i 0 l, joined_snoc (take i s) u (get_or s i 0)) (omega arith)
 
 -- ---- a chunk's head
 module _ (k : Encoding) (m : List ℕ) (p : ℕ) where
-  pub head_ends : length m ≤ p → HeadMet k m p (head.Refused 2 (length m))
+  pub head_ends : length m ≤ p → HeadMet k m p (Err (refused Cut (length m)))
   unfolding head_at
   head_ends l = record { is = sym (pick_true _ _ (le-leb (length m) p l)); says = string_ends k m p l }
 
-  module _ (l : p < length m) (x : HeadForm) (is : x ≡ head_form k (get_or m p 0)) where
-    head_by_law : (y : HeadForm) → x ≡ y → head_by m p y ≡ head_at k m p
+  module _ (l : p < length m) where
+    head_by_law : (x : Head) → x ≡ head_form k (get_or m p 0) → head_by m p x ≡ head_at k m p
     unfolding head_at
-    head_by_law y e = ap (head_by m p) (sym e ∙ is) ∙ sym (pick_false _ _ (lt-leb (length m) p l))
+    head_by_law x e = ap (head_by m p) e ∙ sym (pick_false _ _ (lt-leb (length m) p l))
 
-    pub head_other : x ≡ NoHead → HeadMet k m p (head.Refused 3 p)
-    head_other e = record { is = head_by_law NoHead e; says = string_none k m p l (sym is ∙ e) }
+    pub head_other : None ≡ head_form k (get_or m p 0) → HeadMet k m p (Err (refused Byte p))
+    head_other e = record { is = head_by_law None e; says = string_none k m p l (sym e) }
 
-    module _ (j u : ℕ) (a : Bool) (e : x ≡ Starts j u a) where
-      pub head_cut : length m - p ≤ j → HeadMet k m p (head.Refused 2 (length m))
+    module _ (f : HeadForm) (e : Some f ≡ head_form k (get_or m p 0)) where
+      pub head_cut : length m - p ≤ f.more → HeadMet k m p (Err (refused Cut (length m)))
       head_cut h = record {
-        is = sym (pick_true _ _ (le-leb (length m - p) j h)) ∙ head_by_law (Starts j u a) e;
-        says = string_cut k m p l j u a (sym is ∙ e) h;
+        is = sym (pick_true _ _ (le-leb (length m - p) f.more h)) ∙ head_by_law (Some f) e;
+        says = string_cut k m p l f (sym e) h;
       }
 
-      pub head_few : j ≤ 2
-      head_few = (head_small k (get_or m p 0) j u a (sym is ∙ e)).0
+      small : (f.more ≤ 2) × (f.held ≤ get_or m p 0) × (wider f.more (suc f.held) ≤ 65536)
+      small = head_small k (get_or m p 0) f (sym e)
 
-      pub head_low : ((i : ℕ) → Fits w8 (get_or m i 0)) → u < 256
-      head_low bytes = omega (arith, (bytes p).fits, (head_small k (get_or m p 0) j u a (sym is ∙ e)).1)
+      pub head_few : f.more ≤ 2
+      head_few = small.0
 
       -- n: the number that the head holds
-      pub head_there : ((i : ℕ) → Fits w8 (get_or m i 0)) → j < length m - p → (n : ℕ)
-          → n ≡ joined u (take j (drop (p + 1) m)) → HeadMet k m p (head.Head (j + 1) n a)
+      pub head_there : ((i : ℕ) → Fits w8 (get_or m i 0)) → f.more < length m - p → (n : ℕ)
+          → n ≡ joined f.held (take f.more (drop (p + 1) m)) → HeadMet k m p (Ok (head_read (f.more + 1) n f.last))
       head_there bytes h n at = record {
         is =
-            ap (λ (v : ℕ). head.Head (j + 1) v a) at
-            ∙ sym (pick_false _ _ (lt-leb (length m - p) j h))
-            ∙ head_by_law (Starts j u a) e;
+            ap (λ (v : ℕ). Done (f.more + 1) (head_read (f.more + 1) v f.last) [] tt) at
+            ∙ sym (pick_false _ _ (lt-leb (length m - p) f.more h))
+            ∙ head_by_law (Some f) e;
         says = (
-          string_there k m p l j u a (sym is ∙ e) h n at,
+          string_there k m p l f (sym e) h n at,
           omega arith,
           omega arith,
-          omega (arith, below, (head_small k (get_or m p 0) j u a (sym is ∙ e)).2),
+          omega (arith, below, small.2),
         );
       }
         where
-          below : joined u (take j (drop (p + 1) m)) < wider j (suc u)
+          below : joined f.held (take f.more (drop (p + 1) m)) < wider f.more (suc f.held)
           below =
-              joined_below (take j (drop (p + 1) m)) j u (suc u)
-              (length-take-le j (drop (p + 1) m) (omega (arith, length-drop (p + 1) m)))
-              (bytes_take j (drop (p + 1) m) (bytes_drop (p + 1) m (bytes_all m (λ i. (bytes i).fits))))
+              joined_below (take f.more (drop (p + 1) m)) f.more f.held (suc f.held)
+              (length-take-le f.more (drop (p + 1) m) (omega (arith, length-drop (p + 1) m)))
+              (bytes_take f.more (drop (p + 1) m) (bytes_drop (p + 1) m (bytes_all m (λ i. (bytes i).fits))))
               (omega arith)
 
-pub head_says : {k : Encoding} {m : List ℕ} {p : ℕ} {x y : HeadRead} → HeadMet k m p x → x ≡ y → HeadSays k m p y
-head_says {k} {m} {p} t e = subst (HeadSays k m p) e t.says
-
 -- ---- a chunk
-module _ (k : Encoding) (m : List ℕ) (p : ℕ) (x : HeadRead) (t : HeadMet k m p x) where
-  chunk_by_law : (y : HeadRead) → x ≡ y → chunk_by k m p y ≡ chunk_at k m p
+module _ (k : Encoding) (m : List ℕ) (p : ℕ) where
+  chunk_by_law : (x : Result HeadRead Refused) → HeadMet k m p x → chunk_by k m p (told_head x) ≡ chunk_at k m p
   unfolding chunk_at
-  chunk_by_law y e = ap (chunk_by k m p) (sym e ∙ t.is)
+  chunk_by_law x t = ap (chunk_by k m p) t.is
 
-  pub chunk_headless : (y o : ℕ) → x ≡ head.Refused y o → ChunkMet k m p (chunk.Refused y o)
-  chunk_headless y o e = record { is = chunk_by_law (head.Refused y o) e; says = head_says t e }
+  pub chunk_headless : (r : Refused) → HeadMet k m p (Err r) → ChunkMet k m p (Err r)
+  chunk_headless r t = record { is = chunk_by_law (Err r) t; says = t.says }
 
-  -- r: what is read of the content
-  module _ (h u : ℕ) (a : Bool) (e : x ≡ head.Head h u a) (r : Extent)
-      (s : told_extent r ≡ extent_at (body k u) m (p + h)) where
-    chunk_with : (y : Extent) → r ≡ y → with_content h u a (told_extent y) ≡ chunk_at k m p
-    chunk_with y d = ap (with_content h u a) (ap told_extent (sym d) ∙ s) ∙ chunk_by_law (head.Head h u a) e
-
-    pub chunk_cut : (y o : ℕ) → r ≡ extent.Refused y o → ChunkMet k m p (chunk.Refused y o)
-    chunk_cut y o d = record {
-      is = chunk_with (extent.Refused y o) d;
+  module _ (h : HeadRead) (t : HeadMet k m p (Ok h)) where
+    pub chunk_cut : (r : Refused) → fault r ≡ extent_at (body k h.units) m (p + h.size) → ChunkMet k m p (Err r)
+    chunk_cut r s = record {
+      is = ap (with_content h) s ∙ chunk_by_law (Ok h) t;
       says =
-          (head_says t e).0 ∙ ap (chunked k m p h a) (body_fault k u m (p + h) y o (ap told_extent (sym d) ∙ s)) ∙ go a;
+          t.says.0
+          ∙ ap (chunked k m p h.size h.last) (body_fault k h.units m (p + h.size) _ _ s)
+          ∙ go h.last;
     }
       where
-        go : (a : Bool) → chunked k m p h a (Fault y o) ≡ Fault y o
+        go : (a : Bool) → chunked k m p h.size a (fault r) ≡ fault r
         go true = refl
         go false = refl
 
-    pub chunk_there : ((i : ℕ) → Fits w8 (get_or m i 0)) → (n b : ℕ) → r ≡ extent.Takes n b
-        → ChunkMet k m p (chunk.Chunk h n b u a)
-    chunk_there bytes n b d =
-        let w = head_says t e in
-        let z = body_there k u m (p + h) (bytes_all m (λ i. (bytes i).fits)) n b w.2 (ap told_extent (sym d) ∙ s) in
+    pub chunk_there : ((i : ℕ) → Fits w8 (get_or m i 0)) → (n b : ℕ)
+        → Done n b [] tt ≡ extent_at (body k h.units) m (p + h.size)
+        → ChunkMet k m p (Ok (chunk_read h.size n b h.units h.last))
+    chunk_there bytes n b s =
+        let w = t.says in
+        let z = body_there k h.units m (p + h.size) (bytes_all m (λ i. (bytes i).fits)) n b w.2 s in
         record {
-          is = chunk_with (extent.Takes n b) d;
-          says = (w.0 ∙ ap (chunked k m p h a) z.0, w.1, omega (arith, z.1), z.2, z.3, z.4, z.5, w.3);
+          is = ap (with_content h) s ∙ chunk_by_law (Ok h) t;
+          says = (w.0 ∙ ap (chunked k m p h.size h.last) z.0, w.1, omega (arith, z.1), z.2, z.3, z.4, z.5, w.3);
         }
 
-pub chunk_says : {k : Encoding} {m : List ℕ} {p : ℕ} {x y : ChunkRead} → ChunkMet k m p x → x ≡ y → ChunkSays k m p y
-chunk_says {k} {m} {p} t e = subst (ChunkSays k m p) e t.says
-
 -- what is read of its content
-chunk_content : {k : Encoding} {m : List ℕ} {p : ℕ} {r : ChunkRead} → ChunkMet k m p r → (h n b u : ℕ) (a : Bool)
-    → r ≡ chunk.Chunk h n b u a → Done n b [] tt ≡ extent_at (body k u) m (p + h)
+chunk_content : {k : Encoding} {m : List ℕ} {p : ℕ} (c : ChunkRead) → ChunkMet k m p (Ok c)
+    → Done c.size c.bytes [] tt ≡ extent_at (body k c.units) m (p + c.head)
 unfolding chunk_at
-chunk_content {k} {m} {p} t h n b u a e = by_head (head_at k m p) (sym e ∙ t.is)
+chunk_content {k} {m} {p} c t = by_head (head_at k m p) t.is
   where
-    by_content : (i v : ℕ) (l : Bool) (o : Answer ℕ) → extent_at (body k v) m (p + i) ≡ o
-        → chunk.Chunk h n b u a ≡ with_content i v l o → Done n b [] tt ≡ extent_at (body k u) m (p + h)
-    by_content i v l (Done x c es y) d f =
-        let q = body_quiet k v m (p + i) x c es d in
-        let f₁ : h ≡ i = cc in
-        let f₂ : n ≡ x = cc in
-        let f₃ : b ≡ c = cc in
-        let f₄ : u ≡ v = cc in
-        rw (f₁, f₂, f₃, f₄, d, q) refl
-    by_content i v l (Fault y o) d f = let z : ◌≡◌ {A = ℕ} 0 1 = cc in absurd (omega arith)
+    by_content : (h : HeadRead) (o : Answer ℕ) → extent_at (body k h.units) m (p + h.size) ≡ o
+        → Done (c.head + c.size) c [] tt ≡ with_content h o
+        → Done c.size c.bytes [] tt ≡ extent_at (body k c.units) m (p + c.head)
+    by_content h (Done n b es y) d f =
+        let q = body_quiet k h.units m (p + h.size) n b es d in
+        let i : c ≡ chunk_read h.size n b h.units h.last = cc in
+        rw (i, d, q) refl
+    by_content h (Fault y o) d f = let z : ◌≡◌ {A = ℕ} 0 1 = cc in absurd (omega arith)
 
-    by_head : (x : HeadRead) → chunk.Chunk h n b u a ≡ chunk_by k m p x
-        → Done n b [] tt ≡ extent_at (body k u) m (p + h)
-    by_head (head.Head i v l) f = by_content i v l (extent_at (body k v) m (p + i)) refl f
-    by_head (head.Refused y o) f = let z : ◌≡◌ {A = ℕ} 0 1 = cc in absurd (omega arith)
+    by_head : (x : Answer HeadRead) → Done (c.head + c.size) c [] tt ≡ chunk_by k m p x
+        → Done c.size c.bytes [] tt ≡ extent_at (body k c.units) m (p + c.head)
+    by_head (Done n h es y) f = by_content h (extent_at (body k h.units) m (p + h.size)) refl f
+    by_head (Fault y o) f = let z : ◌≡◌ {A = ℕ} 0 1 = cc in absurd (omega arith)
 
 -- ---- the loop over the chunks
 pub joining_start : (k : Encoding) (m : List ℕ) (at : ℕ) → at < length m → Joining k m at at 0 0
@@ -582,46 +539,43 @@ joining_start k m at l = let e : at - at ≡ 0 = omega arith in
       inside = omega arith;
     }
 
-module _ {k : Encoding} {m : List ℕ} {at here total bytes : ℕ} (R : Joining k m at here total bytes) {x : ChunkRead}
-    (t : ChunkMet k m here x) where
-  pub joining_fault : (y o : ℕ) → x ≡ chunk.Refused y o → Fault y o ≡ measured_at k m at
-  joining_fault y o e = sym (measured_as k m at (rw (chunk_says t e) at (sym R.says)))
+module _ {k : Encoding} {m : List ℕ} {at here total bytes : ℕ} (R : Joining k m at here total bytes) where
+  pub joining_fault : (r : Refused) → ChunkMet k m here (Err r) → fault r ≡ measured_at k m at
+  joining_fault r t = sym (measured_as k m at (rw t.says at (sym R.says)))
 
-  module _ (h n b u : ℕ) (a : Bool) (e : x ≡ chunk.Chunk h n b u a) where
+  module _ (c : ChunkRead) (t : ChunkMet k m here (Ok c)) where
     abbrev joint : List ℕ
-    joint = R.front ++ decoded k (take n (drop (here + h) m))
+    joint = R.front ++ content_of k m here c
 
-    joint_units : units k joint ≡ total + u
-    joint_units =
-        omega
-        (arith, units_append k R.front (decoded k (take n (drop (here + h) m))), R.units_are, (chunk_says t e).4)
+    joint_units : units k joint ≡ total + c.units
+    joint_units = omega (arith, units_append k R.front (content_of k m here c), R.units_are, t.says.4)
 
-    joint_length : length joint ≡ bytes + b
-    joint_length =
-        omega
-        (arith, length-append R.front (decoded k (take n (drop (here + h) m))), R.bytes_are, (chunk_says t e).5)
+    joint_length : length joint ≡ bytes + c.bytes
+    joint_length = omega (arith, length-append R.front (content_of k m here c), R.bytes_are, t.says.5)
 
-    size : here + (h + n) - at ≡ here - at + (h + n)
+    size : here + (c.head + c.size) - at ≡ here - at + (c.head + c.size)
     size = omega (arith, R.onward)
 
-    pub joining_whole : a ≡ true → string_at k m at ≡ Done (here - at + (h + n)) joint [] tt
-    joining_whole d = rw ((chunk_says t e).0, d) at (sym R.says)
+    pub joining_whole : c.last ≡ true → string_at k m at ≡ Done (here - at + (c.head + c.size)) joint [] tt
+    joining_whole d = rw (t.says.0, d) at (sym R.says)
 
-    pub joining_last : a ≡ true
-        → Done (here + (h + n) - at) (sized (total + u) (bytes + b) (length_of (shortest_string k joint))) [] tt
+    pub joining_last : c.last ≡ true
+        → Done (here + (c.head + c.size) - at)
+        (sized (total + c.units) (bytes + c.bytes) (length_of (shortest_string k joint))) [] tt
         ≡ measured_at k m at
     joining_last d = rw (size, ← joint_units, ← joint_length) (sym (measured_as k m at (joining_whole d)))
 
-    pub joining_more : a ≡ false → Joining k m at (here + (h + n)) (total + u) (bytes + b)
+    pub joining_more : c.last ≡ false
+        → Joining k m at (here + (c.head + c.size)) (total + c.units) (bytes + c.bytes)
     joining_more d =
-        let s = chunk_says t e in
+        let s = t.says in
         record {
           front = joint;
           says =
               rw size
               (sym
-              (prefixed_twice (here - at) (h + n) R.front (decoded k (take n (drop (here + h) m)))
-              (string_at k m (here + (h + n))))
+              (prefixed_twice (here - at) (c.head + c.size) R.front (content_of k m here c)
+              (string_at k m (here + (c.head + c.size))))
               ∙ rw (s.0, d) at R.says);
           units_are = joint_units;
           bytes_are = joint_length;
@@ -631,61 +585,51 @@ module _ {k : Encoding} {m : List ℕ} {at here total bytes : ℕ} (R : Joining 
         }
 
 -- ---- passing the chunks one by one
-pub pass_none : (k : Encoding) (m : List ℕ) (at : ℕ) → length m ≤ at
-    → PassedMet k m at (string-passed.Refused 2 (length m))
+abbrev pub passed : ℕ → ℕ → ℕ → StringPassed
+passed u b n = record { units = u; bytes = b; size = n }
+
+pub pass_none : (k : Encoding) (m : List ℕ) (at : ℕ) → length m ≤ at → PassedMet k m at (Err (refused Cut (length m)))
 pass_none k m at l = record { says = measured_as k m at (string_ends k m at l) }
 
-module _ {k : Encoding} {m : List ℕ} {at here total bytes : ℕ} (R : Joining k m at here total bytes) (g : ChunkRead)
-    (t : ChunkMet k m here g) where
-  pub pass_fault : (y o : ℕ) → g ≡ chunk.Refused y o → PassedMet k m at (string-passed.Refused y o)
-  pass_fault y o e = record { says = sym (joining_fault R t y o e) }
+module _ {k : Encoding} {m : List ℕ} {at here total bytes : ℕ} (R : Joining k m at here total bytes) where
+  pub pass_fault : (r : Refused) → ChunkMet k m here (Err r) → PassedMet k m at (Err r)
+  pass_fault r t = record { says = sym (joining_fault R r t) }
 
-  module _ (h n b u : ℕ) (a : Bool) (e : g ≡ chunk.Chunk h n b u a) where
-    passed_chunk : ChunkSays k m here (chunk.Chunk h n b u a)
-    passed_chunk = chunk_says t e
+  module _ (c : ChunkRead) (t : ChunkMet k m here (Ok c)) where
+    pub pass_size : Fits w64 (length m) → Fits w64 (c.head + c.size)
+    pass_size f = record { fits = omega (arith, f.fits, t.says.2) }
 
-    pub pass_size : Fits w64 (length m) → Fits w64 (h + n)
-    pass_size f = record { fits = omega (arith, f.fits, passed_chunk.2) }
+    pub pass_end : Fits w64 (length m) → Fits w64 (here + (c.head + c.size))
+    pass_end f = record { fits = omega (arith, f.fits, t.says.2) }
 
-    pub pass_end : Fits w64 (length m) → Fits w64 (here + (h + n))
-    pass_end f = record { fits = omega (arith, f.fits, passed_chunk.2) }
+    pub pass_bytes : Fits w64 (length m) → Fits w64 (bytes + c.bytes)
+    pass_bytes f = record { fits = omega (arith, f.fits, t.says.2, t.says.6, R.onward) }
 
-    pub pass_bytes : Fits w64 (length m) → Fits w64 (bytes + b)
-    pass_bytes f = record { fits = omega (arith, f.fits, passed_chunk.2, passed_chunk.6, R.onward) }
+    pub pass_units : Fits w64 (length m) → Fits w64 (total + c.units)
+    pass_units f = record { fits = omega (arith, (pass_bytes f).fits, t.says.3, R.few) }
 
-    pub pass_units : Fits w64 (length m) → Fits w64 (total + u)
-    pass_units f = record { fits = omega (arith, (pass_bytes f).fits, passed_chunk.3, R.few) }
-
-    pub pass_behind : at ≤ here + (h + n)
+    pub pass_behind : at ≤ here + (c.head + c.size)
     pass_behind = omega (arith, R.onward)
 
-    pub pass_shrinks : length m - (here + (h + n)) < length m - here
-    pass_shrinks = omega (arith, passed_chunk.1, passed_chunk.2)
+    pub pass_shrinks : length m - (here + (c.head + c.size)) < length m - here
+    pass_shrinks = omega (arith, t.says.1, t.says.2)
 
-    pub pass_last : a ≡ true → PassedMet k m at (string-passed.Content (total + u) (bytes + b) (here + (h + n) - at))
-    pass_last d = record { says = record { shortest = _; says = sym (joining_last R t h n b u a e d) } }
+    pub pass_last : c.last ≡ true
+        → PassedMet k m at (Ok (passed (total + c.units) (bytes + c.bytes) (here + (c.head + c.size) - at)))
+    pass_last d = record { says = record { shortest = _; says = sym (joining_last R c t d) } }
 
-    pub pass_more : a ≡ false → Joining k m at (here + (h + n)) (total + u) (bytes + b)
-    pass_more d = joining_more R t h n b u a e d
+    pub pass_more : c.last ≡ false → Joining k m at (here + (c.head + c.size)) (total + c.units) (bytes + c.bytes)
+    pass_more d = joining_more R c t d
 
 -- what is passed, with its length: w is that of the shortest form
-module _ {k : Encoding} {m : List ℕ} {p : ℕ} (x : StringPassed) (t : PassedMet k m p x) where
-  passed_says : {y : StringPassed} → x ≡ y → PassedSays k m p y
-  passed_says e = subst (PassedSays k m p) e t.says
+module _ {k : Encoding} {m : List ℕ} {p u b n : ℕ} (s : StringIs k m p u b n) where
+  pub string_has : StringHas k m p u b
+  string_has = record { size = n; is = s }
 
-  pub told_refused : (y o : ℕ) → x ≡ string-passed.Refused y o → Fault y o ≡ measured_at k m p
-  told_refused y o e = sym (passed_says e)
-
-  module _ (u b n : ℕ) (e : x ≡ string-passed.Content u b n) where
-    told_has : StringHas k m p u b
-    told_has = record { size = n; is = passed_says e }
-
-    pub told_content : (w : ℕ) → PassedLength k m p u b w → Done n (sized u b w) [] tt ≡ measured_at k m p
-    told_content w h =
-        let i = h.is told_has in
-        let s = passed_says e in
-        let j : w ≡ s.shortest = i ∙ ap shortest_of s.says in
-        rw j (sym s.says)
+  pub told_content : (w : ℕ) → PassedLength k m p u b w → Done n (sized u b w) [] tt ≡ measured_at k m p
+  told_content w h =
+      let j : w ≡ s.shortest = h.is string_has ∙ ap shortest_of s.says in
+      rw j (sym s.says)
 
 -- ---- the length, of a content that fits a chunk, whose head has i bytes; and of others, whose heads have i
 module _ {k : Encoding} {m : List ℕ} {p u b : ℕ} (s : StringHas k m p u b) (fit : (i : ℕ) → Fits w8 (get_or m i 0)) where
@@ -743,9 +687,9 @@ module _ {k : Encoding} {m : List ℕ} {p u b : ℕ} (s : StringHas k m p u b) (
       one_part_wraps : Fits w64 (length m) → (b + i) % 2 ^ 64 ≡ said
       one_part_wraps f = omega (arith, f.fits, one_part, said_is, is_short.0, is_short.1)
 
-    module _ (h : HeadsMet k m p i) where
+    module _ (h : HeadsMet k m p (Ok i)) where
       more_parts : b + i ≡ said
-      more_parts = h.heads u b s.size s.is ∙ sym said_is
+      more_parts = h.says u b s.size s.is ∙ sym said_is
 
       more_parts_wrap : Fits w64 (length m) → (b + i) % 2 ^ 64 ≡ said
       more_parts_wrap f = omega (arith, f.fits, more_parts, said_is, is_short.0, is_short.1)
@@ -755,8 +699,14 @@ module _ (k : Encoding) (m : List ℕ) (p u b : ℕ) (fit : (i : ℕ) → Fits w
   pub length_in_one : u ≤ 65535 → i ≡ length (shortest_head (last_heads k) u) → PassedLength k m p u b n
   length_in_one l h = record { is = λ s. e ∙ one_part_wraps s fit i l h f }
 
-  pub length_in_more : HeadsMet k m p i → PassedLength k m p u b n
-  length_in_more h = record { is = λ s. e ∙ more_parts_wrap s fit i h f }
+  pub length_in_more : (x : Result ℕ Refused) → HeadsMet k m p x → i ≡ result_unwrap_or x 0 → PassedLength k m p u b n
+  length_in_more (Ok j) h q = record { is = λ s. e ∙ more_parts_wrap s fit i (rw q h) f }
+  length_in_more (Err r) h q = record {
+    is = λ s.
+        let d = h.says ∙ s.is.says in
+        let z : ◌≡◌ {A = ℕ} 0 1 = cc in
+        absurd (omega arith);
+  }
 
 -- ---- a content that does not fit the open part
 -- each byte of a byte string is one unit
@@ -784,87 +734,77 @@ bytes_parted cs n c u e h l i =
     (omega arith)
     ∙ rw (y, z) refl
 
--- a byte string
-module _ (k : Encoding) (n room : ℕ) (m : List ℕ) (p : ℕ) (fit : (i : ℕ) → Fits w8 (get_or m i 0)) (in-m : p ≤ length m)
-    (h : room < n) (few : n ≤ 65535) where
+-- the parts y after the content of n units at p, by those before it, x
+abbrev pub parts_of : ℕ → ℕ → code_parts.Parts
+parts_of i j = record { cuts = i; filled = j }
+
+module _ (k : Encoding) (n : ℕ) (m : List ℕ) (p : ℕ) (x : code_parts.Parts) (fit : (i : ℕ) → Fits w8 (get_or m i 0))
+    (in-m : p ≤ length m) (small : x.filled ≤ 65535) where
   content_is : (j b : ℕ) → Done j b [] tt ≡ extent_at (body k n) m p
       → (◌≡◌ {A = Answer (List ℕ)} (body k n tt p (drop p m)) (Done j (decoded k (take j (drop p m))) [] tt))
       × (units k (decoded k (take j (drop p m))) ≡ n)
   content_is j b e =
       let z = body_there k n m p (bytes_all m (λ i. (fit i).fits)) j b in-m e in (z.0, z.3)
 
-  pub cut_bytes : k ≡ Binary → CutMet k n room m p (n - room)
-  cut_bytes e = record {
-    after = λ j b d c u l f.
-        let z = rw e at (content_is j b d).1 in
-        let y = bytes_parted (decoded Binary (take j (drop p m))) n c u z l few (omega arith) in
-        rw (e, ← f) y;
+  -- it fits the open part
+  pub parts_filled : n ≤ 65535 - x.filled → PartsMet k n m p x (Ok (parts_of x.cuts (x.filled + n)))
+  parts_filled l = record {
+    says = λ j b d.
+        let z = (content_is j b d).1 in
+        parts_within x.cuts x.filled (weights k (decoded k (take j (drop p m)))) (omega arith) ∙ rw z refl;
   }
 
-  -- a text. r: the characters that fit
-  module _ (e : k ≡ Utf8) (r : CharRead) (t : WithinMet n room m p r) where
-    pub cut_never : (y o : ℕ) → r ≡ char.Refused y o → CutMet k n room m p 0
-    cut_never y o d = record {
-      after = λ j b g c u l f.
-          let v : Done j b [] tt ≡ extent_at (characters n) m p = rw e at g in
-          let w : Done j b [] tt ≡ Fault y o = v ∙ sym (within_says t d) in
-          let z : ◌≡◌ {A = ℕ} 0 1 = cc in
-          absurd (omega arith);
+  -- it does not: f units of it do
+  module _ (h : 65535 - x.filled < n) (few : n ≤ 65535) where
+    -- a byte string
+    pub cut_bytes : k ≡ Binary → {f : ℕ} → f ≡ 65535 - x.filled
+        → PartsMet k n m p x (Ok (parts_of (x.cuts + 1) (n - f)))
+    cut_bytes e i = record {
+      says = λ j b d.
+          let z = rw e at (content_is j b d).1 in
+          rw (e, i) (bytes_parted (decoded Binary (take j (drop p m))) n x.cuts x.filled z small few h);
     }
 
-    module _ (j b u : ℕ) (d : r ≡ char.Char j b u) where
-      pub cut_units : u ≤ n
-      cut_units = omega (arith, (within_says t d).1)
-
+    -- a text, by the characters that fit
+    module _ (e : k ≡ Utf8) (y : CharRead) (t : WithinMet n (65535 - x.filled) m p (Ok y)) where
       -- the rest, of a content that is read as a whole
-      rest : (i : ℕ) (cs : List ℕ) → text_at n m p ≡ Done i cs [] tt → (c v : ℕ) → v ≤ 65535 → 65535 - v ≡ room
-          → parts_after c v (weights Utf8 cs) ≡ parts (c + 1) (n - u)
-      rest i cs g c v l f = go (text_at (n - u) m (p + j)) refl
+      rest : (i : ℕ) (cs : List ℕ) → text_at n m p ≡ Done i cs [] tt
+          → parts_after x.cuts x.filled (weights Utf8 cs) ≡ parts (x.cuts + 1) (n - y.units)
+      rest i cs g = go (text_at (n - y.units) m (p + y.size)) refl
         where
-          R : Passing n m p (p + j) (n - u) b
-          R = (within_says t d).0
+          R : Passing n m p (p + y.size) (n - y.units) y.bytes
+          R = t.says.0
 
-          go : (o : Answer (List ℕ)) → text_at (n - u) m (p + j) ≡ o
-              → parts_after c v (weights Utf8 cs) ≡ parts (c + 1) (n - u)
-          go (Done x ds es y) q =
-              let s : prefixed (p + j - p) R.front (Done x ds es y) ≡ Done i cs [] tt =
-              ap (prefixed (p + j - p) R.front) (sym q) ∙ R.says ∙ g in
+          go : (o : Answer (List ℕ)) → text_at (n - y.units) m (p + y.size) ≡ o
+              → parts_after x.cuts x.filled (weights Utf8 cs) ≡ parts (x.cuts + 1) (n - y.units)
+          go (Done a ds es b) q =
+              let s : prefixed (p + y.size - p) R.front (Done a ds es b) ≡ Done i cs [] tt =
+              ap (prefixed (p + y.size - p) R.front) (sym q) ∙ R.says ∙ g in
               let same : R.front ++ ds ≡ cs = cc in
-              let over = (within_says t d).2.over x ds es q in
+              let over = t.says.2.over a ds es q in
               let w = content_units
-              (body_holds Utf8 (n - u) m (p + j) (bytes_all m (λ i. (fit i).fits)) x ds es q) in
-              let one : suc c ≡ c + 1 = omega arith in
+              (body_holds Utf8 (n - y.units) m (p + y.size) (bytes_all m (λ i. (fit i).fits)) a ds es q) in
+              let one : suc x.cuts ≡ x.cuts + 1 = omega arith in
               rw (← same)
-              (parts_split Utf8 R.front ds c v (omega (arith, R.units_are, (within_says t d).1))
-              (omega (arith, R.units_are, (within_says t d).1)) (omega arith)
+              (parts_split Utf8 R.front ds x.cuts x.filled (omega (arith, R.units_are, t.says.1))
+              (omega (arith, R.units_are, t.says.1)) (omega arith)
               ∙ rw (w, one) refl)
-          go (Fault y o) q =
-              let s : prefixed (p + j - p) R.front (Fault y o) ≡ Done i cs [] tt =
-              ap (prefixed (p + j - p) R.front) (sym q) ∙ R.says ∙ g in
+          go (Fault b o) q =
+              let s : prefixed (p + y.size - p) R.front (Fault b o) ≡ Done i cs [] tt =
+              ap (prefixed (p + y.size - p) R.front) (sym q) ∙ R.says ∙ g in
               let z : ◌≡◌ {A = ℕ} 0 1 = cc in
               absurd (omega arith)
 
-      pub cut_there : CutMet k n room m p (n - u)
-      cut_there = record {
-        after = λ i a g c v l f.
+      pub cut_there : {f : ℕ} → f ≡ y.units → PartsMet k n m p x (Ok (parts_of (x.cuts + 1) (n - f)))
+      cut_there d = record {
+        says = λ i a g.
             let w : text_at n m p ≡ Done i (decoded Utf8 (take i (drop p m))) [] tt = rw e at (content_is i a g).0 in
-            rw e (rest i (decoded Utf8 (take i (drop p m))) w c v l f);
+            rw (e, d) (rest i (decoded Utf8 (take i (drop p m))) w);
       }
 
 -- ---- the loop over the chunks, with the parts of the shortest form
-no_heads : {k : Encoding} {m : List ℕ} {at x o : ℕ} → Fault x o ≡ measured_at k m at → HeadsMet k m at 0
-no_heads {x = x} {o = o} e = record {
-  heads = λ u b n r.
-      let y : Fault x o ≡ Done n (sized u b r.shortest) [] tt = e ∙ r.says in
-      let z : ◌≡◌ {A = ℕ} 0 1 = cc in
-      absurd (omega arith);
-}
-
-passed_none : (k : Encoding) (m : List ℕ) (at : ℕ) → length m ≤ at → Fault 2 (length m) ≡ measured_at k m at
-passed_none k m at l = sym (measured_as k m at (string_ends k m at l))
-
-pub on_none : (k : Encoding) (m : List ℕ) (at : ℕ) → length m ≤ at → HeadsMet k m at 0
-on_none k m at l = no_heads (passed_none k m at l)
+pub on_none : (k : Encoding) (m : List ℕ) (at : ℕ) → length m ≤ at → HeadsMet k m at (Err (refused Cut (length m)))
+on_none k m at l = record { says = sym (measured_as k m at (string_ends k m at l)) }
 
 pub parting_start : (k : Encoding) (m : List ℕ) (at : ℕ) → at < length m → Parting k m at at 0 0 (parts 0 0)
 unfolding joining_start
@@ -886,118 +826,96 @@ module _ {k : Encoding} {m : List ℕ} {at here total bytes : ℕ} {x : Parts} (
       omega (arith, R.joining.units_are)
 
   -- a chunk at `here`, and the parts y after it
-  module _ (fit : (i : ℕ) → Fits w8 (get_or m i 0)) {c : ChunkRead} (t : ChunkMet k m here c) (h n b u : ℕ) (a : Bool)
-      (e : c ≡ chunk.Chunk h n b u a) (y : Parts)
-      (q : parts_after x.cuts x.filled (weights k (decoded k (take n (drop (here + h) m)))) ≡ y) where
-    parts_joint : parts_after 0 0 (weights k (joint R.joining t h n b u a e)) ≡ y
-    parts_joint =
-        parts_on k R.joining.front (decoded k (take n (drop (here + h) m))) 0 0 x R.parts_are ∙ q
+  module _ (fit : (i : ℕ) → Fits w8 (get_or m i 0)) (c : ChunkRead) (t : ChunkMet k m here (Ok c)) (y : Parts)
+      (q : parts_after x.cuts x.filled (weights k (content_of k m here c)) ≡ y) where
+    parts_joint : parts_after 0 0 (weights k (joint R.joining c t)) ≡ y
+    parts_joint = parts_on k R.joining.front (content_of k m here c) 0 0 x R.parts_are ∙ q
 
-    pub parting_more : a ≡ false → Parting k m at (here + (h + n)) (total + u) (bytes + b) y
+    pub parting_more : c.last ≡ false
+        → Parting k m at (here + (c.head + c.size)) (total + c.units) (bytes + c.bytes) y
     unfolding joining_more
-    parting_more d = record { joining = joining_more R.joining t h n b u a e d; parts_are = parts_joint }
+    parting_more d = record { joining = joining_more R.joining c t d; parts_are = parts_joint }
 
     -- the last. i: the bytes of its head
-    module _ (d : a ≡ true) (i : ℕ) (l : i ≡ length (shortest_head (last_heads k) y.filled)) where
-      shortest_is : (length_of (shortest_string k (joint R.joining t h n b u a e)) ≡ bytes + b + 3 * y.cuts + i)
-          × (bytes + b + 3 * y.cuts + i ≤ here - at + (h + n))
+    module _ (d : c.last ≡ true) (i : ℕ) (l : i ≡ length (shortest_head (last_heads k) y.filled)) where
+      shortest_is : (length_of (shortest_string k (joint R.joining c t)) ≡ bytes + c.bytes + 3 * y.cuts + i)
+          × (bytes + c.bytes + 3 * y.cuts + i ≤ here - at + (c.head + c.size))
       shortest_is =
-          let cs = joint R.joining t h n b u a e in
+          let cs = joint R.joining c t in
           let z =
-          text_no_shorter k m (bytes_all m (λ i. (fit i).fits)) at (here - at + (h + n)) cs []
-          (joining_whole R.joining t h n b u a e d) in
+          text_no_shorter k m (bytes_all m (λ i. (fit i).fits)) at (here - at + (c.head + c.size)) cs []
+          (joining_whole R.joining c t d) in
           let j = shortest_length_law k cs z.0 z.1 ∙ ap (form_length k (length cs)) parts_joint in
-          let v = joint_length R.joining t h n b u a e in
+          let v = joint_length R.joining c t in
           let w = ap length_of z.1 ∙ length_some z.0 in
           (omega arith, omega (arith, z.2))
 
-      pub parting_last : Done (here + (h + n) - at) (sized (total + u) (bytes + b) (bytes + b + 3 * y.cuts + i)) [] tt
+      pub parting_last : Done (here + (c.head + c.size) - at)
+          (sized (total + c.units) (bytes + c.bytes) (bytes + c.bytes + 3 * y.cuts + i)) [] tt
           ≡ measured_at k m at
-      parting_last = rw (← shortest_is.0) (joining_last R.joining t h n b u a e d)
+      parting_last = rw (← shortest_is.0) (joining_last R.joining c t d)
 
-      pub parting_short : bytes + b + 3 * y.cuts + i ≤ length m
-      parting_short = omega (arith, shortest_is.1, (chunk_says t e).2, R.joining.onward)
+      pub parting_short : bytes + c.bytes + 3 * y.cuts + i ≤ length m
+      parting_short = omega (arith, shortest_is.1, t.says.2, R.joining.onward)
 
 -- the chunk at `here`, after these parts
 module _ {k : Encoding} {m : List ℕ} {at here total bytes cuts filled : ℕ}
-    (R : Parting k m at here total bytes (parts cuts filled)) (fit : (i : ℕ) → Fits w8 (get_or m i 0)) (g : ChunkRead)
-    (t : ChunkMet k m here g) where
-  pub on_fault : (w o : ℕ) → g ≡ chunk.Refused w o → HeadsMet k m at 0
-  on_fault w o e = no_heads (joining_fault R.joining t w o e)
+    (R : Parting k m at here total bytes (parts cuts filled)) (fit : (i : ℕ) → Fits w8 (get_or m i 0)) where
+  pub on_fault : (r : Refused) → ChunkMet k m here (Err r) → HeadsMet k m at (Err r)
+  on_fault r t = record { says = joining_fault R.joining r t }
 
-  module _ (h n b u : ℕ) (a : Bool) (e : g ≡ chunk.Chunk h n b u a) where
-    says : ChunkSays k m here (chunk.Chunk h n b u a)
-    says = chunk_says t e
+  module _ (c : ChunkRead) (t : ChunkMet k m here (Ok c)) where
+    says : ChunkSays k m here (Ok c)
+    says = t.says
 
     -- its content begins in the message, and is no longer than a part
-    pub on_inside : here + h ≤ length m
+    pub on_inside : here + c.head ≤ length m
     on_inside = omega (arith, says.2)
 
-    pub on_place : Fits w64 (length m) → Fits w64 (here + h)
-    on_place f = record { fits = omega (arith, f.fits, on_inside) }
-
-    pub on_few : u ≤ 65535
+    pub on_few : c.units ≤ 65535
     on_few = says.7
 
-    pub on_room : Fits w64 (filled + u)
-    on_room = record { fits = omega (arith, parting_filled R, on_few) }
+    pub on_open : cuts < length m
+    on_open = omega (arith, says.1, says.2, parting_cuts R, R.joining.few, R.joining.onward)
 
-    pub on_cuts : Fits w64 (length m) → Fits w64 (cuts + 1)
-    on_cuts f = record {
-      fits = omega (arith, f.fits, says.1, says.2, parting_cuts R, R.joining.few, R.joining.onward);
-    }
+    -- the parts after it
+    pub on_never : (r : Refused) → PartsMet k c.units m (here + c.head) (parts_of cuts filled) (Err r)
+        → HeadsMet k m at (Err r)
+    on_never r q =
+        let v : Done c.size c.bytes [] tt ≡ fault r = chunk_content c t ∙ sym q.says in
+        let z : ◌≡◌ {A = ℕ} 0 1 = cc in
+        absurd (omega arith)
 
-    -- the parts after it: there is a cut, or it fits the open part
-    abbrev Leads : ℕ → ℕ → Type 0
-    Leads i j = parts_after cuts filled (weights k (decoded k (take n (drop (here + h) m)))) ≡ parts i j
+    module _ (y : code_parts.Parts) (q : PartsMet k c.units m (here + c.head) (parts_of cuts filled) (Ok y)) where
+      after : parts_after cuts filled (weights k (content_of k m here c)) ≡ parts y.cuts y.filled
+      after = q.says c.size c.bytes (chunk_content c t)
 
-    pub on_cut : (r : ℕ) → CutMet k u (65535 - filled) m (here + h) r → (i j : ℕ) → i ≡ cuts + 1 → j ≡ r → Leads i j
-    on_cut r q i j v w =
-        rw (v, w) (q.after n b (chunk_content t h n b u a e) cuts filled (parting_filled R) refl)
-
-    pub on_within : u ≤ 65535 - filled → (i j : ℕ) → i ≡ cuts → j ≡ filled + u → Leads i j
-    on_within l i j v w =
-        let f = parting_filled R in
-        let z = says.4 in
-        parts_within cuts filled (weights k (decoded k (take n (drop (here + h) m)))) (omega arith)
-        ∙ rw (z, v, w) refl
-
-    pub on_size : Fits w64 (length m) → Fits w64 (h + n)
-    on_size f = record { fits = omega (arith, f.fits, says.2) }
-
-    pub on_end : Fits w64 (length m) → Fits w64 (here + (h + n))
-    on_end f = record { fits = omega (arith, f.fits, says.2) }
-
-    pub on_shrinks : length m - (here + (h + n)) < length m - here
-    on_shrinks = omega (arith, says.1, says.2)
-
-    module _ (c j : ℕ) (q : Leads c j) where
-      pub on_more : a ≡ false → Cutting k m at (here + (h + n)) (parts c j)
+      pub on_more : c.last ≡ false → Cutting k m at (here + (c.head + c.size)) (parts y.cuts y.filled)
       on_more f = record {
-        total = total + u;
-        bytes = bytes + b;
-        parting = parting_more R fit t h n b u a e (parts c j) q f;
+        total = total + c.units;
+        bytes = bytes + c.bytes;
+        parting = parting_more R fit c t (parts y.cuts y.filled) after f;
       }
 
-      -- the last. i: the bytes of its head
-      module _ (f : a ≡ true) (i : ℕ) (l : i ≡ length (shortest_head (last_heads k) (j))) where
-        pub on_last : Done (here + (h + n) - at) (sized (total + u) (bytes + b) (bytes + b + 3 * c + i)) [] tt
-            ≡ measured_at k m at
-        on_last = parting_last R fit t h n b u a e (parts c j) q f i l
-
-        pub on_heads_met : HeadsMet k m at (3 * c + i)
+      -- the last. n: the bytes of its head
+      module _ (f : c.last ≡ true) (n : ℕ) (l : n ≡ length (shortest_head (last_heads k) y.filled)) where
+        pub on_heads_met : HeadsMet k m at (Ok (3 * y.cuts + n))
         on_heads_met = record {
-          heads = λ v d z r.
-              let x : Done (here + (h + n) - at) (sized (total + u) (bytes + b) (bytes + b + 3 * c + i)) [] tt
-              ≡ Done z (sized v d r.shortest) [] tt = on_last ∙ r.says in
-              let s : sized (total + u) (bytes + b) (bytes + b + 3 * c + i) ≡ sized v d r.shortest = cc in
-              let y : bytes + b ≡ d = ap (λ (s : Sizes). s.bytes) s in
-              let w : bytes + b + 3 * c + i ≡ r.shortest = ap (λ (s : Sizes). s.shortest) s in
+          says = λ v d z r.
+              let whole = bytes + c.bytes + 3 * y.cuts + n in
+              let x : Done (here + (c.head + c.size) - at) (sized (total + c.units) (bytes + c.bytes) whole) [] tt
+              ≡ Done z (sized v d r.shortest) [] tt =
+              parting_last R fit c t (parts y.cuts y.filled) after f n l ∙ r.says in
+              let s : sized (total + c.units) (bytes + c.bytes) whole ≡ sized v d r.shortest = cc in
+              let y : bytes + c.bytes ≡ d = ap (λ (s : Sizes). s.bytes) s in
+              let w : whole ≡ r.shortest = ap (λ (s : Sizes). s.shortest) s in
               omega arith;
         }
 
-        pub on_both : Fits w64 (length m) → Fits w64 (3 * c + i)
-        on_both v = record { fits = omega (arith, v.fits, parting_short R fit t h n b u a e (parts c j) q f i l) }
+        pub on_both : Fits w64 (length m) → Fits w64 (3 * y.cuts + n)
+        on_both v = record {
+          fits = omega (arith, v.fits, parting_short R fit c t (parts y.cuts y.filled) after f n l);
+        }
 
-      pub on_heads : a ≡ true → Fits w64 (length m) → Fits w64 (3 * c)
+      pub on_heads : c.last ≡ true → Fits w64 (length m) → Fits w64 (3 * y.cuts)
       on_heads f v = record { fits = omega (arith, (on_both f _ refl v).fits) }

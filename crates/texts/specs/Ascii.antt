@@ -1,140 +1,220 @@
 -- Bytes below 80, each a character of one unit: how many stand at a place, and the test of several at once.
-use Rattle.std.specs.Prelude.{◌≡◌, ℕ, zero, suc, ◌+◌, ◌-◌, ◌*◌, ◌/◌, ◌%◌, ◌<◌, ◌≤◌, Bool, true, false, cond, ◌↔◌, List, [], ◌∷◌, length, take, drop, ◌==◌, bit_and, nat_le, nat_lt, slice_index, slice_index_or, refl}
+use Rattle.std.specs.Prelude.{◌≡◌, ℕ, zero, suc, ◌+◌, ◌-◌, ◌*◌, ◌/◌, ◌%◌, ◌<◌, ◌≤◌, min, Bool, true, false, cond, ◌&&◌, List, [], ◌∷◌, ◌++◌, length, take, drop, nat_eq, nat_lt, bit_and, slice_index, slice_index_or, refl}
+use Rattle.std.specs.List.{list_all, prefix_len}
+use Rattle.std.specs.Int.{w32, w64, from_le_bytes}
+use Rattle.std.specs.Simd.{first_chunks}
 use Rattle.std.proofs.Math.Path.{sym, ap}
-use Rattle.std.proofs.Common.{◌∙◌, add-zero, add-mul, one-mul, mod-eq_of_lt, div-add-mod', arith, drop_of_length-le, get_or-take, take_all, eqb-true, eq-eqb, leb-true, le-leb, ltb-true, lt-ltb, Fits}
-use Rattle.std.proofs.Math.Nat.{zero-mod, add-mod_right, div-eq_of_lt-le}
-use Rattle.std.proofs.lemmas.Nat.{and_block}
+use Rattle.std.proofs.Common.{◌∙◌, add-zero, arith, drop_of_length-le, get_or-take, take_all, ltb-true, lt-ltb, le-ltb, eqb-true, eq-eqb, take-append-drop}
+use Rattle.std.proofs.Math.Nat.{mod-eq_of_lt, add-div_left, div-eq_of_lt, div-mul-le_self, lt-div-mul-add}
+use Rattle.std.proofs.lemmas.Nat.{and_block, div-add-mod'}
 use Rattle.std.proofs.lemmas.Nat.Bits.{and_high}
+use Rattle.std.proofs.lemmas.Bool.{ne_eqb, eqb-false}
+use Rattle.std.proofs.lemmas.List.Sums.{prefix_len-le-length, prefix_len_passes, AllPass-from_list_all}
+use Rattle.std.proofs.lemmas.List.Folds.{list_all-append}
 use Rattle.std.proofs.Math.ListN.{length-take, length-drop}
 use Rattle.std.proofs.Math.Seq.{get_or-drop, length-take-le, take-nil}
-use Rattle.std.specs.Int.{w8}
-use Rattle.flow.specs.Tests.{by_test, split, tests}
+use Rattle.flow.specs.Tests.{by_test, by_cases, split}
 
 -- the n bytes of m from p on are ASCII
 pub record Ascii (m : List ℕ) (p n : ℕ) : Type 0 where
   pub below : (i : ℕ) → i < n → slice_index m (p + i) < 0x80
 
--- the byte at p counts the ASCII bytes of a short text after it, r bytes with itself
-pub record ShortText (m : List ℕ) (p r : ℕ) : Type 0 where
-  pub counted : r ≡ slice_index m p + 1
-  pub short : r ≤ 0x20
-  pub inside : p + r ≤ length m
-  pub ascii : Ascii m (p + 1) (r - 1)
+-- the byte at p counts the n ASCII bytes of a short text after it
+pub record ShortText (m : List ℕ) (p n : ℕ) : Type 0 where
+  pub counted : n ≡ slice_index m p
+  pub short : n < 0x20
+  pub inside : p + 1 + n ≤ length m
+  pub ascii : Ascii m (p + 1) n
 
--- how many bytes s begins with that are ASCII
+-- whether all bytes of s are ASCII, and how many s begins with
+abbrev pub is_ascii : ℕ → Bool
+is_ascii b = nat_lt b 0x80
+
+abbrev pub all_ascii : List ℕ → Bool
+all_ascii s = list_all is_ascii s
+
 abbrev pub ascii_run : List ℕ → ℕ
-ascii_run [] = 0
-ascii_run (b ∷ s) = cond (nat_lt b 0x80) (suc (ascii_run s)) 0
+ascii_run s = prefix_len is_ascii s
 
--- the same of m from p on, of so many bytes at most
+-- how many m has from p on, of so many bytes at most
 unfoldable pub ascii_at : List ℕ → ℕ → ℕ → ℕ
 ascii_at m p most = ascii_run (take most (drop p m))
 
--- the bytes of m from p on as one number, the lowest first; the highest bits of so many bytes
-abbrev pub low_first : List ℕ → ℕ → ℕ → ℕ
-low_first m p zero = 0
-low_first m p (suc k) = low_first m (p + 1) k * 256 + slice_index m p
+-- ---- the test of several: all are ASCII exactly where the highest bit of each is clear
+-- the bytes as one number, the lowest first; the highest bits of so many bytes
+abbrev pub low_first : List ℕ → ℕ
+low_first [] = 0
+low_first (b ∷ s) = low_first s * 256 + b
 
-abbrev pub top_bits : ℕ → ℕ
-top_bits zero = 0
-top_bits (suc k) = top_bits k * 256 + 0x80
+abbrev pub top_bits : List ℕ → ℕ
+top_bits [] = 0
+top_bits (b ∷ s) = top_bits s * 256 + 0x80
 
--- ---- none, one, more after others, fewer
-module _ (m : List ℕ) (p : ℕ) where
-  pub ascii_none : Ascii m p 0
-  ascii_none = record { below = λ i l. absurd (omega arith) }
+abbrev pub AreBytes : List ℕ → Type 0
+AreBytes s = (i : ℕ) → slice_index_or s i 0 < 256
 
-  pub ascii_one : slice_index_or m p 0 < 0x80 → Ascii m p 1
-  ascii_one h = record { below = λ i l. let e : p + i ≡ p = omega arith in rw e h }
-
-  -- j of them from i on
-  pub ascii_part : (n i j q : ℕ) → q ≡ p + i → i + j ≤ n → Ascii m p n → Ascii m q j
-  ascii_part n i j q s h x = record {
-    below = λ k l. let e : p + (i + k) ≡ q + k = omega arith in rw e at (x.below (i + k) (omega arith));
-  }
-
-  -- the first i and the last j of them, where these are all
-  pub ascii_ends : (n i j q : ℕ) → q + j ≡ p + n → j ≤ n → n ≤ i + j → Ascii m p i → Ascii m q j → Ascii m p n
-  ascii_ends n i j q s l h x y = record {
-    below = λ k r. split k i (λ z. x.below k z)
-        (λ z. let e : q + (k + j - n) ≡ p + k = omega arith in rw e at (y.below (k + j - n) (omega arith)));
-  }
-
--- ---- the test: all of k bytes are ASCII exactly where the highest bit of each is clear
 top_bit : (b : ℕ) → b < 256 → bit_and b 0x80 ≡ b / 128 * 128
 top_bit b l =
     let q : b / 128 < 2 = omega arith in
     and_high b 1 7 ∙ ap (λ (x : ℕ). x * 128) (mod-eq_of_lt q)
 
-module _ (m : List ℕ) (bytes : (i : ℕ) → Fits w8 (slice_index m i)) where
-  -- a byte, and the others
-  bits : (k p : ℕ)
-      → bit_and (low_first m p (suc k)) (top_bits (suc k))
-      ≡ bit_and (low_first m (p + 1) k) (top_bits k) * 256 + slice_index m p / 128 * 128
-  bits k p =
-      and_block 8 (low_first m (p + 1) k) (top_bits k) (slice_index m p) 0x80 (bytes p).fits (omega arith)
-      ∙ ap (λ (x : ℕ). bit_and (low_first m (p + 1) k) (top_bits k) * 256 + x) (top_bit (slice_index m p) (bytes p).fits)
+-- x: the highest bits of the bytes after b
+one_more : (b x : ℕ) → b < 256 → nat_eq (x * 256 + b / 128 * 128) 0 ≡ (is_ascii b && nat_eq x 0)
+one_more b x l = split b 0x80
+    (λ h. let q : x * 256 + b / 128 * 128 ≡ x * 256 = omega arith in rw (lt-ltb _ _ h, q) (times x))
+    (λ h. rw (le-ltb _ _ h) (ne (x * 256 + b / 128 * 128) (omega arith)))
+  where
+    ne : (n : ℕ) → 0 < n → nat_eq n 0 ≡ false
+    ne n h = ne_eqb n 0 (λ e. absurd (omega arith))
 
-  pub test_ascii : (k p : ℕ) → bit_and (low_first m p k) (top_bits k) ≡ 0 → Ascii m p k
-  test_ascii zero p e = ascii_none m p
-  test_ascii (suc k) p e =
-      let s = sym (bits k p) ∙ e in
-      let b = (bytes p).fits in
-      ascii_ends m p (suc k) 1 k (p + 1) (omega arith) (omega arith) (omega arith)
-      (ascii_one m p (omega arith)) (test_ascii k (p + 1) (omega arith))
+    times : (x : ℕ) → nat_eq (x * 256) 0 ≡ nat_eq x 0
+    times zero = refl
+    times (suc x) = ne (suc x * 256) (omega arith) ∙ sym (ne (suc x) (omega arith))
 
-  pub ascii_test : (k p : ℕ) → Ascii m p k → bit_and (low_first m p k) (top_bits k) ≡ 0
-  ascii_test zero p x = refl
-  ascii_test (suc k) p x =
-      let h : slice_index_or m p 0 < 0x80 = rw (add-zero p) at (x.below 0 (omega arith)) in
-      let r = ascii_test k (p + 1) (ascii_part m p (suc k) 1 k (p + 1) (omega arith) (omega arith) x) in
-      bits k p ∙ omega arith
+pub tells_bits : (s : List ℕ) → AreBytes s → nat_eq (bit_and (low_first s) (top_bits s)) 0 ≡ all_ascii s
+tells_bits [] f = refl
+tells_bits (b ∷ s) f =
+    ap (λ (n : ℕ). nat_eq n 0)
+    (and_block 8 (low_first s) (top_bits s) b 0x80 (f 0) (omega arith)
+    ∙ ap (λ (x : ℕ). bit_and (low_first s) (top_bits s) * 256 + x) (top_bit b (f 0)))
+    ∙ one_more b (bit_and (low_first s) (top_bits s)) (f 0)
+    ∙ ap (λ (t : Bool). is_ascii b && t) (tells_bits s (λ i. f (suc i)))
+
+-- a list by its n bytes from the place i on
+abbrev by_place : ℕ → ℕ → List ℕ → List ℕ
+by_place zero i s = []
+by_place (suc n) i s = slice_index s i ∷ by_place n (suc i) s
+
+by_place_next : (n i b : ℕ) (s : List ℕ) → by_place n (suc i) (b ∷ s) ≡ by_place n i s
+by_place_next zero i b s = refl
+by_place_next (suc n) i b s = ap (λ (t : List ℕ). slice_index s i ∷ t) (by_place_next n (suc i) b s)
+
+by_place_all : (s : List ℕ) → by_place (length s) 0 s ≡ s
+by_place_all [] = refl
+by_place_all (b ∷ s) = ap (λ (t : List ℕ). b ∷ t) (by_place_next (length s) 0 b s ∙ by_place_all s)
+
+by_places : (n : ℕ) (s : List ℕ) → length s ≡ n → by_place n 0 s ≡ s
+by_places n s l = rw l at (by_place_all s)
+
+module _ (s : List ℕ) (f : AreBytes s) {w : ℕ} where
+  by_word : (n b : ℕ) → length s ≡ n → w ≡ low_first (by_place n 0 s) → top_bits (by_place n 0 s) ≡ b
+      → nat_eq (bit_and w b) 0 ≡ all_ascii s
+  by_word n b l e t = rw (e, ← t, by_places n s l) (tells_bits s f)
+
+  pub tells_four : length s ≡ 4 → w ≡ from_le_bytes w32 s → nat_eq (bit_and w 0x8080_8080) 0 ≡ all_ascii s
+  tells_four l e = by_word 4 0x8080_8080 l (omega arith) refl
+
+  pub tells_eight : length s ≡ 8 → w ≡ from_le_bytes w64 s → nat_eq (bit_and w 0x8080_8080_8080_8080) 0 ≡ all_ascii s
+  tells_eight l e = by_word 8 0x8080_8080_8080_8080 l (omega arith) refl
+
+-- ---- bytes in blocks
+-- all of k blocks
+pub all_blocks : (n k : ℕ) (s : List ℕ) → length s ≡ k * n → list_all all_ascii (first_chunks n k s) ≡ all_ascii s
+all_blocks n zero [] l = refl
+all_blocks n zero (b ∷ s) l = absurd (omega arith)
+all_blocks n (suc k) s l =
+    ap (λ (t : Bool). all_ascii (take n s) && t) (all_blocks n k (drop n s) (omega (arith, length-drop n s)))
+    ∙ sym (list_all-append is_ascii (take n s) (drop n s))
+    ∙ ap all_ascii (take-append-drop n s)
+
+-- a block that is ASCII, or not, and what follows
+run_on : (s t : List ℕ) → all_ascii s ≡ true → ascii_run (s ++ t) ≡ length s + ascii_run t
+run_on [] t e = omega arith
+run_on (b ∷ s) t e = by_cases (is_ascii b)
+    (λ h. let r : all_ascii s ≡ true = rw h at e in rw h (omega (arith, run_on s t r)))
+    (λ h. let r : false ≡ true = rw h at e in cc)
+
+run_ends : (s t : List ℕ) → all_ascii s ≡ false → ascii_run (s ++ t) < length s
+run_ends [] t e = cc
+run_ends (b ∷ s) t e = by_cases (is_ascii b)
+    (λ h. let r : all_ascii s ≡ false = rw h at e in rw h (omega (arith, run_ends s t r)))
+    (λ h. rw h (omega arith))
+
+module _ (n : ℕ) (s : List ℕ) (l : n ≤ length s) where
+  block_on : all_ascii (take n s) ≡ true → ascii_run s ≡ n + ascii_run (drop n s)
+  block_on e =
+      ap ascii_run (sym (take-append-drop n s)) ∙ run_on (take n s) (drop n s) e
+      ∙ ap (λ (j : ℕ). j + ascii_run (drop n s)) (length-take-le n s l)
+
+  block_ends : all_ascii (take n s) ≡ false → ascii_run s < n
+  block_ends e =
+      let r = rw take-append-drop at (run_ends (take n s) (drop n s) e) in omega (arith, length-take-le n s l)
+
+pub run_blocks : (n k : ℕ) (s : List ℕ) → 0 < n → k * n ≤ length s → length s < k * n + n
+    → prefix_len all_ascii (first_chunks n k s) ≡ ascii_run s / n
+run_blocks n zero s z l h = sym (div-eq_of_lt (omega (arith, prefix_len-le-length is_ascii s)))
+run_blocks n (suc k) s z l h =
+    let few : n ≤ length s = omega arith in
+    let d = length-drop n s in
+    let rest = run_blocks n k (drop n s) z (omega arith) (omega arith) in
+    by_cases (all_ascii (take n s))
+    (λ e. rw (e, block_on n s few e, add-div_left (ascii_run (drop n s)) z) (omega arith))
+    (λ e. rw e (sym (div-eq_of_lt (block_ends n s few e))))
+
+-- ws: what a list is cut into
+module _ (n : ℕ) (s : List ℕ) {ws : List (List ℕ)} (e : ws ≡ first_chunks n (length s / n) s) where
+  pub chunks_all : length s % n ≡ 0 → list_all all_ascii ws ≡ all_ascii s
+  chunks_all z = rw e (all_blocks n (length s / n) s (omega (arith, div-add-mod' (length s) n)))
+
+  pub chunks_run : 0 < n → prefix_len all_ascii ws ≡ ascii_run s / n
+  chunks_run z = rw e (run_blocks n (length s / n) s z (div-mul-le_self (length s) n) (lt-div-mul-add z))
+
+-- n bytes of the run, and the rest of it
+pub run_rest : (s : List ℕ) (n : ℕ) → n ≤ ascii_run s → n + ascii_run (take (length s - n) (drop n s)) ≡ ascii_run s
+run_rest s n l = rw (take_all (length s - n) (drop n s) (omega (arith, length-drop n s))) (go s n l)
+  where
+    go : (s : List ℕ) (n : ℕ) → n ≤ ascii_run s → n + ascii_run (drop n s) ≡ ascii_run s
+    go s zero l = omega arith
+    go [] (suc n) l = absurd (omega arith)
+    go (b ∷ s) (suc n) l = by_cases (is_ascii b)
+        (λ h. let k : suc n ≤ 1 + ascii_run s = rw h at l in rw h (omega (arith, go s n (omega arith))))
+        (λ h. let k : suc n ≤ 0 = rw h at l in absurd (omega arith))
+
+-- all are ASCII where the run is the whole
+pub run_whole : (s : List ℕ) {n : ℕ} → n ≡ ascii_run s → nat_eq n (length s) ≡ all_ascii s
+run_whole s e = rw e (go s)
+  where
+    same : (a b : ℕ) → nat_eq (1 + a) (suc b) ≡ nat_eq a b
+    same a b = by_cases (nat_eq a b)
+        (λ h. rw (h, eqb-true a b h) (eq-eqb (1 + b) (suc b) (omega arith)))
+        (λ h. rw h (ne_eqb (1 + a) (suc b) (λ z. eqb-false a b h (omega arith))))
+
+    go : (s : List ℕ) → nat_eq (ascii_run s) (length s) ≡ all_ascii s
+    go [] = refl
+    go (b ∷ s) = by_cases (is_ascii b)
+        (λ h. rw h (same (prefix_len is_ascii s) (length s) ∙ go s))
+        (λ h. rw h (ne_eqb 0 (suc (length s)) (λ z. absurd (omega arith))))
+
+-- n bytes of m from p on, all ASCII
+pub ascii_all : (m : List ℕ) (p n : ℕ) → p + n ≤ length m → all_ascii (take (p + n - p) (drop p m)) ≡ true → Ascii m p n
+ascii_all m p n l e =
+    let d : p + n - p ≡ n = omega arith in
+    let k = length-take-le n (drop p m) (omega (arith, length-drop p m)) in
+    record {
+      below = λ i h.
+          rw (get_or-take n (drop p m) i 0 h, get_or-drop p m i 0)
+          at (ltb-true _ _ (AllPass-from_list_all is_ascii (take n (drop p m)) (rw d at e) i 0 (omega arith)));
+    }
 
 -- ---- the run: n of its bytes are ASCII exactly where it is no shorter
-run_below : (s : List ℕ) (i : ℕ) → i < ascii_run s → slice_index s i < 0x80
-run_below [] i l = absurd (omega arith)
-run_below (b ∷ s) zero l =
-    by_test (λ (r : ℕ). zero < r → b < 0x80) (nat_lt b 0x80) (λ t h. omega (arith, tests)) (λ t h. absurd (omega arith)) l
-run_below (b ∷ s) (suc i) l =
-    by_test (λ (r : ℕ). suc i < r → slice_index s i < 0x80) (nat_lt b 0x80)
-    (λ t h. run_below s i (omega arith)) (λ t h. absurd (omega arith)) l
-
-below_run : (s : List ℕ) (n : ℕ) → n ≤ length s → ((i : ℕ) → i < n → slice_index s i < 0x80) → n ≤ ascii_run s
-below_run s zero l f = omega arith
-below_run [] (suc n) l f = absurd (omega arith)
-below_run (b ∷ s) (suc n) l f =
-    by_test (λ (r : ℕ). suc n ≤ r) (nat_lt b 0x80)
-    (λ t. omega (arith, below_run s n (omega arith) (λ i h. f (suc i) (omega arith))))
-    (λ t. absurd (omega (arith, tests, f 0 (omega arith))))
-
-run_length : (s : List ℕ) → ascii_run s ≤ length s
-run_length [] = omega arith
-run_length (b ∷ s) =
-    by_test (λ (r : ℕ). r ≤ suc (length s)) (nat_lt b 0x80) (λ t. omega (arith, run_length s)) (λ t. omega arith)
-
 module _ (m : List ℕ) (p most : ℕ) where
   pub run_few : ascii_at m p most ≤ most
   unfolding ascii_at
-  run_few = omega (arith, run_length (take most (drop p m)), length-take most (drop p m))
+  run_few = omega (arith, prefix_len-le-length is_ascii (take most (drop p m)), length-take most (drop p m))
 
   pub run_inside : p ≤ length m → p + ascii_at m p most ≤ length m
   unfolding ascii_at
-  run_inside l = omega (arith, run_length (take most (drop p m)), length-take most (drop p m), length-drop p m)
+  run_inside l =
+      omega
+      (arith, prefix_len-le-length is_ascii (take most (drop p m)), length-take most (drop p m), length-drop p m)
 
   pub run_ascii : (n : ℕ) → n ≤ ascii_at m p most → Ascii m p n
   unfolding ascii_at
   run_ascii n h = record {
     below = λ i l.
         rw (get_or-take most (drop p m) i 0 (omega (arith, run_few)), get_or-drop p m i 0)
-        at (run_below (take most (drop p m)) i (omega arith));
+        at (ltb-true _ _ (prefix_len_passes is_ascii (take most (drop p m)) i 0 (omega arith)));
   }
-
-  pub ascii_run_law : p + most ≤ length m → (n : ℕ) → n ≤ most → Ascii m p n → n ≤ ascii_at m p most
-  unfolding ascii_at
-  ascii_run_law l n h x =
-      let e = length-take-le most (drop p m) (omega (arith, length-drop p m)) in
-      below_run (take most (drop p m)) n (omega arith)
-      (λ i j. rw (get_or-take most (drop p m) i 0 (omega arith), get_or-drop p m i 0) (x.below i j))
 
   -- past the end, where another byte stands, and up to the end
   pub run_past : length m ≤ p → 0 ≡ ascii_at m p most
@@ -146,11 +226,14 @@ module _ (m : List ℕ) (p most : ℕ) where
       (λ z. absurd (omega (arith, rw (add-zero p) at ((run_ascii 1 (omega arith)).below 0 (omega arith)))))
       (λ z. omega arith)
 
-  pub run_end : (n : ℕ) → n ≡ length m - p → n ≤ most → ascii_at m p n ≡ ascii_at m p most
+  -- j: as many as the message has room for
+  pub run_room : {j : ℕ} → j ≡ min most (length m - p) → ascii_run (take (p + j - p) (drop p m)) ≡ ascii_at m p most
   unfolding ascii_at
-  run_end n e l =
+  run_room {j} e =
       let d = length-drop p m in
-      ap ascii_run (take_all n (drop p m) (omega arith) ∙ sym (take_all most (drop p m) (omega arith)))
+      split (length m - p) most
+      (λ l. ap ascii_run (take_all (p + j - p) (drop p m) (omega arith) ∙ sym (take_all most (drop p m) (omega arith))))
+      (λ l. ap (λ (i : ℕ). ascii_run (take i (drop p m))) (omega arith))
 
 -- of what is said to be a run
 module _ (m : List ℕ) (p most : ℕ) {r : ℕ} (e : r ≡ ascii_at m p most) where
@@ -162,102 +245,3 @@ module _ (m : List ℕ) (p most : ℕ) {r : ℕ} (e : r ≡ ascii_at m p most) w
 
   pub ascii_are : Ascii m p r
   ascii_are = run_ascii m p most r (omega arith)
-
--- ---- what a test of n bytes says
-abbrev pub Tells : Bool → List ℕ → ℕ → ℕ → Type 0
-Tells r m p n = r ≡ true ↔ Ascii m p n
-
--- by the highest bits
-module _ (m : List ℕ) (bytes : (i : ℕ) → Fits w8 (slice_index m i)) (p : ℕ) where
-  pub tells_bits : (k w : ℕ) → w ≡ low_first m p k → Tells (bit_and w (top_bits k) == 0) m p k
-  tells_bits k w e = rw e (λ t. test_ascii m bytes k p (eqb-true _ _ t), λ x. eq-eqb _ _ (ascii_test m bytes k p x))
-
-  abbrev four : ℕ → ℕ → ℕ → ℕ → ℕ
-  four a b c d = ((slice_index m d * 256 + slice_index m c) * 256 + slice_index m b) * 256 + slice_index m a
-
-  pub tells_four : {w : ℕ} → w ≡ four p (p + 1) (p + 2) (p + 3) → Tells (bit_and w 0x8080_8080 == 0) m p 4
-  tells_four {w} e =
-      let a : p + 1 + 1 ≡ p + 2 = omega arith in
-      let b : p + 2 + 1 ≡ p + 3 = omega arith in
-      tells_bits 4 w (rw (a, b) (omega arith))
-
-  pub tells_eight : {low high : ℕ} → low ≡ four p (p + 1) (p + 2) (p + 3) → high ≡ four (p + 4) (p + 5) (p + 6) (p + 7)
-      → Tells (bit_and (high * 0x1_0000_0000 + low) 0x8080_8080_8080_8080 == 0) m p 8
-  tells_eight {low} {high} e f =
-      let a : p + 1 + 1 ≡ p + 2 = omega arith in
-      let b : p + 2 + 1 ≡ p + 3 = omega arith in
-      let c : p + 3 + 1 ≡ p + 4 = omega arith in
-      let d : p + 4 + 1 ≡ p + 5 = omega arith in
-      let g : p + 5 + 1 ≡ p + 6 = omega arith in
-      let h : p + 6 + 1 ≡ p + 7 = omega arith in
-      tells_bits 8 (high * 0x1_0000_0000 + low) (rw (a, b, c, d, g, h) (omega arith))
-
-module _ (m : List ℕ) (p n : ℕ) where
-  -- a test of some of the bytes fails
-  pub tells_no : (j q : ℕ) {t : Bool} → Tells t m q j → t ≡ false → p ≤ q → q + j ≤ p + n → Tells false m p n
-  tells_no j q {t} f e h l = (
-    λ y. let z : ◌≡◌ {A = ℕ} 0 1 = cc in absurd (omega arith),
-    λ x. sym e ∙ f.1 (ascii_part m p n (q - p) j q (omega arith) (omega arith) x),
-  )
-
-  -- the last j are tested, and those before them are ASCII
-  pub tells_last : (i j q : ℕ) {r : Bool} → Ascii m p i → Tells r m q j
-      → q + j ≡ p + n → j ≤ n → i ≤ n → n ≤ i + j → Tells r m p n
-  tells_last i j q {r} f g s l k h = (
-    λ y. ascii_ends m p n i j q s l h f (g.0 y),
-    λ x. g.1 (ascii_part m p n (q - p) j q (omega arith) (omega arith) x),
-  )
-
-  -- the run has them
-  pub tells_run : {r : ℕ} → p + n ≤ length m → r ≡ ascii_at m p n → Tells (nat_le n r) m p n
-  tells_run {r} l e = (
-    λ y. run_ascii m p n n (omega (arith, leb-true n r y)),
-    λ x. le-leb n r (omega (arith, ascii_run_law m p n l n (omega arith) x)),
-  )
-
--- one byte more, as a test of one
-pub tells_byte : (m : List ℕ) (p : ℕ) → Tells (nat_lt (slice_index m p) 0x80) m p 1
-tells_byte m p = (λ t. ascii_one m p (ltb-true _ _ t), λ x. lt-ltb _ _ (rw (add-zero p) at (x.below 0 (omega arith))))
-
--- ---- counting a run by w bytes at a time: n bytes of it so far
-pub record Counting (w : ℕ) (m : List ℕ) (p most n : ℕ) : Type 0 where
-  pub room : p + most ≤ length m
-  pub whole : n % w ≡ 0
-  pub within : n ≤ ascii_at m p most
-
-pub counting_start : (w : ℕ) (m : List ℕ) (p most : ℕ) → p + most ≤ length m → Counting w m p most 0
-counting_start w m p most l = record { room = l; whole = zero-mod w; within = omega arith }
-
-module _ {w : ℕ} {m : List ℕ} {p most n : ℕ} (R : Counting w m p most n) where
-  pub counting_few : n ≤ most
-  counting_few = omega (arith, R.within, run_few m p most)
-
-  rounded : 0 < w → ascii_at m p most < n + w → n ≡ ascii_at m p most / w * w
-  rounded z h =
-      let r = ascii_at m p most in
-      let e : n / w * w ≡ n = omega (arith, div-add-mod' n w, R.whole) in
-      let f : (n / w + 1) * w ≡ n / w * w + w = add-mul (n / w) 1 w ∙ ap (λ (x : ℕ). n / w * w + x) (one-mul w) in
-      let q : r / w ≡ n / w = div-eq_of_lt-le {k = n / w} w {m = r} (omega (arith, R.within)) (omega arith) in
-      sym e ∙ ap (λ (x : ℕ). x * w) (sym q)
-
-  -- too few are left
-  pub counting_end : 0 < w → most < n + w → n ≡ ascii_at m p most / w * w
-  counting_end z h = rounded z (omega (arith, run_few m p most))
-
-  module _ {t : Bool} (f : Tells t m (p + n) w) where
-    -- all of the next are ASCII, or not all
-    pub counting_more : t ≡ true → n + w ≤ most → Counting w m p most (n + w)
-    counting_more e h = record {
-      room = R.room;
-      whole = add-mod_right n w ∙ R.whole;
-      within = ascii_run_law m p most R.room (n + w) h
-          (ascii_ends m p (n + w) n w (p + n) (omega arith) (omega arith) (omega arith)
-          (run_ascii m p most n R.within) (f.0 e));
-    }
-
-    pub counting_stop : 0 < w → t ≡ false → n ≡ ascii_at m p most / w * w
-    counting_stop z e = rounded z (split (ascii_at m p most) (n + w) (λ h. h) (λ h.
-        let x = ascii_part m p (n + w) n w (p + n) (omega arith) (omega arith) (run_ascii m p most (n + w) h) in
-        let y : true ≡ false = sym (f.1 x) ∙ e in
-        let o : ◌≡◌ {A = ℕ} 0 1 = cc in
-        absurd (omega arith)))

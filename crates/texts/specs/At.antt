@@ -3,6 +3,8 @@
 use Rattle.std.specs.Prelude.{◌≡◌, ℕ, zero, suc, ◌+◌, ◌-◌, ◌<◌, ◌≤◌, Bool, true, false, cond, List, [], ◌∷◌, ◌++◌, length, take, drop, slice_index, slice_index_or, refl}
 use Rattle.std.proofs.Common.{sym, ◌∙◌, ap, subst, add-zero, add-one, arith, length-take, length-drop, drop_of_length-le, drop-cons, drop-drop, get_or-drop}
 use Rattle.std.proofs.Math.Option.{Option, none, some}
+use Rattle.std.specs.Prelude.{Some, None}
+use Rattle.std.specs.declared.option.Option as code
 use Rattle.flow.specs.Tests.{by_test, by_cases, split, pick_true, pick_false, pick_either, within_yes}
 use Rattle.flow.specs.Tests.{within_below, within_above, within_is, bytes_drop}
 use Rattle.flow.specs.Flow.{pick, within, Bytes, Entry, Read, From, One, Done, Fault, then, give, fail}
@@ -14,13 +16,13 @@ use Rattle.flow.specs.Lifts.{lifted}
 use Rattle.wire.specs.BigEndian.{joined, wider}
 use Rattle.scalar.specs.declared.Rule.TheVariants.{Plain}
 use Rattle.scalar.specs.declared.Begun.{Begun}
-use Rattle.scalar.specs.declared.Begun.TheVariants as begun
 use Rattle.scalar.specs.declared.Encoding.{Encoding}
 use Rattle.scalar.specs.declared.Encoding.TheVariants.{Utf8, Binary}
 use Rattle.scalar.specs.declared.CharLead.TheVariants.{Basic, Supplementary, Halved, NoChar}
 use Rattle.texts.specs.declared.HeadForm.{HeadForm}
-use Rattle.texts.specs.declared.HeadForm.TheVariants.{Starts, NoHead}
-use Rattle.scalar.specs.Scalars.{value, Form, form_at, inside, bytes_of, number_from, part_head, last_heads}
+use Rattle.scalar.specs.declared.refusals.Refused.{Refused}
+use Rattle.scalar.specs.Refusals.{fault}
+use Rattle.scalar.specs.Scalars.{value, begun, Form, form_at, inside, bytes_of, number_from, part_head, last_heads}
 use Rattle.scalar.specs.Scalars.{char_lead, paired, total, units, ranged, continued, pair_of, character}
 use Rattle.scalar.specs.Scalars.{characters, octets, body, chunk, chunks, string_at, by_second}
 use Rattle.scalar.proofs.RuleLaws.{value_plain}
@@ -36,7 +38,7 @@ use Rattle.scalar.proofs.Decoded.{body_decoded, four_weights}
 use Rattle.scalar.proofs.Bits.{content_few}
 use Rattle.scalar.proofs.RefusalLaws.{body_tells}
 use Rattle.scalar.proofs.TextLaws.{body_read, Whole, body_lifts}
-use Rattle.texts.specs.Answers.{extent_at, shifted, prefixed, text_at, Passes, last_form, head_form, chunked}
+use Rattle.texts.specs.Answers.{extent_at, shifted, prefixed, text_at, Passes, starts, last_form, head_form, chunked}
 
 -- ---- what is read: the bytes consumed are the content, of which P holds, and there are no items
 abbrev Takes : (List ℕ → Type 0) → List ℕ → Answer (List ℕ) → Type 0
@@ -262,23 +264,24 @@ module _ {A : Type 0} (f : ℕ → Read One One A) (o lo hi : ℕ) (m : List ℕ
       (λ t. let r = out_of_range k t in refused_as y x e 4 o r.0 r.1))
       (λ k. let r = at_end k in refused_as y x e 2 (length m) r.0 r.1)
 
-  pub ranged_next : (j b : ℕ) → Done j b [] tt ≡ extent_at (continued o 1 lo hi) m q
+  pub ranged_next : {j b : ℕ} → Done j b [] tt ≡ extent_at (continued o 1 lo hi) m q
       → (q < length m) × (lo ≤ slice_index m q) × (slice_index m q < hi)
       × (ranged o lo hi f tt q (drop q m) ≡ after_byte (slice_index m q))
-  ranged_next j b e = split q (length m)
+  ranged_next e = split q (length m)
       (λ k. by_cases (within lo hi (slice_index m q))
       (λ t. let r = within_is lo hi (slice_index m q) (rw t tt) in (k, r.0, r.1, (in_range_law k t).1))
       (λ t. apart (e ∙ (out_of_range k t).0)))
       (λ k. apart (e ∙ (at_end k).0))
 
 -- ---- a pair of halves at p, whose second byte is d: the four bytes after that, each as it is read alone
+module _ (m : List ℕ) (p : ℕ) where
+  abbrev pub Good : ℕ → ℕ → ℕ → Type 0
+  Good q lo hi = Done 1 1 [] tt ≡ extent_at (continued p 1 lo hi) m q
+
+  abbrev pub Bad : ℕ → ℕ → ℕ → Refused → Type 0
+  Bad q lo hi r = fault r ≡ extent_at (continued p 1 lo hi) m q
+
 module _ (m : List ℕ) (p d : ℕ) where
-  abbrev Good : ℕ → ℕ → ℕ → Type 0
-  Good q lo hi = (j : ℕ) × (b : ℕ) × (Done j b [] tt ≡ extent_at (continued p 1 lo hi) m q)
-
-  abbrev Bad : ℕ → ℕ → ℕ → ℕ → ℕ → Type 0
-  Bad q lo hi y o = Fault y o ≡ extent_at (continued p 1 lo hi) m q
-
   abbrev fourth : ℕ → ℕ → ℕ → Read One One (List ℕ)
   fourth x y z = give (paired d x y z)
 
@@ -294,28 +297,28 @@ module _ (m : List ℕ) (p d : ℕ) where
   abbrev pub pair_there : Answer (List ℕ)
   pair_there = pair_of p d tt (p + 2) (drop (p + 2) m)
 
-  next_place : {A : Type 0} (f : ℕ → Read One One A) (lo hi q r : ℕ) → q ≤ length m → q + 1 ≡ r → Good q lo hi
+  next_place : {A : Type 0} (f : ℕ → Read One One A) (lo hi q r : ℕ) → q ≤ length m → q + 1 ≡ r → Good m p q lo hi
       → (r ≤ length m) × (ranged p lo hi f tt q (drop q m) ≡ stepped (f (slice_index m q) tt r (drop r m)))
   next_place f lo hi q r l e g =
-      let w = ranged_next f p lo hi m q l g.0 g.1 g.2 in (omega (arith, w.0), rw e at w.3)
+      let w = ranged_next f p lo hi m q l g in (omega (arith, w.0), rw e at w.3)
 
   module _ (l : p + 2 ≤ length m) where
-    pub pair_bad : (y o : ℕ) → Bad (p + 2) 0x80 0xc0 y o → pair_there ≡ Fault y o
-    pair_bad y o e = ranged_fault first_of p 0x80 0xc0 m (p + 2) l y o e
+    pub pair_bad : (r : Refused) → Bad m p (p + 2) 0x80 0xc0 r → pair_there ≡ fault r
+    pair_bad r e = ranged_fault first_of p 0x80 0xc0 m (p + 2) l _ _ e
 
-    module _ (g : Good (p + 2) 0x80 0xc0) where
+    module _ (g : Good m p (p + 2) 0x80 0xc0) where
       step_one : (p + 3 ≤ length m) × (pair_there ≡ stepped (first_of (slice_index m (p + 2)) tt (p + 3) (drop (p + 3) m)))
       step_one = next_place first_of 0x80 0xc0 (p + 2) (p + 3) l (omega arith) g
 
       pub pair_one_more : p + 3 ≤ length m
       pair_one_more = step_one.0
 
-      pub pair_bad_2 : (y o : ℕ) → Bad (p + 3) 0xed 0xee y o → pair_there ≡ Fault y o
-      pair_bad_2 y o e =
+      pub pair_bad_2 : (r : Refused) → Bad m p (p + 3) 0xed 0xee r → pair_there ≡ fault r
+      pair_bad_2 r e =
           step_one.1
-          ∙ ap stepped (ranged_fault (λ e. second (slice_index m (p + 2))) p 0xed 0xee m (p + 3) step_one.0 y o e)
+          ∙ ap stepped (ranged_fault (λ e. second (slice_index m (p + 2))) p 0xed 0xee m (p + 3) step_one.0 _ _ e)
 
-      module _ (h : Good (p + 3) 0xed 0xee) where
+      module _ (h : Good m p (p + 3) 0xed 0xee) where
         step_two : (p + 4 ≤ length m)
             × (first_of (slice_index m (p + 2)) tt (p + 3) (drop (p + 3) m)
             ≡ stepped (second (slice_index m (p + 2)) tt (p + 4) (drop (p + 4) m)))
@@ -324,14 +327,14 @@ module _ (m : List ℕ) (p d : ℕ) where
         pub pair_two_more : p + 4 ≤ length m
         pair_two_more = step_two.0
 
-        pub pair_bad_3 : (y o : ℕ) → Bad (p + 4) 0xb0 0xc0 y o → pair_there ≡ Fault y o
-        pair_bad_3 y o e =
+        pub pair_bad_3 : (r : Refused) → Bad m p (p + 4) 0xb0 0xc0 r → pair_there ≡ fault r
+        pair_bad_3 r e =
             step_one.1
             ∙ ap stepped
             (step_two.1
-            ∙ ap stepped (ranged_fault (third (slice_index m (p + 2))) p 0xb0 0xc0 m (p + 4) step_two.0 y o e))
+            ∙ ap stepped (ranged_fault (third (slice_index m (p + 2))) p 0xb0 0xc0 m (p + 4) step_two.0 _ _ e))
 
-        module _ (i : Good (p + 4) 0xb0 0xc0) where
+        module _ (i : Good m p (p + 4) 0xb0 0xc0) where
           step_three : (p + 5 ≤ length m)
               × (second (slice_index m (p + 2)) tt (p + 4) (drop (p + 4) m)
               ≡ stepped (third (slice_index m (p + 2)) (slice_index m (p + 4)) tt (p + 5) (drop (p + 5) m)))
@@ -340,8 +343,8 @@ module _ (m : List ℕ) (p d : ℕ) where
           pub pair_three_more : p + 5 ≤ length m
           pair_three_more = step_three.0
 
-          pub pair_bad_4 : (y o : ℕ) → Bad (p + 5) 0x80 0xc0 y o → pair_there ≡ Fault y o
-          pair_bad_4 y o e =
+          pub pair_bad_4 : (r : Refused) → Bad m p (p + 5) 0x80 0xc0 r → pair_there ≡ fault r
+          pair_bad_4 r e =
               step_one.1
               ∙ ap stepped
               (step_two.1
@@ -349,9 +352,9 @@ module _ (m : List ℕ) (p d : ℕ) where
               (step_three.1
               ∙ ap stepped
               (ranged_fault (fourth (slice_index m (p + 2)) (slice_index m (p + 4))) p 0x80 0xc0 m (p + 5)
-              step_three.0 y o e)))
+              step_three.0 _ _ e)))
 
-          pub pair_good : Good (p + 5) 0x80 0xc0
+          pub pair_good : Good m p (p + 5) 0x80 0xc0
               → (p + 6 ≤ length m)
               × (pair_there ≡ Done 4 (paired d (slice_index m (p + 2)) (slice_index m (p + 4)) (slice_index m (p + 5))) [] tt)
           pair_good j =
@@ -695,9 +698,9 @@ wider_grows : (j a b : ℕ) → a ≤ b → wider j a ≤ wider j b
 wider_grows zero a b l = l
 wider_grows (suc j) a b l = omega (arith, wider_grows j a b l)
 
-abbrev AsHead : ℕ → Begun → Type 0
-AsHead b (begun.Starts j u r) = (r ≡ Plain) × (j ≤ 2) × (u ≤ b) × (wider j (suc u) ≤ 65536)
-AsHead b begun.NoForm = Unit {0}
+abbrev AsHead : ℕ → code.Option Begun → Type 0
+AsHead b (Some x) = (x.rule ≡ Plain) × (x.more ≤ 2) × (x.held ≤ b) × (wider x.more (suc x.held) ≤ 65536)
+AsHead b None = Unit {0}
 
 as_head : (ws : List Form) (b : ℕ) → Heads ws → AsHead b (form_at ws b)
 as_head [] b h = rw (form_none b) tt
@@ -716,28 +719,28 @@ are_heads Binary =
 last_head : (k : Encoding) (b : ℕ) → AsHead b (form_at (last_heads k) b)
 last_head k b = rw (last_heads_law k) (as_head (last_forms k) b (are_heads k))
 
-abbrev Small : ℕ → HeadForm → Type 0
-Small b (Starts j u l) = (j ≤ 2) × (u ≤ b) × (wider j (suc u) ≤ 65536)
-Small b NoHead = Unit {0}
+abbrev Small : ℕ → code.Option HeadForm → Type 0
+Small b (Some f) = (f.more ≤ 2) × (f.held ≤ b) × (wider f.more (suc f.held) ≤ 65536)
+Small b None = Unit {0}
 
 -- what a head holds is small
-pub head_small : (k : Encoding) (b j u : ℕ) (l : Bool) → head_form k b ≡ Starts j u l
-    → (j ≤ 2) × (u ≤ b) × (wider j (suc u) ≤ 65536)
+pub head_small : (k : Encoding) (b : ℕ) (f : HeadForm) → head_form k b ≡ Some f
+    → (f.more ≤ 2) × (f.held ≤ b) × (wider f.more (suc f.held) ≤ 65536)
 unfolding head_form
-head_small k b j u l e = subst (Small b) e small
+head_small k b f e = subst (Small b) e small
   where
-    last : (x : Begun) → AsHead b x → Small b (last_form x)
-    last (begun.Starts i v r) h = (h.1, h.2, h.3)
-    last begun.NoForm h = tt
+    last : (x : code.Option Begun) → AsHead b x → Small b (last_form x)
+    last (Some x) h = (h.1, h.2, h.3)
+    last None h = tt
 
     small : Small b (head_form k b)
     small =
         pick_either (Small b) (inside (part_head k) b) (λ t. (omega arith, omega arith, omega arith))
         (λ t. last (form_at (last_heads k) b) (last_head k b))
 
-abbrev by_form : Encoding → Read One One (List ℕ) → HeadForm → ℕ → Read One One (List ℕ)
-by_form k next (Starts j u l) p = bind (bytes_of j u) (contents k next l)
-by_form k next NoHead p = fail 3 p
+abbrev by_form : Encoding → Read One One (List ℕ) → code.Option HeadForm → ℕ → Read One One (List ℕ)
+by_form k next (Some f) p = bind (bytes_of f.more f.held) (contents k next f.last)
+by_form k next None p = fail 3 p
 
 chunk_form : (k : Encoding) (next : Read One One (List ℕ)) (p b at : ℕ) (s : List ℕ)
     → chunk k next p b tt at s ≡ by_form k next (head_form k b) p tt at s
@@ -754,26 +757,27 @@ chunk_form k next p b at s = go (inside (part_head k) b) refl
         step (Done n a es c) = rw (value_plain a) refl
         step (Fault x o) = refl
 
-    part_form_law : inside (part_head k) b ≡ true → form_at (part_head k ∷ []) b ≡ begun.Starts 2 0 Plain
+    part_form_law : inside (part_head k) b ≡ true → form_at (part_head k ∷ []) b ≡ Some (begun 2 0 Plain)
     part_form_law = rw (part_head_law k) (λ e.
         let code = (head_codes k).part in
         let r = within_is code (code + 1) b (rw e tt) in
-        form_here (part_form k) [] b e ∙ ap (λ (u : ℕ). begun.Starts 2 u Plain) (omega arith))
+        form_here (part_form k) [] b e ∙ ap (λ (u : ℕ). Some (begun 2 u Plain)) (omega arith))
 
-    last : (x : Begun) → AsHead b x → bind (number_by x p) (body k) tt at s ≡ by_form k next (last_form x) p tt at s
-    last (begun.Starts j u r) h = rw h.0 (plain j u (body k))
-    last begun.NoForm h = refl
+    last : (x : code.Option Begun) → AsHead b x
+        → bind (number_by x p) (body k) tt at s ≡ by_form k next (last_form x) p tt at s
+    last (Some x) h = rw h.0 (plain x.more x.held (body k))
+    last None h = refl
 
     go : (t : Bool) → inside (part_head k) b ≡ t
         → cond t (partly k p b next) (lastly k p b) tt at s
-        ≡ by_form k next (pick t (Starts 2 0 false) (last_form (form_at (last_heads k) b))) p tt at s
+        ≡ by_form k next (pick t (Some (starts 2 0 false)) (last_form (form_at (last_heads k) b))) p tt at s
     go true e =
-        ap (λ (x : Begun). bind (number_by x p) (contents k next false) tt at s) (part_form_law e)
+        ap (λ (x : code.Option Begun). bind (number_by x p) (contents k next false) tt at s) (part_form_law e)
         ∙ plain 2 0 (contents k next false)
-        ∙ ap (λ (x : HeadForm). by_form k next x p tt at s) (sym (pick_true _ _ refl))
+        ∙ ap (λ (x : code.Option HeadForm). by_form k next x p tt at s) (sym (pick_true _ _ refl))
     go false e =
         last (form_at (last_heads k) b) (last_head k b)
-        ∙ ap (λ (x : HeadForm). by_form k next x p tt at s) (sym (pick_false _ _ refl))
+        ∙ ap (λ (x : code.Option HeadForm). by_form k next x p tt at s) (sym (pick_false _ _ refl))
 
 -- ---- a text or byte string, at a place
 -- a head of j + 1 bytes at p, and from q on a content of n units: the last chunk, or one before others
@@ -817,26 +821,26 @@ module _ (k : Encoding) (m : List ℕ) (p : ℕ) where
         ∙ byte_at_law (chunk k (chunks k (length m))) m p l
         ∙ ap stepped (chunk_form k (chunks k (length m)) p (slice_index m p) (p + 1) (drop (p + 1) m))
 
-    pub string_none : head_form k (slice_index m p) ≡ NoHead → string_at k m p ≡ Fault 3 p
+    pub string_none : head_form k (slice_index m p) ≡ None → string_at k m p ≡ Fault 3 p
     string_none e = string_first ∙ rw e refl
 
-    module _ (j u : ℕ) (a : Bool) (e : head_form k (slice_index m p) ≡ Starts j u a) where
-      pub string_cut : length m - p ≤ j → string_at k m p ≡ Fault 2 (length m)
+    module _ (f : HeadForm) (e : head_form k (slice_index m p) ≡ Some f) where
+      pub string_cut : length m - p ≤ f.more → string_at k m p ≡ Fault 2 (length m)
       string_cut h =
           string_first
-          ∙ rw (e, bytes_cut {I = One} j u (tt {0}) (p + 1) (drop (p + 1) m) (omega (arith, length-drop (p + 1) m)))
+          ∙ rw (e, bytes_cut {I = One} f.more f.held (tt {0}) (p + 1) (drop (p + 1) m) (omega (arith, length-drop (p + 1) m)))
           (ap (λ (o : ℕ). Fault 2 o) (omega (arith, length-drop (p + 1) m)))
 
-      pub string_there : j < length m - p → (n : ℕ) → n ≡ joined u (take j (drop (p + 1) m))
-          → string_at k m p ≡ chunked k m p (j + 1) a (body k n tt (p + (j + 1)) (drop (p + (j + 1)) m))
+      pub string_there : f.more < length m - p → (n : ℕ) → n ≡ joined f.held (take f.more (drop (p + 1) m))
+          → string_at k m p ≡ chunked k m p (f.more + 1) f.last (body k n tt (p + (f.more + 1)) (drop (p + (f.more + 1)) m))
       string_there h n is =
-          let d : p + 1 + j ≡ p + (j + 1) = omega arith in
+          let d : p + 1 + f.more ≡ p + (f.more + 1) = omega arith in
           string_first
           ∙ rw (
             e,
-            bytes_there {I = One} j u (tt {0}) (p + 1) (drop (p + 1) m) (omega (arith, length-drop (p + 1) m)),
+            bytes_there {I = One} f.more f.held (tt {0}) (p + 1) (drop (p + 1) m) (omega (arith, length-drop (p + 1) m)),
             sym is,
-            drop-drop j (p + 1) m,
+            drop-drop f.more (p + 1) m,
             d,
           )
-          (chunk_ends k m p j n (p + (j + 1)) refl (omega arith) a)
+          (chunk_ends k m p f.more n (p + (f.more + 1)) refl (omega arith) f.last)

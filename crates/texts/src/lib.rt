@@ -1,20 +1,23 @@
 // Texts and byte strings: reading one at a place. The definitions are in scalar's specs/Scalars.antt.
 #![tactic(auto)]
 
-ghost use Rattle.std.specs.Prelude.{◌≡◌, ℕ, ◌+◌, ◌-◌, ◌*◌, ◌/◌, ◌^◌, ◌<◌, ◌≤◌, true, ◌↔◌, length, take, drop};
+ghost use Rattle.std.specs.Prelude.{◌≡◌, ℕ, ◌+◌, ◌*◌, ◌/◌, ◌%◌, ◌<◌, ◌≤◌, Ok, length, IfSome};
 ghost use Rattle.wire.specs.BigEndian.{joined};
 ghost use Rattle.scalar.specs.declared.Encoding.TheVariants as Encoding;
 ghost use Rattle.scalar.specs.Scalars.{char_lead, continued as continuedBy, characters as charactersOf, body as body_of};
 ghost use Rattle.scalar.specs.Scalars.{last_heads, shortest_head};
 ghost use Rattle.scalar.specs.TextShort.{short_to};
-ghost use Rattle.texts.specs.Answers.{told_string, extent_at, told_extent, CharMet, head_form, HeadMet, ChunkMet};
-ghost use Rattle.texts.specs.Answers.{WithinMet, CutMet, HeadsMet, PassedMet, PassedLength};
+ghost use Rattle.texts.specs.Answers.{told_string, extent_at, told_extent, told_bytes, CharMet, head_form, HeadMet};
+ghost use Rattle.texts.specs.Answers.{ChunkMet, WithinMet, PartsMet, HeadsMet, PassedMet, StringIs, PassedLength};
 ghost use Rattle.scalar.specs.Answers.{measured_at};
-ghost use Rattle.texts.specs.Ascii.{Ascii, ascii_at, ShortText};
+ghost use Rattle.texts.specs.Ascii.{all_ascii, ascii_run, ascii_at, ShortText};
 ghost use Rattle.texts.specs.At.{Opens, Halves, HighHalf};
 
-use scalar::refusals::{BYTE, CUT, UTF8};
-use scalar::{CharLead, Encoding};
+use scalar::{CharLead, Encoding, Refusal, Refused};
+
+// The message and a place stay two parameters, and where the place lies a clause, since each call has another place and
+// the definitions speak of a place of the whole message: a struct of both would be made for one call and taken apart in
+// it. Loops over characters and chunks are no iterators: each step takes as many bytes as it finds, or is refused.
 
 // The units of the longest chunk.
 const LONGEST_CHUNK: usize = 65_535;
@@ -22,95 +25,70 @@ const LONGEST_CHUNK: usize = 65_535;
 // The bytes of a character of two units in UTF-8.
 const SUPPLEMENTARY: usize = 4;
 
-// How many bytes something takes, and how many its content has; or a refusal's number and place.
+// How many bytes something takes, and how many its content has.
 #[derive(Clone, Copy)]
-pub(crate) enum Extent {
-    Takes { size: usize, bytes: usize },
-    Refused { number: u8, place: usize },
+pub(crate) struct Extent {
+    size: usize,
+    bytes: usize,
 }
 
-// A character, or some in a row: the bytes that are taken, those in UTF-8, and the units; or a refusal's number and
-// place.
+// A character, or some in a row: the bytes that are taken, those in UTF-8, and the units.
 #[derive(Clone, Copy)]
-pub(crate) enum CharRead {
-    Char {
-        size: usize,
-        bytes: usize,
-        units: usize,
-    },
-    Refused {
-        number: u8,
-        place: usize,
-    },
+pub(crate) struct CharRead {
+    size: usize,
+    bytes: usize,
+    units: usize,
 }
 
-// What the byte begins as a chunk's head: how many bytes follow, what it holds itself, whether the chunk is the last.
+// What a byte begins as a chunk's head: how many bytes follow, what it holds itself, whether the chunk is the last.
 #[derive(Clone, Copy)]
-pub(crate) enum HeadForm {
-    Starts { more: usize, held: u64, last: bool },
-    NoHead,
+pub(crate) struct HeadForm {
+    more: usize,
+    held: u8,
+    last: bool,
 }
 
-// A chunk's head: how many bytes it takes, the units that it counts, and whether the chunk is the last; or a refusal.
+// A chunk's head: how many bytes it takes, the units that it counts, and whether the chunk is the last.
 #[derive(Clone, Copy)]
-pub(crate) enum HeadRead {
-    Head {
-        size: usize,
-        units: usize,
-        last: bool,
-    },
-    Refused {
-        number: u8,
-        place: usize,
-    },
+pub(crate) struct HeadRead {
+    size: usize,
+    units: usize,
+    last: bool,
 }
 
-// A chunk: the bytes of its head and those after it, the bytes of its content, its units, and whether it is the last;
-// or a refusal.
+// The parts of a shortest form: how many are cut off, and the units in the open one.
 #[derive(Clone, Copy)]
-pub enum ChunkRead {
-    Chunk {
-        head: usize,
-        size: usize,
-        bytes: usize,
-        units: usize,
-        last: bool,
-    },
-    Refused {
-        number: u8,
-        place: usize,
-    },
+pub(crate) struct Parts {
+    cuts: usize,
+    filled: usize,
 }
 
-// What passing a text or byte string finds: its units, its content's bytes, and the bytes that it takes in all; or a
-// refusal.
+// A chunk: the bytes of its head and those after it, the bytes of its content, its units, and whether it is the last.
 #[derive(Clone, Copy)]
-pub enum StringPassed {
-    Content {
-        units: usize,
-        bytes: usize,
-        size: usize,
-    },
-    Refused {
-        number: u8,
-        place: usize,
-    },
+pub struct ChunkRead {
+    pub head: usize,
+    pub size: usize,
+    pub bytes: usize,
+    pub units: usize,
+    pub last: bool,
+}
+
+// What passing a text or byte string finds: its units, its content's bytes, and the bytes that it takes in all.
+#[derive(Clone, Copy)]
+pub struct StringPassed {
+    pub units: usize,
+    pub bytes: usize,
+    pub size: usize,
 }
 
 // What reading a text or byte string finds: its units, its content's bytes, the bytes that it takes in all, and those
-// of its shortest form; or a refusal.
+// of its shortest form.
 #[derive(Clone, Copy)]
-pub enum StringRead {
-    Content {
-        units: usize,
-        bytes: usize,
-        size: usize,
-        shortest: usize,
-    },
-    Refused {
-        number: u8,
-        place: usize,
-    },
+pub struct StringRead {
+    pub units: usize,
+    pub bytes: usize,
+    pub size: usize,
+    pub shortest: usize,
 }
 
 // What the byte says as the first of three.
@@ -175,93 +153,80 @@ fn char_lead(b: u8) -> CharLead
     }
 }
 
-// `more` bytes from `at` on, after the first of the character at `place`.
-fn continued(message: &[u8], place: usize, at: usize, more: usize, from: u8, below: u8) -> Extent
+// Whether `more` bytes from `at` on go on with the character at `place`, the first of them from `from` to below `below`.
+fn continued(
+    message: &[u8],
+    place: usize,
+    at: usize,
+    more: usize,
+    from: u8,
+    below: u8,
+) -> Result<(), Refused>
     requires { at ≤ length message.now }
-    ensures { told_extent result ≡ extent_at (continuedBy place more from below) message.now at }
+    ensures { told_bytes more result ≡ extent_at (continuedBy place more from below) message.now at }
 {
     let len = message.len();
-    let mut here = at;
-    let mut left = more;
     let mut lo = from;
     let mut hi = below;
-    while 0 < left {
-        if len <= here {
-            return Extent::Refused {
-                number: CUT,
+    for k in 0..more {
+        if len <= at + k {
+            return Err(Refused {
+                refusal: Refusal::Cut,
                 place: len,
-            };
+            });
         }
-        let b = message[here];
+        let b = message[at + k];
         if b < lo || hi <= b {
-            return Extent::Refused {
-                number: UTF8,
+            return Err(Refused {
+                refusal: Refusal::Utf8,
                 place,
-            };
+            });
         }
-        here += 1;
-        left -= 1;
         lo = 0x80;
         hi = 0xc0;
     }
-    let size = here - at;
-    Extent::Takes { size, bytes: size }
+    Ok(())
 }
 
 // The character at `at`, of so many units, with `more` bytes after its first.
-fn opened(message: &[u8], at: usize, more: usize, from: u8, below: u8, units: usize) -> CharRead
+fn opened(
+    message: &[u8],
+    at: usize,
+    more: usize,
+    from: u8,
+    below: u8,
+    units: usize,
+) -> Result<CharRead, Refused>
     requires { (at < length message.now) × Opens message.now at more from below units }
     ensures { (left : ℕ) → units ≤ left → CharMet left message.now at result }
 {
-    match continued(message, at, at + 1, more, from, below) {
-        Extent::Refused { number, place } => CharRead::Refused { number, place },
-        Extent::Takes { size, bytes: _ } => {
-            let n = size + 1;
-            CharRead::Char {
-                size: n,
-                bytes: n,
-                units,
-            }
-        }
-    }
+    continued(message, at, at + 1, more, from, below)?;
+    Ok(CharRead {
+        size: more + 1,
+        bytes: more + 1,
+        units,
+    })
 }
 
 // The pair of halves at `at`, after its first two bytes: one character, of four bytes in UTF-8 and two units.
-fn pair(message: &[u8], at: usize) -> CharRead
+fn pair(message: &[u8], at: usize) -> Result<CharRead, Refused>
     requires { (at + 1 < length message.now) × HighHalf message.now at }
     ensures { (left : ℕ) → 2 ≤ left → CharMet left message.now at result }
 {
-    match continued(message, at, at + 2, 1, 0x80, 0xc0) {
-        Extent::Refused { number, place } => CharRead::Refused { number, place },
-        Extent::Takes { size: _, bytes: _ } => {
-            match continued(message, at, at + 3, 1, 0xed, 0xee) {
-                Extent::Refused { number, place } => CharRead::Refused { number, place },
-                Extent::Takes { size: _, bytes: _ } => {
-                    match continued(message, at, at + 4, 1, 0xb0, 0xc0) {
-                        Extent::Refused { number, place } => CharRead::Refused { number, place },
-                        Extent::Takes { size: _, bytes: _ } => {
-                            match continued(message, at, at + 5, 1, 0x80, 0xc0) {
-                                Extent::Refused { number, place } => CharRead::Refused {
-                                    number,
-                                    place,
-                                },
-                                Extent::Takes { size: _, bytes: _ } => CharRead::Char {
-                                    size: 6,
-                                    bytes: 4,
-                                    units: 2,
-                                },
-                            }
-                        }
-                    }
-                }
-            }
-        }
-    }
+    continued(message, at, at + 2, 1, 0x80, 0xc0)?;
+    continued(message, at, at + 3, 1, 0xed, 0xee)?;
+    continued(message, at, at + 4, 1, 0xb0, 0xc0)?;
+    continued(message, at, at + 5, 1, 0x80, 0xc0)?;
+    Ok(CharRead {
+        size: 6,
+        bytes: SUPPLEMENTARY,
+        units: 2,
+    })
 }
 
 // The character at `at`, whose first byte is ed, where so many units are left: of three bytes, or a pair of halves.
 #[tactic(auto, using(crate::proofs::Strings::lone_low, crate::proofs::Strings::lone_high))]
-fn halved(message: &[u8], at: usize, left: usize) -> CharRead
+fn halved(message: &[u8], at: usize, left: usize) -> Result<CharRead, Refused>
     requires { (at < length message.now) × (0 < left) × Halves message.now at }
     ensures { CharMet left message.now at result }
 {
@@ -273,159 +238,103 @@ fn halved(message: &[u8], at: usize, left: usize) -> CharRead
     if d < 0xa0 {
         return opened(message, at, 2, 0x80, 0xa0, 1);
     }
-    if 0xb0 <= d {
-        return CharRead::Refused {
-            number: UTF8,
+    if 0xb0 <= d || left < 2 {
+        return Err(Refused {
+            refusal: Refusal::Utf8,
             place: at,
-        };
-    }
-    if left < 2 {
-        return CharRead::Refused {
-            number: UTF8,
-            place: at,
-        };
+        });
     }
     pair(message, at)
 }
 
 // The character at `at`, where so many units are left.
-fn character(message: &[u8], at: usize, left: usize) -> CharRead
+fn character(message: &[u8], at: usize, left: usize) -> Result<CharRead, Refused>
     requires { (at ≤ length message.now) × (0 < left) }
     ensures { CharMet left message.now at result }
 {
     let len = message.len();
     if len <= at {
-        return CharRead::Refused {
-            number: CUT,
+        return Err(Refused {
+            refusal: Refusal::Cut,
             place: len,
-        };
+        });
     }
     match char_lead(message[at]) {
-        CharLead::NoChar => CharRead::Refused {
-            number: UTF8,
-            place: at,
-        },
         CharLead::Basic { more, from, below } => opened(message, at, more, from, below, 1),
-        CharLead::Supplementary { from, below } => {
-            if left == 1 {
-                return CharRead::Refused {
-                    number: UTF8,
-                    place: at,
-                };
-            }
-            opened(message, at, 3, from, below, 2)
-        }
+        CharLead::Supplementary { from, below } if 2 <= left => opened(
+            message, at, 3, from, below, 2,
+        ),
         CharLead::Halved => halved(message, at, left),
+        _ => Err(Refused {
+            refusal: Refusal::Utf8,
+            place: at,
+        }),
     }
 }
 
-// Four bytes as one number, the lowest first.
-fn four(a: u8, b: u8, c: u8, d: u8) -> u64
-    ensures { (result < 2 ^ 32) × (result ≡ ((d * 256 + c) * 256 + b) * 256 + a) }
+// Whether the four bytes are ASCII: the highest bit of each is clear. This and the test of eight stay two: a trait over
+// the two widths would have from_le_bytes and the mask of each as members, and be longer than both.
+#[inline(always)]
+fn four_ascii(bytes: [u8; 4]) -> bool
+    ensures { result ≡ all_ascii bytes }
 {
-    ((wire::wide(d) * 256 + wire::wide(c)) * 256 + wire::wide(b)) * 256 + wire::wide(a)
-}
-
-// Whether the four bytes from `at` on are ASCII: the highest bit of each is clear.
-fn four_ascii(message: &[u8], at: usize) -> bool
-    requires { at + 4 ≤ length message.now }
-    ensures { result ≡ true ↔ Ascii message.now at 4 }
-{
-    let word = four(
-        message[at],
-        message[at + 1],
-        message[at + 2],
-        message[at + 3],
-    );
+    let word = u32::from_le_bytes(bytes);
     word & 0x8080_8080 == 0
 }
 
-// Whether the eight bytes from `at` on are ASCII.
-fn eight_ascii(message: &[u8], at: usize) -> bool
-    requires { at + 8 ≤ length message.now }
-    ensures { result ≡ true ↔ Ascii message.now at 8 }
+// Whether the eight bytes are ASCII.
+#[inline(always)]
+fn eight_ascii(bytes: [u8; 8]) -> bool
+    ensures { result ≡ all_ascii bytes }
 {
-    let low = four(
-        message[at],
-        message[at + 1],
-        message[at + 2],
-        message[at + 3],
-    );
-    let high = four(
-        message[at + 4],
-        message[at + 5],
-        message[at + 6],
-        message[at + 7],
-    );
-    let word = high * 0x1_0000_0000 + low;
+    let word = u64::from_le_bytes(bytes);
     word & 0x8080_8080_8080_8080 == 0
 }
 
-// Whether the sixteen bytes from `at` on are ASCII.
-fn sixteen_ascii(message: &[u8], at: usize) -> bool
-    requires { at + 16 ≤ length message.now }
-    ensures { result ≡ true ↔ Ascii message.now at 16 }
+// Whether the block of four words is ASCII.
+#[inline(always)]
+fn block_ascii(block: &[u8; 32]) -> bool
+    ensures { result ≡ all_ascii block.now }
 {
-    if !eight_ascii(message, at) {
-        return false;
-    }
-    eight_ascii(message, at + 8)
+    let (words, _) = block.as_chunks();
+    words.iter().all(|word| eight_ascii(*word))
 }
 
-// Whether the 32 bytes from `at` on are ASCII: four words.
-fn words_ascii(message: &[u8], at: usize) -> bool
-    requires { at + 32 ≤ length message.now }
-    ensures { result ≡ true ↔ Ascii message.now at 32 }
+// How many blocks of four words are ASCII at the start.
+#[inline(always)]
+fn ascii_blocks(bytes: &[u8]) -> usize
+    ensures { result ≡ ascii_run bytes.now / 32 }
 {
-    if !sixteen_ascii(message, at) {
-        return false;
-    }
-    sixteen_ascii(message, at + 16)
+    let (blocks, _) = bytes.as_chunks();
+    blocks
+        .iter()
+        .take_while(|block| block_ascii(*block))
+        .count()
 }
 
-// How many bytes from `at` on are ASCII, four words by four words, up to `most`.
-fn ascii_words(message: &[u8], at: usize, most: usize) -> usize
-    requires { at + most ≤ length message.now }
-    ensures { result ≡ ascii_at message.now at most / 32 * 32 }
+// How many words are ASCII at the start.
+#[inline(always)]
+fn ascii_words(bytes: &[u8]) -> usize
+    ensures { result ≡ ascii_run bytes.now / 8 }
 {
-    let mut n: usize = 0;
-    while 32 <= most - n {
-        if !words_ascii(message, at + n) {
-            break;
-        }
-        n += 32;
-    }
-    n
+    let (words, _) = bytes.as_chunks();
+    words.iter().take_while(|word| eight_ascii(**word)).count()
 }
 
-// How many bytes from `at` on are ASCII, eight by eight, up to `most`.
-fn ascii_eights(message: &[u8], at: usize, most: usize) -> usize
-    requires { at + most ≤ length message.now }
-    ensures { result ≡ ascii_at message.now at most / 8 * 8 }
+// How many bytes are ASCII at the start, one by one.
+#[inline(always)]
+fn ascii_singles(bytes: &[u8]) -> usize
+    ensures { result ≡ ascii_run bytes.now }
 {
-    let mut n: usize = 0;
-    while 8 <= most - n {
-        if !eight_ascii(message, at + n) {
-            break;
-        }
-        n += 8;
-    }
-    n
+    bytes.iter().take_while(|b| b.is_ascii()).count()
 }
 
-// How many bytes from `at` on are ASCII, up to `most`.
-fn ascii_bytes(message: &[u8], at: usize, most: usize) -> usize
-    requires { at + most ≤ length message.now }
-    ensures { result ≡ ascii_at message.now at most }
+// How many bytes are ASCII at the start: word by word, and then the bytes of the next word.
+fn ascii_bytes(bytes: &[u8]) -> usize
+    ensures { result ≡ ascii_run bytes.now }
 {
-    let mut n = ascii_eights(message, at, most);
-    while n < most {
-        if 0x80 <= message[at + n] {
-            break;
-        }
-        n += 1;
-    }
-    n
+    let n = 8 * ascii_words(bytes);
+    n + ascii_singles(&bytes[n..])
 }
 
 // How many characters from `at` on are ASCII, up to so many units: of one byte and one unit each.
@@ -433,29 +342,23 @@ pub fn ascii(message: &[u8], at: usize, units: usize) -> usize
     ensures { result ≡ ascii_at message.now at units }
 {
     let len = message.len();
-    if len <= at {
+    if len <= at || 0x80 <= message[at] {
         return 0;
     }
-    if 0x80 <= message[at] {
-        return 0;
-    }
-    let room = len - at;
-    let most = if room < units { room } else { units };
-    ascii_bytes(message, at, most)
+    ascii_bytes(&message[at..at + units.min(len - at)])
 }
 
 // How many characters from `at` on are ASCII, four words by four words, up to so many units: long plain texts begin so.
 fn ascii_start(message: &[u8], at: usize, units: usize) -> usize
     requires { at ≤ length message.now }
-    ensures { result ≡ ascii_at message.now at units / 32 * 32 }
+    ensures { result ≡ 32 * (ascii_at message.now at units / 32) }
 {
-    let room = message.len() - at;
-    let most = if room < units { room } else { units };
-    ascii_words(message, at, most)
+    let most = units.min(message.len() - at);
+    32 * ascii_blocks(&message[at..at + most])
 }
 
 // Characters of so many units from `at` on.
-fn characters(message: &[u8], at: usize, units: usize) -> Extent
+fn characters(message: &[u8], at: usize, units: usize) -> Result<Extent, Refused>
     requires { at ≤ length message.now }
     ensures { told_extent result ≡ extent_at (charactersOf units) message.now at }
 {
@@ -470,30 +373,20 @@ fn characters(message: &[u8], at: usize, units: usize) -> Extent
             bytes += n;
             left -= n;
         } else {
-            match character(message, here, left) {
-                CharRead::Refused { number, place } => {
-                    return Extent::Refused { number, place };
-                }
-                CharRead::Char {
-                    size,
-                    bytes: b,
-                    units: u,
-                } => {
-                    here += size;
-                    bytes += b;
-                    left -= u;
-                }
-            }
+            let c = character(message, here, left)?;
+            here += c.size;
+            bytes += c.bytes;
+            left -= c.units;
         }
     }
-    Extent::Takes {
+    Ok(Extent {
         size: here - at,
         bytes,
-    }
+    })
 }
 
 // The content of a chunk of so many units from `at` on. The bytes of a byte string are not looked at.
-fn body(kind: Encoding, message: &[u8], at: usize, units: usize) -> Extent
+fn body(kind: Encoding, message: &[u8], at: usize, units: usize) -> Result<Extent, Refused>
     requires { at ≤ length message.now }
     ensures { told_extent result ≡ extent_at (body_of kind units) message.now at }
 {
@@ -502,325 +395,147 @@ fn body(kind: Encoding, message: &[u8], at: usize, units: usize) -> Extent
         Encoding::Binary => {
             let len = message.len();
             if len - at < units {
-                Extent::Refused {
-                    number: CUT,
+                return Err(Refused {
+                    refusal: Refusal::Cut,
                     place: len,
-                }
-            } else {
-                Extent::Takes {
-                    size: units,
-                    bytes: units,
-                }
+                });
             }
+            Ok(Extent {
+                size: units,
+                bytes: units,
+            })
         }
-    }
-}
-
-// What the byte begins as the head of a text's chunk.
-fn text_head(b: u8) -> HeadForm
-    ensures { result ≡ head_form Encoding.Utf8 b }
-{
-    let w = wire::wide(b);
-    match b {
-        0x00..=0x1f => HeadForm::Starts {
-            more: 0,
-            held: w,
-            last: true,
-        },
-        0x30..=0x33 => HeadForm::Starts {
-            more: 1,
-            held: w - 0x30,
-            last: true,
-        },
-        0x53 => HeadForm::Starts {
-            more: 2,
-            held: 0,
-            last: true,
-        },
-        0x52 => HeadForm::Starts {
-            more: 2,
-            held: 0,
-            last: false,
-        },
-        _ => HeadForm::NoHead,
-    }
-}
-
-// What the byte begins as the head of a byte string's chunk.
-fn bytes_head(b: u8) -> HeadForm
-    ensures { result ≡ head_form Encoding.Binary b }
-{
-    let w = wire::wide(b);
-    match b {
-        0x20..=0x2f => HeadForm::Starts {
-            more: 0,
-            held: w - 0x20,
-            last: true,
-        },
-        0x34..=0x37 => HeadForm::Starts {
-            more: 1,
-            held: w - 0x34,
-            last: true,
-        },
-        0x42 => HeadForm::Starts {
-            more: 2,
-            held: 0,
-            last: true,
-        },
-        0x41 => HeadForm::Starts {
-            more: 2,
-            held: 0,
-            last: false,
-        },
-        _ => HeadForm::NoHead,
     }
 }
 
 // What the byte begins as the head of a chunk of this kind.
-fn head_form(kind: Encoding, b: u8) -> HeadForm
+fn head_form(kind: Encoding, b: u8) -> Option<HeadForm>
     ensures { result ≡ head_form kind b }
 {
-    match kind {
-        Encoding::Utf8 => text_head(b),
-        Encoding::Binary => bytes_head(b),
-    }
+    let (more, held, last) = match (kind, b) {
+        (Encoding::Utf8, 0x00..=0x1f) => (0, b, true),
+        (Encoding::Utf8, 0x30..=0x33) => (1, b - 0x30, true),
+        (Encoding::Utf8, 0x53) => (2, 0, true),
+        (Encoding::Utf8, 0x52) => (2, 0, false),
+        (Encoding::Binary, 0x20..=0x2f) => (0, b - 0x20, true),
+        (Encoding::Binary, 0x34..=0x37) => (1, b - 0x34, true),
+        (Encoding::Binary, 0x42) => (2, 0, true),
+        (Encoding::Binary, 0x41) => (2, 0, false),
+        _ => return None,
+    };
+    Some(HeadForm { more, held, last })
 }
 
-// The length that a head says: what its first byte holds, and up to two bytes more, from `at` on.
-fn head_units(message: &[u8], at: usize, more: usize, held: u64) -> u64
-    requires { (at + more ≤ length message.now) × (more ≤ 2) × (held < 256) }
-    ensures { result ≡ joined held (take more (drop at message.now)) }
+// The length that a head says: what its first byte holds, and up to two bytes more.
+fn head_units(held: u8, more: &[u8]) -> usize
+    requires { length more.now ≤ 2 }
+    ensures { result ≡ joined held more.now }
 {
-    if more == 0 {
-        return held;
+    let mut units = usize::from(held);
+    for b in more {
+        units = units * 256 + usize::from(*b);
     }
-    let u = held * 256 + wire::wide(message[at]);
-    if more == 1 {
-        return u;
-    }
-    u * 256 + wire::wide(message[at + 1])
+    units
 }
 
 // The head of the chunk at `at`.
-fn head(kind: Encoding, message: &[u8], at: usize) -> HeadRead
+fn head(kind: Encoding, message: &[u8], at: usize) -> Result<HeadRead, Refused>
     ensures { HeadMet kind message.now at result }
 {
     let len = message.len();
+    let cut = Refused {
+        refusal: Refusal::Cut,
+        place: len,
+    };
     if len <= at {
-        return HeadRead::Refused {
-            number: CUT,
-            place: len,
-        };
+        return Err(cut);
     }
-    match head_form(kind, message[at]) {
-        HeadForm::NoHead => HeadRead::Refused {
-            number: BYTE,
+    let Some(form) = head_form(kind, message[at]) else {
+        return Err(Refused {
+            refusal: Refusal::Byte,
             place: at,
-        },
-        HeadForm::Starts { more, held, last } => {
-            if len - at <= more {
-                return HeadRead::Refused {
-                    number: CUT,
-                    place: len,
-                };
-            }
-            HeadRead::Head {
-                size: more + 1,
-                units: head_units(message, at + 1, more, held) as usize,
-                last,
-            }
-        }
+        });
+    };
+    if len - at <= form.more {
+        return Err(cut);
     }
+    Ok(HeadRead {
+        size: form.more + 1,
+        units: head_units(form.held, &message[at + 1..at + 1 + form.more]),
+        last: form.last,
+    })
 }
 
-// Whether the n bytes from `at` on are ASCII. Up to sixteen are told by the first and the last eight or four of them.
-fn short_ascii(message: &[u8], at: usize, n: usize) -> bool
-    requires { at + n ≤ length message.now }
-    ensures { result ≡ true ↔ Ascii message.now at n }
+// Whether the bytes are ASCII. Up to sixteen are told by the first and the last eight or four of them.
+fn short_ascii(bytes: &[u8]) -> bool
+    ensures { result ≡ all_ascii bytes.now }
 {
-    if 4 <= n {
-        if n <= 8 {
-            if !four_ascii(message, at) {
-                return false;
-            }
-            return four_ascii(message, at + n - 4);
+    let n = bytes.len();
+    if n <= 8 {
+        if let (Some(first), Some(last)) = (bytes.first_chunk(), bytes.last_chunk()) {
+            return four_ascii(*first) && four_ascii(*last);
         }
-        if n <= 16 {
-            if !eight_ascii(message, at) {
-                return false;
-            }
-            return eight_ascii(message, at + n - 8);
+    } else if n <= 16 {
+        if let (Some(first), Some(last)) = (bytes.first_chunk(), bytes.last_chunk()) {
+            return eight_ascii(*first) && eight_ascii(*last);
         }
     }
-    n <= ascii_bytes(message, at, n)
+    ascii_bytes(bytes) == n
 }
 
-// The bytes of the short text at `at` where all its characters are ASCII: of the byte that counts them, and theirs; or
-// 0.
-fn short_text(message: &[u8], at: usize) -> usize
-    ensures { 0 < result → ShortText message.now at result }
+// How many characters the short text at `at` has, where all of them are ASCII: the byte there counts them.
+fn short_text(message: &[u8], at: usize) -> Option<usize>
+    ensures { IfSome result (ShortText message.now at) }
 {
-    let len = message.len();
-    if len <= at {
-        return 0;
+    let n = usize::from(*message.get(at)?);
+    if 0x20 <= n || message.len() - at <= n || !short_ascii(&message[at + 1..at + 1 + n]) {
+        return None;
     }
-    let n = wire::wide(message[at]) as usize;
-    if 0x20 <= n {
-        return 0;
-    }
-    if len - at <= n {
-        return 0;
-    }
-    if !short_ascii(message, at + 1, n) {
-        return 0;
-    }
-    n + 1
+    Some(n)
 }
 
 // The chunk at `at`, by its head and then its content.
-pub fn chunk(kind: Encoding, message: &[u8], at: usize) -> ChunkRead
+pub fn chunk(kind: Encoding, message: &[u8], at: usize) -> Result<ChunkRead, Refused>
     ensures { ChunkMet kind message.now at result }
 {
-    match head(kind, message, at) {
-        HeadRead::Refused { number, place } => ChunkRead::Refused { number, place },
-        HeadRead::Head {
-            size: h,
-            units,
-            last,
-        } => {
-            match body(kind, message, at + h, units) {
-                Extent::Refused { number, place } => ChunkRead::Refused { number, place },
-                Extent::Takes { size, bytes } => ChunkRead::Chunk {
-                    head: h,
-                    size,
-                    bytes,
-                    units,
-                    last,
-                },
-            }
-        }
-    }
+    let h = head(kind, message, at)?;
+    let content = body(kind, message, at + h.size, h.units)?;
+    Ok(ChunkRead {
+        head: h.size,
+        size: content.size,
+        bytes: content.bytes,
+        units: h.units,
+        last: h.last,
+    })
 }
 
 // The chunk at `at`. A short text of ASCII is tried first.
-pub fn first_chunk(kind: Encoding, message: &[u8], at: usize) -> ChunkRead
+pub fn first_chunk(kind: Encoding, message: &[u8], at: usize) -> Result<ChunkRead, Refused>
     ensures { ChunkMet kind message.now at result }
 {
     if let Encoding::Utf8 = kind {
-        let s = short_text(message, at);
-        if 0 < s {
-            return ChunkRead::Chunk {
+        if let Some(n) = short_text(message, at) {
+            return Ok(ChunkRead {
                 head: 1,
-                size: s - 1,
-                bytes: s - 1,
-                units: s - 1,
+                size: n,
+                bytes: n,
+                units: n,
                 last: true,
-            };
+            });
         }
     }
     chunk(kind, message, at)
 }
 
-// ---- where the shortest form of a text is cut. What `chunk` has called from one place is called from no second one
-// here, since it would no longer be inlined there: the next three functions are the same again.
-
-// The same as `pair`.
-fn next_pair(message: &[u8], at: usize) -> CharRead
-    requires { (at + 1 < length message.now) × HighHalf message.now at }
-    ensures { (left : ℕ) → 2 ≤ left → CharMet left message.now at result }
-{
-    match continued(message, at, at + 2, 1, 0x80, 0xc0) {
-        Extent::Refused { number, place } => CharRead::Refused { number, place },
-        Extent::Takes { size: _, bytes: _ } => {
-            match continued(message, at, at + 3, 1, 0xed, 0xee) {
-                Extent::Refused { number, place } => CharRead::Refused { number, place },
-                Extent::Takes { size: _, bytes: _ } => {
-                    match continued(message, at, at + 4, 1, 0xb0, 0xc0) {
-                        Extent::Refused { number, place } => CharRead::Refused { number, place },
-                        Extent::Takes { size: _, bytes: _ } => {
-                            match continued(message, at, at + 5, 1, 0x80, 0xc0) {
-                                Extent::Refused { number, place } => CharRead::Refused {
-                                    number,
-                                    place,
-                                },
-                                Extent::Takes { size: _, bytes: _ } => CharRead::Char {
-                                    size: 6,
-                                    bytes: SUPPLEMENTARY,
-                                    units: 2,
-                                },
-                            }
-                        }
-                    }
-                }
-            }
-        }
-    }
-}
-
-// The same as `halved`.
-fn next_halved(message: &[u8], at: usize, units: usize) -> CharRead
-    requires { (at < length message.now) × (0 < units) × Halves message.now at }
-    ensures { CharMet units message.now at result }
-{
-    let next = at + 1;
-    if message.len() <= next {
-        return opened(message, at, 2, 0x80, 0xa0, 1);
-    }
-    let second = message[next];
-    if second < 0xa0 {
-        return opened(message, at, 2, 0x80, 0xa0, 1);
-    }
-    if 0xb0 <= second {
-        return CharRead::Refused {
-            number: UTF8,
-            place: at,
-        };
-    }
-    if units < 2 {
-        return CharRead::Refused {
-            number: UTF8,
-            place: at,
-        };
-    }
-    next_pair(message, at)
-}
-
-// The same as `character`.
-fn next_character(message: &[u8], at: usize, units: usize) -> CharRead
-    requires { (at ≤ length message.now) × (0 < units) }
-    ensures { CharMet units message.now at result }
-{
-    let len = message.len();
-    if len <= at {
-        return CharRead::Refused {
-            number: CUT,
-            place: len,
-        };
-    }
-    match char_lead(message[at]) {
-        CharLead::NoChar => CharRead::Refused {
-            number: UTF8,
-            place: at,
-        },
-        CharLead::Basic { more, from, below } => opened(message, at, more, from, below, 1),
-        CharLead::Supplementary {
-            from: lo,
-            below: hi,
-        } => {
-            if units == 1 {
-                return CharRead::Refused {
-                    number: UTF8,
-                    place: at,
-                };
-            }
-            opened(message, at, 3, lo, hi, 2)
-        }
-        CharLead::Halved => next_halved(message, at, units),
-    }
-}
+// ---- where the shortest form of a text is cut
 
 // Characters of so many units from `at` on, as many as fit `room` of them: one of two units that does not fit is left.
-fn characters_within(message: &[u8], at: usize, units: usize, room: usize) -> CharRead
+fn characters_within(
+    message: &[u8],
+    at: usize,
+    units: usize,
+    room: usize,
+) -> Result<CharRead, Refused>
     requires { (at ≤ length message.now) × (room < units) }
     ensures { WithinMet units room message.now at result }
 {
@@ -834,58 +549,50 @@ fn characters_within(message: &[u8], at: usize, units: usize, room: usize) -> Ch
             used += n;
             bytes += n;
         } else {
-            match next_character(message, here, units - used) {
-                CharRead::Refused { number, place } => {
-                    return CharRead::Refused { number, place };
-                }
-                CharRead::Char {
-                    size,
-                    bytes: b,
-                    units: u,
-                } => {
-                    if room - used < u {
-                        return CharRead::Char {
-                            size: here - at,
-                            bytes,
-                            units: used,
-                        };
-                    }
-                    here += size;
-                    used += u;
-                    bytes += b;
-                }
+            let c = character(message, here, units - used)?;
+            if room - used < c.units {
+                break;
             }
+            here += c.size;
+            used += c.units;
+            bytes += c.bytes;
         }
     }
-    CharRead::Char {
+    Ok(CharRead {
         size: here - at,
         bytes,
         units: used,
-    }
+    })
 }
 
-// A chunk's content of so many units at `at`, of which no more than `room` fit the open part: how many come after the
-// cut. A chunk in which a cut falls is passed over once more, up to the cut.
-fn after_cut(kind: Encoding, message: &[u8], at: usize, units: usize, room: usize) -> usize
-    requires { (at ≤ length message.now) × (room < units) × (units ≤ 65535) }
-    ensures { CutMet kind units room message.now at result }
+// The parts of the shortest form after a chunk's content of so many units at `at`, by those before it. A chunk in which
+// a cut falls is passed over once more, up to the cut.
+fn parts_after(
+    kind: Encoding,
+    message: &[u8],
+    at: usize,
+    units: usize,
+    before: Parts,
+) -> Result<Parts, Refused>
+    requires inside { (at ≤ length message.now) × (units ≤ 65535) }
+    requires open { (before.filled ≤ 65535) × (before.cuts < length message.now) }
+    ensures { PartsMet kind units message.now at before result }
 {
-    match kind {
-        Encoding::Binary => units - room,
-        Encoding::Utf8 => {
-            match characters_within(message, at, units, room) {
-                CharRead::Refused {
-                    number: _,
-                    place: _,
-                } => 0,
-                CharRead::Char {
-                    size: _,
-                    bytes: _,
-                    units: u,
-                } => units - u,
-            }
-        }
+    let room = LONGEST_CHUNK - before.filled;
+    if units <= room {
+        return Ok(Parts {
+            cuts: before.cuts,
+            filled: before.filled + units,
+        });
     }
+    let front = match kind {
+        Encoding::Binary => room,
+        Encoding::Utf8 => characters_within(message, at, units, room)?.units,
+    };
+    Ok(Parts {
+        cuts: before.cuts + 1,
+        filled: units - front,
+    })
 }
 
 // The units from which on the head of a last chunk takes two bytes.
@@ -898,7 +605,8 @@ fn two_from(kind: Encoding) -> usize
     }
 }
 
-// How many bytes the head of a last chunk of so many units takes; 0 where they are more than a chunk has.
+// How many bytes the head of a last chunk of so many units takes; 0, and not None, where they are more than a chunk has:
+// so its promise says (the length of no bytes).
 pub fn last_head_size(kind: Encoding, units: usize) -> usize
     ensures { result ≡ length (shortest_head (last_heads kind) units) }
 {
@@ -915,42 +623,25 @@ pub fn last_head_size(kind: Encoding, units: usize) -> usize
 }
 
 // The bytes of the heads in the shortest form of the text or byte string at `at`: three for each part that is cut off,
-// and the head of the last one. 0 where none is read.
-fn heads_length(kind: Encoding, message: &[u8], at: usize) -> usize
+// and the head of the last one.
+fn heads_length(kind: Encoding, message: &[u8], at: usize) -> Result<usize, Refused>
     ensures { HeadsMet kind message.now at result }
 {
-    if message.len() <= at {
-        return 0;
+    let len = message.len();
+    if len <= at {
+        return Err(Refused {
+            refusal: Refusal::Cut,
+            place: len,
+        });
     }
     let mut here = at;
-    let mut cuts: usize = 0;
-    let mut filled: usize = 0;
+    let mut parts = Parts { cuts: 0, filled: 0 };
     loop {
-        match chunk(kind, message, here) {
-            ChunkRead::Refused {
-                number: _,
-                place: _,
-            } => {
-                return 0;
-            }
-            ChunkRead::Chunk {
-                head: h,
-                size,
-                bytes: _,
-                units,
-                last,
-            } => {
-                if LONGEST_CHUNK - filled < units {
-                    filled = after_cut(kind, message, here + h, units, LONGEST_CHUNK - filled);
-                    cuts += 1;
-                } else {
-                    filled += units;
-                }
-                here += h + size;
-                if last {
-                    return 3 * cuts + last_head_size(kind, filled);
-                }
-            }
+        let c = chunk(kind, message, here)?;
+        parts = parts_after(kind, message, here + c.head, c.units, parts)?;
+        here += c.head + c.size;
+        if c.last {
+            return Ok(3 * parts.cuts + last_head_size(kind, parts.filled));
         }
     }
 }
@@ -960,98 +651,84 @@ fn heads_length(kind: Encoding, message: &[u8], at: usize) -> usize
 pub fn passed_length(kind: Encoding, message: &[u8], at: usize, units: usize, bytes: usize) -> usize
     ensures { PassedLength kind message.now at units bytes result }
 {
-    if units <= LONGEST_CHUNK {
-        return std::num::wrapping_add_usize(bytes, last_head_size(kind, units));
-    }
-    std::num::wrapping_add_usize(bytes, heads_length(kind, message, at))
+    let heads = if units <= LONGEST_CHUNK {
+        last_head_size(kind, units)
+    } else {
+        heads_length(kind, message, at).unwrap_or(0)
+    };
+    bytes.wrapping_add(heads)
 }
 
 // ---- texts and byte strings
 
 // The text or byte string at the place `at` of the message, which is not measured.
-pub fn pass_string(kind: Encoding, message: &[u8], at: usize) -> StringPassed
+pub fn pass_string(kind: Encoding, message: &[u8], at: usize) -> Result<StringPassed, Refused>
     ensures { PassedMet kind message.now at result }
 {
     let len = message.len();
     if len <= at {
-        return StringPassed::Refused {
-            number: CUT,
+        return Err(Refused {
+            refusal: Refusal::Cut,
             place: len,
-        };
+        });
     }
     let mut here = at;
-    let mut total: usize = 0;
+    let mut units: usize = 0;
     let mut bytes: usize = 0;
     loop {
-        match chunk(kind, message, here) {
-            ChunkRead::Refused { number, place } => {
-                return StringPassed::Refused { number, place };
-            }
-            ChunkRead::Chunk {
-                head: h,
-                size,
-                bytes: n,
+        let c = chunk(kind, message, here)?;
+        here += c.head + c.size;
+        units += c.units;
+        bytes += c.bytes;
+        if c.last {
+            return Ok(StringPassed {
                 units,
-                last,
-            } => {
-                here += h + size;
-                total += units;
-                bytes += n;
-                if last {
-                    return StringPassed::Content {
-                        units: total,
-                        bytes,
-                        size: here - at,
-                    };
-                }
-            }
+                bytes,
+                size: here - at,
+            });
         }
     }
 }
 
 // The text at the place `at` of the message, which is not measured. A short one of ASCII is tried first.
-pub fn pass_text(message: &[u8], at: usize) -> StringPassed
+pub fn pass_text(message: &[u8], at: usize) -> Result<StringPassed, Refused>
     ensures { PassedMet Encoding.Utf8 message.now at result }
 {
-    let s = short_text(message, at);
-    if 0 < s {
-        return StringPassed::Content {
-            units: s - 1,
-            bytes: s - 1,
-            size: s,
-        };
+    if let Some(n) = short_text(message, at) {
+        return Ok(StringPassed {
+            units: n,
+            bytes: n,
+            size: n + 1,
+        });
     }
     pass_string(Encoding::Utf8, message, at)
 }
 
 // The text or byte string at `at` as it was passed, with its length.
 fn measured(kind: Encoding, message: &[u8], at: usize, passed: StringPassed) -> StringRead
-    requires { PassedMet kind message.now at passed }
-    ensures { told_string result ≡ measured_at kind message.now at }
+    requires { StringIs kind message.now at passed.units passed.bytes passed.size }
+    ensures { told_string (Ok result) ≡ measured_at kind message.now at }
 {
-    match passed {
-        StringPassed::Refused { number, place } => StringRead::Refused { number, place },
-        StringPassed::Content { units, bytes, size } => StringRead::Content {
-            units,
-            bytes,
-            size,
-            shortest: passed_length(kind, message, at, units, bytes),
-        },
+    StringRead {
+        units: passed.units,
+        bytes: passed.bytes,
+        size: passed.size,
+        shortest: passed_length(kind, message, at, passed.units, passed.bytes),
     }
 }
 
 // The text or byte string at the place `at` of the message.
-pub fn read_string(kind: Encoding, message: &[u8], at: usize) -> StringRead
+pub fn read_string(kind: Encoding, message: &[u8], at: usize) -> Result<StringRead, Refused>
     ensures { told_string result ≡ measured_at kind message.now at }
 {
-    let passed = pass_string(kind, message, at);
-    measured(kind, message, at, passed)
+    let passed = pass_string(kind, message, at)?;
+    Ok(measured(kind, message, at, passed))
 }
 
 // The text at the place `at` of the message. A short one of ASCII is tried first.
-pub fn read_text(message: &[u8], at: usize) -> StringRead
+pub fn read_text(message: &[u8], at: usize) -> Result<StringRead, Refused>
     ensures { told_string result ≡ measured_at Encoding.Utf8 message.now at }
 {
-    let passed = pass_text(message, at);
-    measured(Encoding::Utf8, message, at, passed)
+    let passed = pass_text(message, at)?;
+    Ok(measured(Encoding::Utf8, message, at, passed))
 }

@@ -1,14 +1,18 @@
 -- Laws for the proofs of the functions on groups: stores one by one, the digits of a line, the bytes of a group and their repeats.
 use mathlib.Core.{Path.{◌≡◌, refl, sym, ◌∙◌, ap, subst}, Bool.{Bool, true, false, ◌&&◌}, List.{List, [], ◌∷◌, ◌++◌}, Logic.{inl, inr}}
-use Prim.Native.Nat.{ℕ, zero, suc, ◌+◌, ◌-◌, ◌*◌, ◌/◌, ◌%◌, ◌^◌, ◌≤◌, ◌<◌, max}
+use Prim.Native.Nat.{ℕ, zero, suc, ◌+◌, ◌-◌, ◌*◌, ◌/◌, ◌%◌, ◌^◌, ◌≤◌, ◌<◌, max, min}
 use native.Mathlib.{Numerals.add-one, Nat.{zero-mul, suc-mul}, Omega.arith}
-use lib.{Dec.{ltb, leb, eqb}, ListN.{length, take, drop, get_or, set, length-set, length-append, length-take, drop_of_length-le}}
-use lib.Seq.{sets, slice, sets-eq, length-sets, set_out, take-set-le, slice-cons, length-slice, drop-cons, take_at, drop_at, length-take-le}
+use lib.{Dec.{ltb, leb, eqb}, ListN.{length, take, drop, get_or, set, length-set, length-append, length-take, length-drop, drop_of_length-le}}
+use lib.Seq.{sets, slice, paste, sets-eq, length-sets, set_out, take-set-le, length-slice, drop-cons, take_at, drop_at, length-take-le}
 use borrow.Author.Tests.{lt-ltb, le-ltb, le-leb, lt-leb, eq-eqb, leb-true, leb-false, eqb-true, eqb-false}
+use Rattle.std.specs.List.{copy_within}
+use Rattle.std.proofs.lemmas.List.{drop-take}
+use Rattle.std.proofs.Math.Seq.{take-add}
 use Rattle.flow.specs.{Flow.pick, Tests.{pick_true, pick_false, split, by_cases}}
-use Rattle.vectors.specs.declared.{Scanned.{Scanned, TheVariants.{Number, NoNumber}}, Step.{Step, TheVariants.{On, Stuck}}}
-use Rattle.vectors.specs.{Cases.{digit_at, worth, Digits, DecimalMet, TimesMet}, CaseLaws.{true_false, both_true, stands_says}, GroupLaws.{stands_within, group_on}}
-use Rattle.vectors.specs.Groups.{digits, decimal_of, times_of, hex_bytes, copies, store_times, group_at, group_stands, onward, groups_from, groups_of, took_bytes, repeated}
+use Rattle.std.specs.Prelude.{Option, Some, None}
+use Rattle.vectors.specs.declared.{Scanned.{Scanned}, Step.{Step}}
+use Rattle.vectors.specs.{Cases.{digit_at, worth, Digits, DecimalMet, TimesMet, number}, CaseLaws.{true_false, both_true, stands_says}, GroupLaws.{stands_within, group_on}}
+use Rattle.vectors.specs.Groups.{digits, decimal_of, times_of, hex_bytes, copies, store_times, group_at, group_stands, onward, groups_from, groups_of, took_bytes, repeated, step}
 use Rattle.vectors.proofs.Laws.{digit_past}
 
 -- ---- stores one by one
@@ -37,38 +41,27 @@ sets_slice l i a h =
     ap (drop i) e ∙ drop_at (take i l) a i k
 
 -- ---- bytes once more
--- what is known while the bytes from `from` to below `size` are stored once more, from `here` on
-pub record Copied (l₀ : List ℕ) (from size here : ℕ) (l : List ℕ) (back to : ℕ) : Type 0 where
-  pub same : length l ≡ length l₀
-  pub level : to + from ≡ here + back
-  pub past : from ≤ back
-  pub within : back ≤ size
-  pub room : to ≤ length l₀
-  pub rest : sets l to (slice back size l) ≡ sets l₀ here (slice from size l₀)
+-- the first of a slice, and the others
+two_parts : (from size room : ℕ) (l : List ℕ) → from ≤ size → room ≤ size - from → slice from size l ≡ take room (drop from l) ++ take (size - from - room) (drop room (drop from l))
+two_parts from size room l h k =
+    let v : room + (size - from - room) ≡ size - from = omega arith in
+    let q : from + (size - from) ≡ size = omega arith in
+    let t : drop from (take size l) ≡ take (size - from) (drop from l) = rw q at (drop-take from (size - from) l) in
+    t ∙ (rw v at (take-add room (size - from - room) (drop from l)))
 
-module _ {l₀ : List ℕ} {from size here : ℕ} {l : List ℕ} {back to : ℕ} (w : Copied l₀ from size here l back to) where
-  pub copied_more : back < size → size ≤ here → to < length l → Copied l₀ from size here (set l to (get_or l back 0)) (back + 1) (to + 1)
-  copied_more h k r =
-      let x = get_or l back 0 in
-      let c : slice back size l ≡ x ∷ slice (suc back) size l = slice-cons back size l 0 h (omega (arith, w.level, w.past)) in
-      let s : slice (suc back) size (set l to x) ≡ slice (suc back) size l = ap (drop (suc back)) (take-set-le size l to x (omega (arith, w.level, w.past))) in
-      let d : sets l to (slice back size l) ≡ sets (set l to x) (suc to) (slice (suc back) size l) = rw c refl in
-      record {
-        same = length-set l to x ∙ w.same;
-        level = omega (arith, w.level);
-        past = omega (arith, w.past);
-        within = omega arith;
-        room = omega (arith, w.same);
-        rest = rw (add-one, add-one, s) (sym d ∙ w.rest);
-      }
-
-  pub copied_full : back < size → length l ≤ to → (false ≡ leb (here + (size - from)) (length l₀)) × (l ≡ sets l₀ here (slice from size l₀))
-  copied_full h k = (sym (lt-leb (here + (size - from)) (length l₀) (omega (arith, w.same, w.level, w.past))), sym (sets_out l to (slice back size l) k) ∙ w.rest)
-
-  pub copied_all : size ≤ back → (true ≡ leb (here + (size - from)) (length l₀)) × (l ≡ sets l₀ here (slice from size l₀))
-  copied_all h =
-      let d : slice back size l ≡ [] = drop_of_length-le (take size l) {i = back} (omega (arith, length-take size l)) in
-      (sym (le-leb (here + (size - from)) (length l₀) (omega (arith, w.room, w.level, w.within, w.past))), ap (sets l to) (sym d) ∙ w.rest)
+-- the bytes from `from` to below `size`, as many as there is room for from `here` on
+pub copied : (l : List ℕ) (from size here room : ℕ) → from < size → size ≤ here → here ≤ length l → room ≡ min (length l - here) (size - from) → copy_within l from (from + room) here ≡ sets l here (slice from size l)
+copied l from size here room h k r e =
+    let x = drop from l in
+    let a = take room x in
+    let b = take (size - from - room) (drop room x) in
+    let n : length a ≡ room = omega (arith, length-take room x, length-drop from l) in
+    let o : from + room - from ≡ room = omega arith in
+    let s : sets l here a ≡ paste l here x room = rw n at (sets-eq a l here (omega (arith, n, e))) in
+    let whole : sets l here (a ++ b) ≡ sets l here a =
+    split room (size - from) (λ u. sets_full l here a b (omega (arith, n, e)))
+    (λ u. let z : size - from - room ≡ 0 = omega arith in rw z (sym (sets_seam l here a []))) in
+    rw o (sym s ∙ sym whole ∙ ap (sets l here) (sym (two_parts from size room l (omega arith) (omega (arith, e)))))
 
 -- ---- repeats
 -- what is known while the bytes from `from` to below `size` are repeated, `left` times more
@@ -86,14 +79,6 @@ pub repeats_none : (l : List ℕ) (from size t : ℕ) → 0 < t → from < size 
 repeats_none l from size t z h k = record { some = z; wide = h; same = refl; level = refl; past = omega arith; room = k; source = refl; rest = refl }
 
 module _ {l₀ : List ℕ} {from size t : ℕ} {l : List ℕ} {left here : ℕ} (w : Repeats l₀ from size t l left here) where
-  -- what the answer of `again` says of the room
-  module _ {b : Bool} (e : b ≡ leb (here + (size - from)) (length l)) where
-    pub again_room : b ≡ true → here + (size - from) ≤ length l
-    again_room h = leb-true (here + (size - from)) (length l) (sym e ∙ h)
-
-    pub again_none : b ≡ false → length l < here + (size - from)
-    again_none h = leb-false (here + (size - from)) (length l) (sym e ∙ h)
-
   -- one of them taken from those that are left
   one_less : 0 < left → (left ≡ suc (left - 1)) × (left * (size - from) ≡ (left - 1) * (size - from) + (size - from))
   one_less h = let e : left ≡ suc (left - 1) = omega arith in (e, ap (λ (n : ℕ). n * (size - from)) e ∙ suc-mul (left - 1) (size - from))
@@ -108,8 +93,8 @@ module _ {l₀ : List ℕ} {from size t : ℕ} {l : List ℕ} {left here : ℕ} 
       let o = slice from size l₀ in
       (q, ap (λ (n : ℕ). sets l here (copies n o)) (one_less h).0 ∙ sym (sets_seam l here o (copies (left - 1) o)) ∙ ap (λ (n : ℕ). sets (sets l here o) (here + n) (copies (left - 1) o)) width ∙ ap (λ (b : List ℕ). sets b (here + (size - from)) (copies (left - 1) o)) (sym q))
 
-  pub repeats_more : {m : List ℕ} → 0 < left → here + (size - from) ≤ length l → m ≡ sets l here (slice from size l) → Repeats l₀ from size t m (left - 1) (here + (size - from))
-  repeats_more {m} h r e =
+  repeats_one : {m : List ℕ} → 0 < left → here + (size - from) ≤ length l → m ≡ sets l here (slice from size l) → Repeats l₀ from size t m (left - 1) (here + (size - from))
+  repeats_one {m} h r e =
       let s : length m ≡ length l = ap length e ∙ length-sets l here (slice from size l) in
       record {
         some = w.some;
@@ -122,32 +107,37 @@ module _ {l₀ : List ℕ} {from size t : ℕ} {l : List ℕ} {left here : ℕ} 
         rest = sym (once_more h e).1 ∙ w.rest;
       }
 
-  pub repeats_full : {m : List ℕ} (next : ℕ) → 0 < left → length l < here + (size - from) → m ≡ sets l here (slice from size l) → repeated l₀ from size t next ≡ (Stuck, m)
+  pub repeats_more : {m : List ℕ} {n e : ℕ} → 0 < left → e ≡ here + (size - from) → e ≤ length l → m ≡ sets l here (slice from size l) → n ≡ left - 1 → Repeats l₀ from size t m n e
+  repeats_more {m} h q r e f = rw (q, f) (repeats_one h (omega arith) e)
+
+  pub repeats_full : {m : List ℕ} {q : Option Step} (next : ℕ) → 0 < left → length l < here + (size - from) → m ≡ sets l here (slice from size l) → q ≡ None → repeated l₀ from size t next ≡ (q, m)
   unfolding repeated
-  repeats_full {m} next h r e =
+  repeats_full {m} next h r e g =
       let x = once_more h e in
       let f : sets m (here + (size - from)) (copies (left - 1) (slice from size l₀)) ≡ m = sets_out m (here + (size - from)) (copies (left - 1) (slice from size l₀)) (omega (arith, ap length e, length-sets l here (slice from size l))) in
-      let p : pick (leb (size + (t - 1) * (size - from)) (length l₀)) (On next (from + t * (size - from))) Stuck ≡ Stuck = pick_false _ Stuck (lt-leb (size + (t - 1) * (size - from)) (length l₀) (omega (arith, w.level, w.same, (one_less h).1))) in
-      λ i. (p i, (sym w.rest ∙ x.1 ∙ f) i)
+      let p : pick (leb (size + (t - 1) * (size - from)) (length l₀)) (Some (step next (from + t * (size - from)))) None ≡ None = pick_false _ None (lt-leb (size + (t - 1) * (size - from)) (length l₀) (omega (arith, w.level, w.same, (one_less h).1))) in
+      λ i. ((p ∙ sym g) i, (sym w.rest ∙ x.1 ∙ f) i)
 
-  pub repeats_all : (next : ℕ) → left ≤ 0 → repeated l₀ from size t next ≡ (On next here, l)
+  pub repeats_all : (next : ℕ) → left ≤ 0 → repeated l₀ from size t next ≡ (Some (step next here), l)
   unfolding repeated copies
   repeats_all next h =
       let z : left ≡ 0 = omega arith in
       let v : here ≡ size + (t - 1) * (size - from) = omega (arith, w.level, ap (λ (n : ℕ). n * (size - from)) z, zero-mul (size - from)) in
       let e : t ≡ suc (t - 1) = omega (arith, w.some) in
       let u : from + t * (size - from) ≡ here = omega (arith, w.wide, ap (λ (n : ℕ). n * (size - from)) e, suc-mul (t - 1) (size - from)) in
-      let p : pick (leb (size + (t - 1) * (size - from)) (length l₀)) (On next (from + t * (size - from))) Stuck ≡ On next here = pick_true (On next (from + t * (size - from))) Stuck (le-leb (size + (t - 1) * (size - from)) (length l₀) (omega (arith, w.room))) ∙ ap (On next) u in
+      let p : pick (leb (size + (t - 1) * (size - from)) (length l₀)) (Some (step next (from + t * (size - from)))) None ≡ Some (step next here) = pick_true (Some (step next (from + t * (size - from)))) None (le-leb (size + (t - 1) * (size - from)) (length l₀) (omega (arith, w.room))) ∙ ap (λ (k : ℕ). Some (step next k)) u in
       λ i. (p i, (sym w.rest ∙ ap (λ (n : ℕ). sets l here (copies n (slice from size l₀))) z) i)
 
-pub repeats_never : (l : List ℕ) (from size t next : ℕ) → size ≤ length l → t ≡ 0 → repeated l from size t next ≡ (On next from, l)
+pub repeats_never : (l : List ℕ) (from size t next : ℕ) → size ≤ length l → t ≡ 0 → repeated l from size t next ≡ (Some (step next from), l)
 unfolding repeated copies
 repeats_never l from size t next h e =
     let z : t - 1 ≡ 0 = omega arith in
     let v : (t - 1) * (size - from) ≡ 0 = ap (λ (n : ℕ). n * (size - from)) z ∙ zero-mul (size - from) in
     let u : from + t * (size - from) ≡ from = omega (arith, ap (λ (n : ℕ). n * (size - from)) e, zero-mul (size - from)) in
-    let p : pick (leb (size + (t - 1) * (size - from)) (length l)) (On next (from + t * (size - from))) Stuck ≡ On next from = pick_true (On next (from + t * (size - from))) Stuck (le-leb (size + (t - 1) * (size - from)) (length l) (omega arith)) ∙ ap (On next) u in
+    let p : pick (leb (size + (t - 1) * (size - from)) (length l)) (Some (step next (from + t * (size - from)))) None ≡ Some (step next from) = pick_true (Some (step next (from + t * (size - from)))) None (le-leb (size + (t - 1) * (size - from)) (length l) (omega arith)) ∙ ap (λ (k : ℕ). Some (step next k)) u in
     λ i. (p i, sets l size (copies (z i) (slice from size l)))
+
+pub ruleset repeats = (repeats_none, repeats_more, repeats_full, repeats_all, repeats_never)
 
 -- ---- the digits of a line
 -- the digits from `here` on, one more
@@ -181,22 +171,22 @@ pub record Takes (line : List ℕ) (at : ℕ) (l₀ : List ℕ) (from : ℕ) (l 
   pub rest : took_bytes line here l size ≡ took_bytes line at l₀ from
 
 module _ {line : List ℕ} {at : ℕ} {l₀ : List ℕ} {from : ℕ} {l : List ℕ} {here size : ℕ} (w : Takes line at l₀ from l here size) where
-  pub takes_end : {d : ℕ} → d ≡ digit_at line here → 15 < d → took_bytes line at l₀ from ≡ (On here size, l)
+  pub takes_end : digit_at line here ≡ 16 → took_bytes line at l₀ from ≡ (Some (step here size), l)
   unfolding took_bytes hex_bytes pick
-  takes_end e h = sym w.rest ∙ go (digits 16 (drop here line)) (digits_none 16 line here (omega arith))
+  takes_end e = sym w.rest ∙ go (digits 16 (drop here line)) (digits_none 16 line here (omega arith))
     where
-      go : (n : ℕ) → n ≡ 0 → ◌≡◌ {A = Step × List ℕ} (pick (eqb (n % 2) 0 && leb (size + n / 2) (length l)) (On (here + n) (size + n / 2)) Stuck, sets l size (hex_bytes line here (n / 2))) (On here size, l)
+      go : (n : ℕ) → n ≡ 0 → ◌≡◌ {A = Option Step × List ℕ} (pick (eqb (n % 2) 0 && leb (size + n / 2) (length l)) (Some (step (here + n) (size + n / 2))) None, sets l size (hex_bytes line here (n / 2))) (Some (step here size), l)
       go n z =
           let p : eqb (0 % 2) 0 && leb (size + 0 / 2) (length l) ≡ true = le-leb (size + 0) (length l) (omega (arith, w.same, w.room)) in
           let u : here + 0 ≡ here = omega arith in
           let v : size + 0 ≡ size = omega arith in
           rw (z, p, u, v) refl
 
-  pub takes_odd : {d e : ℕ} → d ≡ digit_at line here → d ≤ 15 → here < length line → e ≡ digit_at line (here + 1) → 15 < e → took_bytes line at l₀ from ≡ (Stuck, l)
+  pub takes_odd : {d : ℕ} {r : Option Step} → d ≡ digit_at line here → d < 16 → here < length line → digit_at line (here + 1) ≡ 16 → r ≡ None → took_bytes line at l₀ from ≡ (r, l)
   unfolding took_bytes hex_bytes pick
-  takes_odd q h k f g = sym w.rest ∙ go (digits 16 (drop here line)) (digits_more 16 line here k (omega arith) ∙ ap suc (digits_none 16 line (here + 1) (omega arith)))
+  takes_odd q h k f g = rw g (sym w.rest ∙ go (digits 16 (drop here line)) (digits_more 16 line here k (omega arith) ∙ ap suc (digits_none 16 line (here + 1) (omega arith))))
     where
-      go : (n : ℕ) → n ≡ 1 → ◌≡◌ {A = Step × List ℕ} (pick (eqb (n % 2) 0 && leb (size + n / 2) (length l)) (On (here + n) (size + n / 2)) Stuck, sets l size (hex_bytes line here (n / 2))) (Stuck, l)
+      go : (n : ℕ) → n ≡ 1 → ◌≡◌ {A = Option Step × List ℕ} (pick (eqb (n % 2) 0 && leb (size + n / 2) (length l)) (Some (step (here + n) (size + n / 2))) None, sets l size (hex_bytes line here (n / 2))) (None, l)
       go n z = rw z refl
 
   -- two digits more
@@ -206,34 +196,37 @@ module _ {line : List ℕ} {at : ℕ} {l₀ : List ℕ} {from : ℕ} {l : List �
       digits_more 16 line here k (omega arith) ∙ ap suc (digits_more 16 line (here + 1) m (omega arith)) ∙ ap (λ (x : ℕ). suc (suc (digits 16 (drop x line)))) e ∙ omega arith
 
   -- the second of them stands in the line too
-  module _ {d e : ℕ} (q : d ≡ digit_at line here) (h : d ≤ 15) (k : here < length line) (f : e ≡ digit_at line (here + 1)) (g : e ≤ 15) (m : here + 1 < length line) where
+  module _ {d e : ℕ} (q : d ≡ digit_at line here) (h : d < 16) (k : here < length line) (f : e ≡ digit_at line (here + 1)) (g : e < 16) (m : here + 1 < length line) where
     abbrev rest_of : ℕ
     rest_of = digits 16 (drop (here + 2) line)
 
-    step : took_bytes line here l size ≡ (pick (eqb (rest_of % 2) 0 && leb (size + (rest_of / 2 + 1)) (length l)) (On (here + (rest_of + 2)) (size + (rest_of / 2 + 1))) Stuck, sets l size ((d * 16 + e) ∷ hex_bytes line (here + 2) (rest_of / 2)))
+    two_taken : took_bytes line here l size ≡ (pick (eqb (rest_of % 2) 0 && leb (size + (rest_of / 2 + 1)) (length l)) (Some (step (here + (rest_of + 2)) (size + (rest_of / 2 + 1)))) None, sets l size ((d * 16 + e) ∷ hex_bytes line (here + 2) (rest_of / 2)))
     unfolding took_bytes hex_bytes
-    step = go (digits 16 (drop here line)) (two_more k (omega arith) m (omega arith))
+    two_taken = go (digits 16 (drop here line)) (two_more k (omega arith) m (omega arith))
       where
-        go : (n : ℕ) → n ≡ rest_of + 2 → ◌≡◌ {A = Step × List ℕ} (pick (eqb (n % 2) 0 && leb (size + n / 2) (length l)) (On (here + n) (size + n / 2)) Stuck, sets l size (hex_bytes line here (n / 2))) (pick (eqb (rest_of % 2) 0 && leb (size + (rest_of / 2 + 1)) (length l)) (On (here + (rest_of + 2)) (size + (rest_of / 2 + 1))) Stuck, sets l size ((d * 16 + e) ∷ hex_bytes line (here + 2) (rest_of / 2)))
+        go : (n : ℕ) → n ≡ rest_of + 2 → ◌≡◌ {A = Option Step × List ℕ} (pick (eqb (n % 2) 0 && leb (size + n / 2) (length l)) (Some (step (here + n) (size + n / 2))) None, sets l size (hex_bytes line here (n / 2))) (pick (eqb (rest_of % 2) 0 && leb (size + (rest_of / 2 + 1)) (length l)) (Some (step (here + (rest_of + 2)) (size + (rest_of / 2 + 1)))) None, sets l size ((d * 16 + e) ∷ hex_bytes line (here + 2) (rest_of / 2)))
         go n z =
             let a : n % 2 ≡ rest_of % 2 = omega arith in
             let b : n / 2 ≡ rest_of / 2 + 1 = omega arith in
             rw (a, b, z, add-one (rest_of / 2), q, f) refl
 
-    pub takes_full : length l ≤ size → took_bytes line at l₀ from ≡ (Stuck, l)
+    pub takes_full : length l ≤ size → took_bytes line at l₀ from ≡ (None, l)
     takes_full r =
         let p : leb (size + (rest_of / 2 + 1)) (length l) ≡ false = lt-leb (size + (rest_of / 2 + 1)) (length l) (omega arith) in
-        sym w.rest ∙ step ∙ (λ i. (pick_false (On (here + (rest_of + 2)) (size + (rest_of / 2 + 1))) Stuck (and_no (eqb (rest_of % 2) 0) p) i, sets_out l size ((d * 16 + e) ∷ hex_bytes line (here + 2) (rest_of / 2)) r i))
+        sym w.rest ∙ two_taken ∙ (λ i. (pick_false (Some (step (here + (rest_of + 2)) (size + (rest_of / 2 + 1)))) None (and_no (eqb (rest_of % 2) 0) p) i, sets_out l size ((d * 16 + e) ∷ hex_bytes line (here + 2) (rest_of / 2)) r i))
 
-    pub takes_more : size < length l → Takes line at l₀ from (set l size (d * 16 + e)) (here + 2) (size + 1)
+    takes_one : size < length l → Takes line at l₀ from (set l size (d * 16 + e)) (here + 2) (size + 1)
     unfolding took_bytes
-    takes_more r = record { same = length-set l size (d * 16 + e) ∙ w.same; room = omega (arith, w.same); rest = go rest_of ∙ sym step ∙ w.rest }
+    takes_one r = record { same = length-set l size (d * 16 + e) ∙ w.same; room = omega (arith, w.same); rest = go rest_of ∙ sym two_taken ∙ w.rest }
       where
-        go : (n : ℕ) → ◌≡◌ {A = Step × List ℕ} (pick (eqb (n % 2) 0 && leb (size + 1 + n / 2) (length (set l size (d * 16 + e)))) (On (here + 2 + n) (size + 1 + n / 2)) Stuck, sets (set l size (d * 16 + e)) (size + 1) (hex_bytes line (here + 2) (n / 2))) (pick (eqb (n % 2) 0 && leb (size + (n / 2 + 1)) (length l)) (On (here + (n + 2)) (size + (n / 2 + 1))) Stuck, sets l size ((d * 16 + e) ∷ hex_bytes line (here + 2) (n / 2)))
+        go : (n : ℕ) → ◌≡◌ {A = Option Step × List ℕ} (pick (eqb (n % 2) 0 && leb (size + 1 + n / 2) (length (set l size (d * 16 + e)))) (Some (step (here + 2 + n) (size + 1 + n / 2))) None, sets (set l size (d * 16 + e)) (size + 1) (hex_bytes line (here + 2) (n / 2))) (pick (eqb (n % 2) 0 && leb (size + (n / 2 + 1)) (length l)) (Some (step (here + (n + 2)) (size + (n / 2 + 1)))) None, sets l size ((d * 16 + e) ∷ hex_bytes line (here + 2) (n / 2)))
         go n =
             let a : size + 1 + n / 2 ≡ size + (n / 2 + 1) = omega arith in
             let b : here + 2 + n ≡ here + (n + 2) = omega arith in
             rw (length-set l size (d * 16 + e), a, b, add-one size) refl
+
+    pub takes_more : {v : ℕ} → size < length l → v ≡ d * 16 + e → Takes line at l₀ from (set l size v) (here + 2) (size + 1)
+    takes_more r f = rw f (takes_one r)
 
 -- ---- how often
 -- as many digits as there are, and at least as many
@@ -261,41 +254,41 @@ unfolding worth
 worth_grows line at n zero h = let e : n ≡ 0 = omega arith in rw e (omega arith)
 worth_grows line at n (suc k) h = split n (suc k) (λ l. omega (arith, worth_grows line at n k (omega arith))) (λ l. let e : n ≡ suc k = omega arith in omega (arith, ap (worth line at) e))
 
-decimal_number : (line : List ℕ) (at v next : ℕ) → DecimalMet line at (Number v next) → v < 2 ^ 64 → decimal_of line at ≡ Number v next
+decimal_number : (line : List ℕ) (at v next : ℕ) → DecimalMet line at (Some (number v next)) → v < 2 ^ 64 → decimal_of line at ≡ Some (number v next)
 unfolding DecimalMet decimal_of
 decimal_number line at v next m h = go (digits 10 (drop at line)) (digits_are line at (next - at) m.2.digits m.2.ends)
   where
-    go : (n : ℕ) → n ≡ next - at → pick (ltb 0 n && ltb (worth line at n) (2 ^ 64)) (Number (worth line at n) (at + n)) NoNumber ≡ Number v next
+    go : (n : ℕ) → n ≡ next - at → pick (ltb 0 n && ltb (worth line at n) (2 ^ 64)) (Some (number (worth line at n) (at + n))) None ≡ Some (number v next)
     go n e =
         let a : ltb 0 n ≡ true = lt-ltb 0 n (omega (arith, m.2.some)) in
         let w : worth line at n ≡ v = ap (worth line at) e ∙ sym m.2.worth_is in
         let b : ltb v (2 ^ 64) ≡ true = lt-ltb v (2 ^ 64) h in
         let q : at + n ≡ next = omega (arith, m.0) in
-        rw (a, w, b, q) (pick_true _ NoNumber refl)
+        rw (a, w, b, q) (pick_true _ None refl)
 
-decimal_none : (line : List ℕ) (at : ℕ) → DecimalMet line at NoNumber → decimal_of line at ≡ NoNumber
+decimal_none : (line : List ℕ) (at : ℕ) → DecimalMet line at None → decimal_of line at ≡ None
 unfolding DecimalMet decimal_of
-decimal_none line at (inl h) = let e = digits_none 10 line at h in rw e (pick_false _ NoNumber refl)
+decimal_none line at (inl h) = let e = digits_none 10 line at h in rw e (pick_false _ None refl)
 decimal_none line at (inr x) =
     let n = digits 10 (drop at line) in
     let b : ltb (worth line at n) (2 ^ 64) ≡ false = le-ltb (worth line at n) (2 ^ 64) (omega (arith, x.2, worth_grows line at x.0 n (digits_least line at x.0 x.1))) in
-    pick_false (Number (worth line at n) (at + n)) NoNumber (and_no (ltb 0 n) b)
+    pick_false (Some (number (worth line at n) (at + n))) None (and_no (ltb 0 n) b)
 
-module _ (line : List ℕ) (at : ℕ) {q : Scanned} (m : TimesMet line at q) where
-  pub times_number : {v next : ℕ} → q ≡ Number v next → v < 2 ^ 64 → times_of line at ≡ Number v next
+module _ (line : List ℕ) (at : ℕ) {q : Option Scanned} (m : TimesMet line at q) where
+  pub times_number : {v next : ℕ} → q ≡ Some (number v next) → v < 2 ^ 64 → times_of line at ≡ Some (number v next)
   unfolding TimesMet times_of
   times_number {v} {next} e h =
       let w = subst (TimesMet line at) e m in
       by_cases (eqb (get_or line at 0) 0x2a)
-      (λ t. pick_true _ (Number 1 at) t ∙ decimal_number line (at + 1) v next (w.0 (eqb-true (get_or line at 0) 0x2a t)) h)
+      (λ t. pick_true _ (Some (number 1 at)) t ∙ decimal_number line (at + 1) v next (w.0 (eqb-true (get_or line at 0) 0x2a t)) h)
       (λ t. pick_false (decimal_of line (at + 1)) _ t ∙ sym (w.1 (eqb-false (get_or line at 0) 0x2a t)))
 
-  pub times_none : q ≡ NoNumber → times_of line at ≡ NoNumber
+  pub times_none : q ≡ None → times_of line at ≡ None
   unfolding TimesMet times_of
   times_none e =
       let w = subst (TimesMet line at) e m in
       by_cases (eqb (get_or line at 0) 0x2a)
-      (λ t. pick_true _ (Number 1 at) t ∙ decimal_none line (at + 1) (w.0 (eqb-true (get_or line at 0) 0x2a t)))
+      (λ t. pick_true _ (Some (number 1 at)) t ∙ decimal_none line (at + 1) (w.0 (eqb-true (get_or line at 0) 0x2a t)))
       (λ t. pick_false (decimal_of line (at + 1)) _ t ∙ sym (w.1 (eqb-false (get_or line at 0) 0x2a t)))
 
 -- ---- a group
@@ -313,16 +306,17 @@ width_first : (t k : ℕ) → max t 1 * k ≡ k + (t - 1) * k
 width_first t k = let e : max t 1 ≡ suc (t - 1) = omega arith in ap (λ (n : ℕ). n * k) e ∙ omega (arith, suc-mul (t - 1) k)
 
 -- without room for the bytes once
-store_full : (l : List ℕ) (from : ℕ) (once : List ℕ) (q : Scanned) → length l < from + length once → store_times l from once q ≡ (Stuck, sets l from once)
+store_full : (l : List ℕ) (from : ℕ) (once : List ℕ) (q : Option Scanned) → length l < from + length once → store_times l from once q ≡ (None, sets l from once)
 unfolding store_times
-store_full l from once NoNumber h = refl
-store_full l from once (Number t next) h =
+store_full l from once None h = refl
+store_full l from once (Some s) h =
+    let t = s.value in
     let p : leb (from + max t 1 * length once) (length l) ≡ false = lt-leb (from + max t 1 * length once) (length l) (omega (arith, width_first t (length once))) in
-    let s : sets l from (copies (max t 1) once) ≡ sets l from once = ap (sets l from) (copies_first t once) ∙ sets_full l from once (copies (t - 1) once) (omega arith) in
-    λ i. (pick_false (On next (from + t * length once)) Stuck p i, s i)
+    let e : sets l from (copies (max t 1) once) ≡ sets l from once = ap (sets l from) (copies_first t once) ∙ sets_full l from once (copies (t - 1) once) (omega arith) in
+    λ i. (pick_false (Some (step s.next (from + t * length once))) None p i, e i)
 
 -- the bytes once, and then the repeats
-store_repeats : (l : List ℕ) (from : ℕ) (once : List ℕ) (t end : ℕ) {size : ℕ} {m : List ℕ} → size ≡ from + length once → size ≤ length l → m ≡ sets l from once → store_times l from once (Number t end) ≡ repeated m from size t end
+store_repeats : (l : List ℕ) (from : ℕ) (once : List ℕ) (t end : ℕ) {size : ℕ} {m : List ℕ} → size ≡ from + length once → size ≤ length l → m ≡ sets l from once → store_times l from once (Some (number t end)) ≡ repeated m from size t end
 unfolding store_times repeated
 store_repeats l from once t end {size} {m} z h e =
     let k : length once ≡ size - from = omega arith in
@@ -330,7 +324,7 @@ store_repeats l from once t end {size} {m} z h e =
     let b : length l ≡ length m = sym (ap length e ∙ length-sets l from once) in
     let o : once ≡ slice from size m = sym (sets_slice l from once (omega arith)) ∙ (λ i. slice from (sym z i) (sym e i)) in
     let s : sets l from (copies (max t 1) once) ≡ sets m size (copies (t - 1) (slice from size m)) = ap (sets l from) (copies_first t once) ∙ sym (sets_seam l from once (copies (t - 1) once)) ∙ (λ i. sets (sym e i) (sym z i) (copies (t - 1) (o i))) in
-    λ i. (pick (leb (a i) (b i)) (On end (from + t * k i)) Stuck, s i)
+    λ i. (pick (leb (a i) (b i)) (Some (step end (from + t * k i))) None, s i)
 
 module _ (line : List ℕ) (at : ℕ) (l : List ℕ) (from : ℕ) where
   abbrev n : ℕ
@@ -346,28 +340,28 @@ module _ (line : List ℕ) (at : ℕ) (l : List ℕ) (from : ℕ) where
     size_is : size ≡ from + n / 2
     room : size ≤ length l
 
-  module _ {p : Step} {m : List ℕ} (e : took_bytes line at l from ≡ (p, m)) where
-    took_answer : pick (eqb (n % 2) 0 && leb (from + n / 2) (length l)) (On (at + n) (from + n / 2)) Stuck ≡ p
+  module _ {p : Option Step} {m : List ℕ} (e : took_bytes line at l from ≡ (p, m)) where
+    took_answer : pick (eqb (n % 2) 0 && leb (from + n / 2) (length l)) (Some (step (at + n) (from + n / 2))) None ≡ p
     unfolding took_bytes
-    took_answer = ap (λ (x : Step × List ℕ). x.0) e
+    took_answer = ap (λ (x : Option Step × List ℕ). x.0) e
 
     took_bytes_law : sets l from once ≡ m
     unfolding took_bytes
-    took_bytes_law = ap (λ (x : Step × List ℕ). x.1) e
+    took_bytes_law = ap (λ (x : Option Step × List ℕ). x.1) e
 
-    pub group_stuck : p ≡ Stuck → group_at line at l from ≡ (Stuck, m)
+    pub group_stuck : {r : Option Step} → p ≡ None → r ≡ None → group_at line at l from ≡ (r, m)
     unfolding group_at store_times
-    group_stuck f =
+    group_stuck f g = rw g (
         by_cases (eqb (n % 2) 0)
-        (λ t. by_cases (leb (from + n / 2) (length l)) (λ u. let x : On (at + n) (from + n / 2) ≡ Stuck = sym (pick_true (On (at + n) (from + n / 2)) Stuck (and_yes t u)) ∙ took_answer ∙ f in let z : ◌≡◌ {A = ℕ} 0 1 = cc in absurd (omega arith)) (λ u. store_full l from once (pick (eqb (n % 2) 0) (times_of line (at + n)) NoNumber) (omega (arith, leb-false (from + n / 2) (length l) u, length_hex line at (n / 2))) ∙ (λ i. (Stuck, took_bytes_law i))))
-        (λ t. ap (store_times l from once) (pick_false (times_of line (at + n)) NoNumber t) ∙ (λ i. (Stuck, took_bytes_law i)))
+        (λ t. by_cases (leb (from + n / 2) (length l)) (λ u. let x : Some (step (at + n) (from + n / 2)) ≡ None = sym (pick_true (Some (step (at + n) (from + n / 2))) None (and_yes t u)) ∙ took_answer ∙ f in cc) (λ u. store_full l from once (pick (eqb (n % 2) 0) (times_of line (at + n)) None) (omega (arith, leb-false (from + n / 2) (length l) u, length_hex line at (n / 2))) ∙ (λ i. (None, took_bytes_law i))))
+        (λ t. ap (store_times l from once) (pick_false (times_of line (at + n)) None t) ∙ (λ i. (None, took_bytes_law i))))
 
-    module _ {next size : ℕ} (f : p ≡ On next size) where
+    module _ {next size : ℕ} (f : p ≡ Some (step next size)) where
       took_on : Took next size
       took_on =
           by_cases (eqb (n % 2) 0 && leb (from + n / 2) (length l))
-          (λ t. let x : On (at + n) (from + n / 2) ≡ On next size = sym (pick_true (On (at + n) (from + n / 2)) Stuck t) ∙ took_answer ∙ f in let b = and_parts (eqb (n % 2) 0) (leb (from + n / 2) (length l)) t in let y : from + n / 2 ≡ size = cc in record { even = b.0; next_is = cc; size_is = sym y; room = omega (arith, leb-true (from + n / 2) (length l) b.1) })
-          (λ t. let x : Stuck ≡ On next size = sym (pick_false (On (at + n) (from + n / 2)) Stuck t) ∙ took_answer ∙ f in let z : ◌≡◌ {A = ℕ} 0 1 = cc in absurd (omega arith))
+          (λ t. let x : Some (step (at + n) (from + n / 2)) ≡ Some (step next size) = sym (pick_true (Some (step (at + n) (from + n / 2))) None t) ∙ took_answer ∙ f in let b = and_parts (eqb (n % 2) 0) (leb (from + n / 2) (length l)) t in let q : step (at + n) (from + n / 2) ≡ step next size = cc in let y : from + n / 2 ≡ size = ap (λ (s : Step). s.size) q in record { even = b.0; next_is = sym (ap (λ (s : Step). s.next) q); size_is = sym y; room = omega (arith, leb-true (from + n / 2) (length l) b.1) })
+          (λ t. let x : None ≡ Some (step next size) = sym (pick_false (Some (step (at + n) (from + n / 2))) None t) ∙ took_answer ∙ f in cc)
 
       -- where a digit stands, some bytes are taken
       pub took_some : digit_at line at < 16 → (from < size) × (size ≤ length m)
@@ -378,13 +372,13 @@ module _ (line : List ℕ) (at : ℕ) (l : List ℕ) (from : ℕ) where
 
       scanned : group_at line at l from ≡ store_times l from once (times_of line next)
       unfolding group_at
-      scanned = ap (store_times l from once) (pick_true (times_of line (at + n)) NoNumber took_on.even ∙ ap (times_of line) (sym took_on.next_is))
+      scanned = ap (store_times l from once) (pick_true (times_of line (at + n)) None took_on.even ∙ ap (times_of line) (sym took_on.next_is))
 
-      pub group_unread : times_of line next ≡ NoNumber → group_at line at l from ≡ (Stuck, m)
+      pub group_unread : {r : Option Step} → times_of line next ≡ None → r ≡ None → group_at line at l from ≡ (r, m)
       unfolding store_times
-      group_unread q = scanned ∙ ap (store_times l from once) q ∙ (λ i. (Stuck, took_bytes_law i))
+      group_unread q g = scanned ∙ ap (store_times l from once) q ∙ (λ i. (sym g i, took_bytes_law i))
 
-      pub group_repeats : {t end : ℕ} → times_of line next ≡ Number t end → group_at line at l from ≡ repeated m from size t end
+      pub group_repeats : {t end : ℕ} → times_of line next ≡ Some (number t end) → group_at line at l from ≡ repeated m from size t end
       group_repeats {t} {end} q = scanned ∙ ap (store_times l from once) q ∙ store_repeats l from once t end (took_on.size_is ∙ ap (λ (k : ℕ). from + k) (sym (length_hex line at (n / 2)))) took_on.room (sym took_bytes_law)
 
 -- ---- the groups
@@ -400,25 +394,25 @@ pub gathers_none : (line : List ℕ) (at : ℕ) (l : List ℕ) → Gathers line 
 gathers_none line at l = record { bound = length line; enough = omega arith; room = omega arith; same = refl; rest = refl }
 
 module _ {line : List ℕ} {at : ℕ} {l₀ l : List ℕ} {here held : ℕ} (w : Gathers line at l₀ l here held) where
-  stop : group_stands line here ≡ false → groups_of line at l₀ ≡ (On here held, l)
+  stop : group_stands line here ≡ false → groups_of line at l₀ ≡ (Some (step here held), l)
   unfolding groups_from
   stop e = sym w.rest ∙ go w.bound
     where
-      go : (b : ℕ) → groups_from b line here held l ≡ (On here held, l)
+      go : (b : ℕ) → groups_from b line here held l ≡ (Some (step here held), l)
       go zero = refl
-      go (suc b) = pick_false (onward (group_at line (here + 1) l held) (groups_from b line)) (On here held, l) e
+      go (suc b) = pick_false (onward (group_at line (here + 1) l held) (groups_from b line)) (Some (step here held), l) e
 
-  pub gathers_end : {t : Bool} → t ≡ ltb here (length line) && eqb (get_or line here 0) 0x20 → t ≡ false → groups_of line at l₀ ≡ (On here held, l)
+  pub gathers_end : {t : Bool} → t ≡ ltb here (length line) && eqb (get_or line here 0) 0x20 → t ≡ false → groups_of line at l₀ ≡ (Some (step here held), l)
   gathers_end e f =
       stop
       (by_cases (eqb (get_or line here 0) 0x20)
       (λ u. let i = stands_within line here 0x20 (omega arith) (eqb-true (get_or line here 0) 0x20 u) in absurd (true_false (sym (and_yes (lt-ltb here (length line) i) u) ∙ sym e ∙ f)))
       (λ u. ap (λ (b : Bool). b && ltb (digit_at line (here + 1)) 16) u))
 
-  pub gathers_break : {d : ℕ} → d ≡ digit_at line (here + 1) → 15 < d → groups_of line at l₀ ≡ (On here held, l)
-  gathers_break {d} e h = stop (and_no (eqb (get_or line here 0) 0x20) (le-ltb (digit_at line (here + 1)) 16 (omega arith)))
+  pub gathers_break : digit_at line (here + 1) ≡ 16 → groups_of line at l₀ ≡ (Some (step here held), l)
+  gathers_break e = stop (and_no (eqb (get_or line here 0) 0x20) (le-ltb (digit_at line (here + 1)) 16 (omega arith)))
 
-  module _ {t : Bool} (e : t ≡ ltb here (length line) && eqb (get_or line here 0) 0x20) (f : t ≡ true) {d : ℕ} (q : d ≡ digit_at line (here + 1)) (h : d ≤ 15) {p : Step} {m : List ℕ} (g : group_at line (here + 1) l held ≡ (p, m)) where
+  module _ {t : Bool} (e : t ≡ ltb here (length line) && eqb (get_or line here 0) 0x20) (f : t ≡ true) (h : digit_at line (here + 1) < 16) {p : Option Step} {m : List ℕ} (g : group_at line (here + 1) l held ≡ (p, m)) where
     in_line : here < length line
     in_line = stands_says line here 0x20 e f
 
@@ -431,12 +425,12 @@ module _ {line : List ℕ} {at : ℕ} {l₀ l : List ℕ} {here held : ℕ} (w :
 
         go : (k : ℕ) → length line ≤ here + k → (b : ℕ) × (length line ≤ here + 1 + b) × (groups_from k line here held l ≡ onward (p, m) (groups_from b line))
         go zero i = absurd (omega (arith, in_line))
-        go (suc k) i = (k, omega arith, pick_true (onward (group_at line (here + 1) l held) (groups_from k line)) (On here held, l) both ∙ ap (λ (x : Step × List ℕ). onward x (groups_from k line)) g)
+        go (suc k) i = (k, omega arith, pick_true (onward (group_at line (here + 1) l held) (groups_from k line)) (Some (step here held), l) both ∙ ap (λ (x : Option Step × List ℕ). onward x (groups_from k line)) g)
 
-    pub gathers_stuck : p ≡ Stuck → groups_of line at l₀ ≡ (Stuck, m)
-    gathers_stuck s = sym w.rest ∙ go_on.2 ∙ ap (λ (x : Step). onward (x, m) (groups_from go_on.0 line)) s
+    pub gathers_stuck : {r : Option Step} → p ≡ None → r ≡ None → groups_of line at l₀ ≡ (r, m)
+    gathers_stuck s g = rw g (sym w.rest ∙ go_on.2 ∙ ap (λ (x : Option Step). onward (x, m) (groups_from go_on.0 line)) s)
 
-    pub gathers_more : {next size : ℕ} → p ≡ On next size → (here < length line) × (here < next) × Gathers line at l₀ m next size
+    pub gathers_more : {next size : ℕ} → p ≡ Some (step next size) → (here < length line) × (here < next) × Gathers line at l₀ m next size
     gathers_more s =
         let b = group_on line (here + 1) l held g s in (
           in_line,
@@ -446,6 +440,6 @@ module _ {line : List ℕ} {at : ℕ} {l₀ l : List ℕ} {here held : ℕ} (w :
             enough = omega (arith, go_on.1, b.0);
             room = omega (arith, b.1, b.2);
             same = b.2 ∙ w.same;
-            rest = sym (ap (λ (x : Step). onward (x, m) (groups_from go_on.0 line)) s) ∙ sym go_on.2 ∙ w.rest;
+            rest = sym (ap (λ (x : Option Step). onward (x, m) (groups_from go_on.0 line)) s) ∙ sym go_on.2 ∙ w.rest;
           },
         )

@@ -2,269 +2,323 @@
 // hold before a call, whether they still do, and their checksum.
 #![tactic(auto)]
 
-ghost use Rattle.std.specs.Prelude.{◌≡◌, ◌&&◌, ◌+◌, ◌-◌, ◌≤◌, ◌<◌, max, ltb, leb, eqb, length, get_or};
+ghost use Rattle.std.specs.Prelude.{◌≡◌, ◌&&◌, ◌+◌, ◌-◌, ◌≤◌, ◌<◌, ltb, eqb, length, get_or, is_some, IsSome, IsTrue, ◌↔◌, ℕ};
+ghost use Rattle.std.specs.Iterator.{at_most};
 ghost use Rattle.std.proofs.lemmas.List.Edits.{sets};
 ghost use Rattle.std.proofs.Math.Seq.{slice};
-ghost use Rattle.vectors.specs.Cases.{digit_of, digit_at, filling_at, sum_with, sum_from, LineEnds, DecimalMet};
-ghost use Rattle.vectors.specs.Cases.{TimesMet, Filled, UnchangedMet};
-ghost use Rattle.vectors.specs.Groups.{groups_of, group_at, took_bytes, repeated};
+ghost use Rattle.vectors.specs.Cases.{DigitMet, LineEnds, NextLine, digit_of, digit_at, filling_at, number_filling_at};
+ghost use Rattle.vectors.specs.Cases.{DecimalMet, TimesMet, Filled, UnchangedMet, sum_with, sum_with_number, sum_from};
+ghost use Rattle.vectors.specs.Groups.{groups_of, group_at, took_bytes, repeated, EndMet};
+
+use std::fmt;
 
 // A number, and where the line goes on.
 #[derive(Clone, Copy)]
-pub enum Scanned {
-    Number { value: u64, next: usize },
-    NoNumber,
+pub struct Scanned {
+    pub value: u64,
+    pub next: usize,
 }
 
 // How far a line is read: where it goes on, and how much of a slice is stored.
 #[derive(Clone, Copy)]
-pub enum Step {
-    On { next: usize, size: usize },
-    Stuck,
+pub struct Step {
+    pub next: usize,
+    pub size: usize,
 }
 
 // ---- lines
 
-// Where the line that begins at `at` ends.
-pub fn line_end(input: &[u8], at: usize) -> usize
-    ensures lower_bound { (at ≤ result) × (result ≤ max at (length input.now)) }
-    ensures line_ends { LineEnds input.now at result }
-{
-    let mut here = at;
-    while here < input.len() {
-        if input[here] == b'\n' {
-            return here;
-        }
-        here += 1;
+// The lines of an input, each without its newline. After a last newline there is no line.
+#[derive(Drop)]
+pub struct Lines<'a> {
+    rest: &'a [u8],
+}
+
+impl<'a> Lines<'a> {
+    pub fn new(input: &'a [u8]) -> Lines<'a>
+        ensures { result.rest.now ≡ input.now }
+    {
+        Lines { rest: input }
     }
-    here
+}
+
+impl<'a> Iterator for Lines<'a> {
+    type Item = &'a [u8];
+
+    ghost next_gives = { λ s r t. NextLine s.rest.now r t.rest.now };
+
+    ghost remaining = { λ s. at_most (length s.rest.now) };
+
+    fn next(&mut self) -> Option<&'a [u8]> {
+        if self.rest.is_empty() {
+            return None;
+        }
+        let (line, rest) = self.rest.split_at(line_end(self.rest));
+        self.rest = rest.get(1..).unwrap_or(rest);
+        Some(line)
+    }
+}
+
+// Where the first line ends.
+fn line_end(input: &[u8]) -> usize
+    ensures upper_bound { result ≤ length input.now }
+    ensures line_ends { LineEnds input.now 0 result }
+{
+    input
+        .iter()
+        .position(|b| *b == b'\n')
+        .unwrap_or(input.len())
 }
 
 // Whether the byte b stands at `at`.
 pub fn stands(line: &[u8], at: usize, b: u8) -> bool
     ensures { result ≡ ltb at (length line.now) && eqb (get_or line.now at 0) b }
 {
-    if line.len() <= at {
-        return false;
-    }
-    line[at] == b
+    line.get(at) == Some(&b)
 }
 
 // ---- numbers
 
-// The worth of a hexadecimal digit; 16 for any other byte.
-pub fn digit(b: u8) -> u8
-    ensures value { result ≡ digit_of b }
-    ensures upper_bound { result ≤ 16 }
+// The worth of a hexadecimal digit.
+#[tactic(auto, using(flow::specs::Tests::picks), unfolding(crate::specs::Cases::digit_of))]
+pub fn digit(b: u8) -> Option<u8>
+    ensures { DigitMet (digit_of b) result }
 {
     match b {
-        b'0'..=b'9' => b - b'0',
-        b'a'..=b'f' => b - b'a' + 10,
-        _ => 16,
+        b'0'..=b'9' => Some(b - b'0'),
+        b'a'..=b'f' => Some(b - b'a' + 10),
+        _ => None,
     }
 }
 
-// The worth of the digit at `at`; 16 where there is none.
-pub fn digit_at(line: &[u8], at: usize) -> u8
-    ensures value { result ≡ digit_at line.now at }
-    ensures at_in_bounds { result < 16 → at < length line.now }
+// The worth of the digit at `at`.
+#[tactic(auto, using(crate::proofs::Laws::digit_past))]
+pub fn digit_at(line: &[u8], at: usize) -> Option<u8>
+    ensures value { DigitMet (digit_at line.now at) result }
+    ensures at_in_bounds { IsSome result → at < length line.now }
 {
-    if line.len() <= at {
-        return 16;
-    }
-    digit(line[at])
+    digit(*line.get(at)?)
 }
 
 // The number below 2^64 that the decimal digits from `at` on are.
-pub fn decimal(line: &[u8], at: usize) -> Scanned
+#[tactic(auto, using(crate::proofs::Laws::decimals))]
+pub fn decimal(line: &[u8], at: usize) -> Option<Scanned>
     ensures { DecimalMet line.now at result }
 {
     let mut here = at;
     let mut value: u64 = 0;
-    loop {
-        let d = wire::wide(digit_at(line, here));
-        if 9 < d {
-            break;
-        }
-        if (0xffff_ffff_ffff_ffff - d) / 10 < value {
-            return Scanned::NoNumber;
-        }
-        value = value * 10 + d;
+    while let Some(d @ 0..=9) = digit_at(line, here) {
+        value = value.checked_mul(10)?.checked_add(u64::from(d))?;
         here += 1;
     }
     if here == at {
-        return Scanned::NoNumber;
+        return None;
     }
-    Scanned::Number { value, next: here }
+    Some(Scanned { value, next: here })
 }
 
 // How often there is what ends at `at`: the number after `*`, or once.
-pub fn times(line: &[u8], at: usize) -> Scanned
+#[tactic(auto, using(crate::proofs::Laws::how_often))]
+pub fn times(line: &[u8], at: usize) -> Option<Scanned>
     ensures { TimesMet line.now at result }
 {
     if stands(line, at, b'*') {
         return decimal(line, at + 1);
     }
-    Scanned::Number { value: 1, next: at }
+    Some(Scanned { value: 1, next: at })
 }
 
 // ---- bytes
 
 // The bytes that the hexadecimal digits from `at` on are, in `bytes` from `from` on.
-fn take_bytes(line: &[u8], at: usize, bytes: &mut [u8], from: usize) -> Step
+fn take_bytes(line: &[u8], at: usize, bytes: &mut [u8], from: usize) -> Option<Step>
     requires { from ≤ length bytes.old }
     ensures { took_bytes line.now at bytes.old from ≡ (result, bytes.new) }
 {
     let mut here = at;
     let mut size = from;
-    loop {
-        let high = digit_at(line, here);
-        if 15 < high {
-            break;
-        }
-        let low = digit_at(line, here + 1);
-        if 15 < low {
-            return Step::Stuck;
-        }
+    while let Some(high) = digit_at(line, here) {
+        let low = digit_at(line, here + 1)?;
         if bytes.len() <= size {
-            return Step::Stuck;
+            return None;
         }
         bytes[size] = high * 16 + low;
         size += 1;
         here += 2;
     }
-    Step::On { next: here, size }
+    Some(Step { next: here, size })
 }
 
-// The bytes from `from` to below `size` once more, from `here` on, and whether there is room for all of them.
-fn again(bytes: &mut [u8], from: usize, size: usize, here: usize) -> bool
+// The bytes from `from` to below `size` once more, from `here` on, as many as there is room for; and where they end, if
+// that is all of them.
+#[tactic(auto, using(crate::proofs::Stores::copied))]
+fn again(bytes: &mut [u8], from: usize, size: usize, here: usize) -> Option<usize>
     requires { (from < size) × (size ≤ here) × (here ≤ length bytes.old) }
-    ensures value { result ≡ leb (here + (size - from)) (length bytes.old) }
+    ensures value { EndMet (here + (size - from)) (length bytes.old) result }
     ensures bytes_after { bytes.new ≡ sets bytes.old here (slice from size bytes.old) }
 {
-    let mut back = from;
-    let mut to = here;
-    while back < size {
-        if bytes.len() <= to {
-            return false;
-        }
-        bytes[to] = bytes[back];
-        to += 1;
-        back += 1;
+    let room = (bytes.len() - here).min(size - from);
+    bytes.copy_within(from..from + room, here);
+    if room < size - from {
+        return None;
     }
-    true
+    Some(here + room)
 }
 
 // The bytes from `from` to below `size`, that often in all. `next` is where the line goes on.
-fn repeat(bytes: &mut [u8], from: usize, size: usize, times: u64, next: usize) -> Step
+#[tactic(auto, using(crate::proofs::Stores::repeats))]
+fn repeat(bytes: &mut [u8], from: usize, size: usize, times: u64, next: usize) -> Option<Step>
     requires { (from < size) × (size ≤ length bytes.old) }
     ensures { repeated bytes.old from size times next ≡ (result, bytes.new) }
 {
     if times == 0 {
-        return Step::On { next, size: from };
+        return Some(Step { next, size: from });
     }
-    let mut left = times - 1;
     let mut here = size;
-    while 0 < left {
-        if !again(bytes, from, size, here) {
-            return Step::Stuck;
-        }
-        here += size - from;
-        left -= 1;
+    for _ in 1..times {
+        here = again(bytes, from, size, here)?;
     }
-    Step::On { next, size: here }
+    Some(Step { next, size: here })
 }
 
 // The group at `at`, in `bytes` from `from` on.
-fn group(line: &[u8], at: usize, bytes: &mut [u8], from: usize) -> Step
+fn group(line: &[u8], at: usize, bytes: &mut [u8], from: usize) -> Option<Step>
     requires { (digit_at line.now at < 16) × (from ≤ length bytes.old) }
     ensures { group_at line.now at bytes.old from ≡ (result, bytes.new) }
 {
-    match take_bytes(line, at, bytes, from) {
-        Step::Stuck => Step::Stuck,
-        Step::On { next, size } => match times(line, next) {
-            Scanned::NoNumber => Step::Stuck,
-            Scanned::Number { value, next: end } => repeat(bytes, from, size, value, end),
-        },
-    }
+    let once = take_bytes(line, at, bytes, from)?;
+    let often = times(line, once.next)?;
+    repeat(bytes, from, once.size, often.value, often.next)
 }
 
 // The groups from `at` on, a space before each, from the first of the bytes on. A group is bytes, two hexadecimal
 // digits each; `*` and a number after them say how often they are there.
-pub fn groups(line: &[u8], at: usize, bytes: &mut [u8]) -> Step
+pub fn groups(line: &[u8], at: usize, bytes: &mut [u8]) -> Option<Step>
     ensures { groups_of line.now at bytes.old ≡ (result, bytes.new) }
 {
-    let mut here = at;
-    let mut held: usize = 0;
-    while stands(line, here, b' ') {
-        if 15 < digit_at(line, here + 1) {
-            break;
-        }
-        match group(line, here + 1, bytes, held) {
-            Step::Stuck => {
-                return Step::Stuck;
-            }
-            Step::On { next, size } => {
-                here = next;
-                held = size;
-            }
-        }
+    let mut held = Step { next: at, size: 0 };
+    while stands(line, held.next, b' ') && digit_at(line, held.next + 1).is_some() {
+        held = group(line, held.next + 1, bytes, held.size)?;
     }
-    Step::On {
-        next: here,
-        size: held,
+    Some(held)
+}
+
+// ---- what is lent
+
+// What a slice that is lent to a call consists of: bytes, or the numbers of a table.
+pub trait Lent: Copy {
+    ghost filled: { ℕ → Self };
+
+    ghost counted: { ℕ → Self → ℕ };
+
+    // What stands at the place i before a call.
+    fn filling(i: usize) -> Self
+        ensures { result ≡ filled i };
+
+    // Whether it is what stood at the place i.
+    fn stayed(self, i: usize) -> bool
+        ensures { IsTrue result ↔ (self ≡ filled i) };
+
+    // The checksum s with this.
+    fn summed(self, s: u64) -> u64
+        ensures { result ≡ counted s self };
+}
+
+impl Lent for u8 {
+    ghost filled = { filling_at };
+
+    ghost counted = { sum_with };
+
+    #[tactic(auto, unfolding(crate::specs::Cases::filling_at))]
+    fn filling(i: usize) -> u8 {
+        ((i % 251 * 7 + 3) % 251) as u8
+    }
+
+    fn stayed(self, i: usize) -> bool {
+        self == u8::filling(i)
+    }
+
+    fn summed(self, s: u64) -> u64 {
+        summed(s, u64::from(self))
     }
 }
 
-// ---- lent bytes
+impl Lent for u64 {
+    ghost filled = { number_filling_at };
 
-// What the byte i is before a call.
-pub fn filling(i: usize) -> u8
-    ensures { result ≡ filling_at i }
-{
-    ((i % 251 * 7 + 3) % 251) as u8
-}
+    ghost counted = { sum_with_number };
 
-pub fn fill(bytes: &mut [u8])
-    ensures { Filled bytes.new 0 }
-{
-    let mut i = 0;
-    while i < bytes.len() {
-        bytes[i] = filling(i);
-        i += 1;
+    #[tactic(auto, unfolding(crate::specs::Cases::number_filling_at))]
+    fn filling(i: usize) -> u64 {
+        0xb1a0_0000_0000_0000 + i as u64 % 0x1_0000_0000
+    }
+
+    fn stayed(self, i: usize) -> bool {
+        self == u64::filling(i)
+    }
+
+    fn summed(self, s: u64) -> u64 {
+        summed(summed(s, self / 0x1_0000_0000), self)
     }
 }
 
-// Whether the bytes from `from` on are as they were.
-pub fn unchanged(bytes: &[u8], from: usize) -> bool
-    ensures { UnchangedMet bytes.now from result }
+pub fn fill<L: Lent>(lent: &mut [L])
+    ensures { Filled L.filled lent.new 0 }
 {
-    let mut i = from;
-    while i < bytes.len() {
-        if bytes[i] != filling(i) {
-            return false;
-        }
-        i += 1;
+    for (i, x) in lent.iter_mut().enumerate() {
+        *x = L::filling(i);
     }
-    true
+}
+
+// Whether all from `from` on is as it was.
+pub fn unchanged<L: Lent>(lent: &[L], from: usize) -> bool
+    ensures { UnchangedMet L.filled lent.now from result }
+{
+    lent.iter().enumerate().skip(from).all(|(i, x)| x.stayed(i))
 }
 
 // The checksum s with 32 bits more, below 2^31 - 1.
-pub fn summed(s: u64, bits: u64) -> u64
+#[tactic(auto, unfolding(crate::specs::Cases::sum_with))]
+fn summed(s: u64, bits: u64) -> u64
     ensures { result ≡ sum_with s bits }
 {
     (s % 0x7fff_ffff * 1_000_003 + bits % 0x1_0000_0000) % 0x7fff_ffff
 }
 
-// The checksum of the bytes.
-pub fn sum(bytes: &[u8]) -> u64
-    ensures { result ≡ sum_from 7 bytes.now }
+// The checksum of what is lent.
+#[tactic(auto, using(crate::proofs::Laws::sum_is))]
+pub fn sum<L: Lent>(lent: &[L]) -> u64
+    ensures { result ≡ sum_from L.counted 7 lent.now }
 {
-    let mut s: u64 = 7;
-    let mut i = 0;
-    while i < bytes.len() {
-        s = summed(s, wire::wide(bytes[i]));
-        i += 1;
+    lent.iter().fold(7, |s, x| x.summed(s))
+}
+
+// A lent slice after a call: its checksum, and `ok` where all from `from` on is as it was.
+#[derive(Clone, Copy)]
+pub struct After<'a, L> {
+    pub lent: &'a [L],
+    pub from: usize,
+}
+
+impl<L: Lent> fmt::Display for After<'_, L> {
+    fn fmt<W: fmt::Write>(&self, f: &mut fmt::Formatter<W>) -> fmt::Result {
+        write!(f, "{}", sum(self.lent))?;
+        if unchanged(self.lent, self.from) {
+            write!(f, " ok")?;
+        }
+        Ok(())
     }
-    s
+}
+
+// Bytes in hexadecimal digits.
+#[derive(Clone, Copy)]
+pub struct Hex<'a>(pub &'a [u8]);
+
+impl fmt::Display for Hex<'_> {
+    fn fmt<W: fmt::Write>(&self, f: &mut fmt::Formatter<W>) -> fmt::Result {
+        for b in self.0 {
+            write!(f, "{b:02x}")?;
+        }
+        Ok(())
+    }
 }

@@ -14,8 +14,9 @@ use Rattle.scalar.specs.declared.Encoding.{Encoding}
 use Rattle.scalar.specs.Scalars.{units, string_at, shortest_string}
 use Rattle.scalar.specs.Answers.{content_read, sized_form}
 use Rattle.scalar.proofs.AnswerLaws.{sized_fault, sized_both, sized_other_units, sized_other_bytes}
-use Rattle.writer.specs.declared.puts.Put.{Put}
-use Rattle.writer.specs.declared.puts.Put.TheVariants as put
+use Rattle.std.specs.Prelude.{Result, Ok, Err}
+use Rattle.writer.specs.declared.size.Size.{Size}
+use Rattle.writer.specs.declared.progress.NoRecord.{NoRecord}
 use Rattle.writer.specs.Promises.{PutMet, ContentAt, StringMet}
 
 module _ (k : Encoding) (m : List ℕ) (p u b : ℕ) where
@@ -54,8 +55,8 @@ module _ (k : Encoding) (m : List ℕ) (p u b : ℕ) where
           (λ y. none_there (sized_other_bytes k m p u b n cs es c q (eqb-false (length cs) b y))))
           (λ x. none_there (sized_other_units k m p u b n cs es c q (eqb-false (units k cs) u x)))
 
-  pub string_put : (out : List ℕ) (s : ℕ) (r : Put) (out' : List ℕ) → PutMet (sized_form k m p u b) out s r out'
-      → StringMet k m p u b out s r out'
-  string_put out s (put.Done n) out' y = let z = opened y.says.0 y.says.1 in
+  pub string_put : (out : List ℕ) (s : ℕ) (r : Result Size NoRecord) (out' : List ℕ)
+      → PutMet (sized_form k m p u b) out s r out' → StringMet k m p u b out s r out'
+  string_put out s (Ok n) out' y = let z = opened y.says.0 y.says.1 in
       record { says = (z.0, y.says.0, z.1, sym (form z.0 z.1) ∙ y.says.1, y.says.2) }
-  string_put out s put.NoRecord out' y = record { says = λ cs z. sym (form cs z) ∙ y.says }
+  string_put out s (Err e) out' y = record { says = λ cs z. sym (form cs z) ∙ y.says }

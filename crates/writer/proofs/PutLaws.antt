@@ -8,13 +8,15 @@ use lib.ListN.{length, set, length-append}
 use Rattle.flow.specs.Tests.{split}
 use Rattle.flow.specs.Flow.{stored, Report, reported}
 use Rattle.flow.specs.OverlayLaws.{stored_out, stored_sets, length_stored, stored_seam}
-use Rattle.scalar.specs.declared.Written.{Written}
-use Rattle.scalar.specs.declared.Written.TheVariants.{Stored, NoRoom, NoSuchForm}
+use Rattle.std.specs.Prelude.{Result, Ok, Err}
+use Rattle.scalar.specs.declared.Unwritten.{Unwritten}
+use Rattle.scalar.specs.declared.Unwritten.TheVariants.{NoRoom, NoSuchForm}
 use Rattle.scalar.specs.Answers.{report, report_of, output_of}
 use Rattle.scalar.proofs.AnswerLaws.{report_none, report_stored, report_over, output_some}
-use Rattle.writer.specs.declared.puts.Put.{Put}
-use Rattle.writer.specs.declared.puts.Put.TheVariants as put
-use Rattle.writer.specs.Promises.{Puts, put_of, PutMet, over_longest}
+use Rattle.writer.specs.declared.size.Size.{Size}
+use Rattle.writer.specs.declared.progress.NoRecord.{NoRecord}
+use Rattle.writer.specs.Lent.{over_longest}
+use Rattle.writer.specs.Promises.{Puts, PutBy, PutMet}
 
 pub puts_none : (out : List ℕ) (s : ℕ) → s ≤ over_longest → Puts out s [] out s
 puts_none out s h = record { grows = omega arith; same = refl; holds = λ i l. sym (stored_sets out s [] i) }
@@ -46,13 +48,6 @@ module _ {out out' : List ℕ} {s b r : ℕ} (g : r ≡ min (s + 1) over_longest
   puts_out h e = puts_stored (e ∙ sym (stored_out out s (b ∷ []) (omega arith))) g
 
 -- ---- a form, by what was reported of it
-module _ (a : Written) (s m n r : ℕ) (g : r ≡ min (s + m) over_longest) (q : m ≡ n) where
-  pub stored_counts : a ≡ Stored n → put.Done r ≡ put_of a s
-  stored_counts e = rw (e, g, q)
-
-  pub over_counts : a ≡ NoRoom n → put.Done r ≡ put_of a s
-  over_counts e = rw (e, g, q)
-
 told : (w : List ℕ) (len at : ℕ) → ((report_of (some w) len at).number ≡ 10 → ⊥)
     × ((report_of (some w) len at).count ≡ length w)
 told w len at = split len (at + length w)
@@ -60,21 +55,29 @@ told w len at = split len (at + length w)
     (λ h. rw (report_stored len at w h) ((λ z. omega arith), refl))
 
 module _ (out : List ℕ) (s : ℕ) (out' : List ℕ) where
-  none_put : (a : Written) → report a ≡ reported 10 0 → PutMet none out s (put_of a s) out'
-  none_put (Stored n) t = let z : ◌≡◌ {A = ℕ} 0 10 = ap (λ (x : Report). x.number) t in absurd (omega arith)
-  none_put (NoRoom n) t = let z : ◌≡◌ {A = ℕ} 9 10 = ap (λ (x : Report). x.number) t in absurd (omega arith)
-  none_put NoSuchForm t = record { says = refl }
+  none_put : (a : Result ℕ Unwritten) (r : Result Size NoRecord) → report a ≡ reported 10 0 → PutBy a s r
+      → PutMet none out s r out'
+  none_put (Ok n) r t p = let z : ◌≡◌ {A = ℕ} 0 10 = ap (λ (x : Report). x.number) t in absurd (omega arith)
+  none_put (Err (NoRoom n)) r t p = let z : ◌≡◌ {A = ℕ} 9 10 = ap (λ (x : Report). x.number) t in absurd (omega arith)
+  none_put (Err NoSuchForm) (Ok x) t p = absurd p
+  none_put (Err NoSuchForm) (Err e) t p = record { says = refl }
 
   module _ (w : List ℕ) (f : out' ≡ stored out s w) where
-    bytes_put : (n : ℕ) → n ≡ length w → PutMet (some w) out s (put.Done (min (s + n) over_longest)) out'
-    bytes_put n e = record { says = (w, refl, puts_stored f (ap (λ (n : ℕ). min (s + n) over_longest) e)) }
+    bytes_put : (n : ℕ) → n ≡ length w → (x : Size) → x.bytes ≡ min (s + n) over_longest
+        → PutMet (some w) out s (Ok x) out'
+    bytes_put n e x g =
+        record { says = (w, refl, puts_stored f (g ∙ ap (λ (n : ℕ). min (s + n) over_longest) e)) }
 
-    some_put : (a : Written) → report a ≡ report_of (some w) (length out) s → PutMet (some w) out s (put_of a s) out'
-    some_put (Stored n) t = bytes_put n (ap (λ (x : Report). x.count) t ∙ (told w (length out) s).1)
-    some_put (NoRoom n) t = bytes_put n (ap (λ (x : Report). x.count) t ∙ (told w (length out) s).1)
-    some_put NoSuchForm t = absurd ((told w (length out) s).0 (ap (λ (x : Report). x.number) (sym t)))
+    some_put : (a : Result ℕ Unwritten) (r : Result Size NoRecord) → report a ≡ report_of (some w) (length out) s
+        → PutBy a s r → PutMet (some w) out s r out'
+    some_put (Ok n) (Ok x) t p = bytes_put n (ap (λ (x : Report). x.count) t ∙ (told w (length out) s).1) x p
+    some_put (Ok n) (Err e) t p = absurd p
+    some_put (Err (NoRoom n)) (Ok x) t p =
+        bytes_put n (ap (λ (x : Report). x.count) t ∙ (told w (length out) s).1) x p
+    some_put (Err (NoRoom n)) (Err e) t p = absurd p
+    some_put (Err NoSuchForm) r t p = absurd ((told w (length out) s).0 (ap (λ (x : Report). x.number) (sym t)))
 
-  pub form_put : (o : Option (List ℕ)) (a : Written) (r : Put)
-      → (report a ≡ report_of o (length out) s) × (out' ≡ output_of o out s) → r ≡ put_of a s → PutMet o out s r out'
-  form_put none a r t e = rw e (none_put a (t.0 ∙ report_none (length out) s))
-  form_put (some w) a r t e = rw e (some_put w (t.1 ∙ output_some out s w) a t.0)
+  pub form_put : (o : Option (List ℕ)) (a : Result ℕ Unwritten) (r : Result Size NoRecord)
+      → (report a ≡ report_of o (length out) s) × (out' ≡ output_of o out s) → PutBy a s r → PutMet o out s r out'
+  form_put none a r t p = none_put a r (t.0 ∙ report_none (length out) s) p
+  form_put (some w) a r t p = some_put w (t.1 ∙ output_some out s w) a r t.0 p

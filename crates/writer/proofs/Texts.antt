@@ -1,5 +1,5 @@
 -- A row of a text: the item that it claims, by what was put of it.
-use mathlib.Core.Path.{◌≡◌, refl, subst}
+use mathlib.Core.Path.{◌≡◌, refl}
 use mathlib.Core.List.{List}
 use mathlib.Core.Option.{Option, none, some}
 use Prim.Native.Nat.{ℕ}
@@ -14,20 +14,21 @@ use Rattle.scalar.specs.Answers.{content_read}
 use Rattle.record.specs.Laws.Claimed.{item_at}
 use Rattle.record.proofs.ForWriter.RowItems.{OfText, text_lost, text_item, text_other_units, text_other_length}
 use Rattle.record.specs.declared.Row as code
-use Rattle.writer.specs.declared.puts.Put.{Put}
-use Rattle.writer.specs.declared.puts.Put.TheVariants as put
+use Rattle.std.specs.Prelude.{Ok, Err}
+use Rattle.writer.specs.declared.size.Size.{Size}
+use Rattle.writer.specs.declared.progress.NoRecord.{NoRecord}
 use Rattle.record.specs.Laws.RowLaws.{row_of}
 use Rattle.record.specs.Model.Claims.{content_at}
-use Rattle.writer.specs.Promises.{Puts, ContentAt, StringSays, StringMet}
+use Rattle.writer.specs.Promises.{Puts, ContentAt, StringMet}
 
 -- the row claims the item f of a content, whose shortest form is put
 pub record TextPut (f : List ℕ → Item) (source : List ℕ) (r : code.Row) (out : List ℕ) (s : ℕ) (out' : List ℕ)
-    (s' : ℕ) : Type 0 where
+    (s' : Size) : Type 0 where
   pub content : List ℕ
   pub written : List ℕ
   pub item : item_at (content_at source) (row_of r) ≡ some (f content)
   pub form : shortest_text content ≡ some written
-  pub puts : Puts out s written out' s'
+  pub puts : Puts out s written out' s'.bytes
 
 module _ {kind : ℕ} {f : List ℕ → Item} (t : OfText kind f) (source : List ℕ) (r : code.Row) (h : r.kind ≡ kind) where
   abbrev TextHere : List ℕ → Type 0
@@ -59,16 +60,14 @@ module _ {kind : ℕ} {f : List ℕ → Item} (t : OfText kind f) (source : List
       → ((cs : List ℕ) → item_at (content_at source) (row_of r) ≡ some (f cs) → P) → P
   text_either g k = opened_or_none g (λ cs z. k cs (opened_item cs z))
 
-  module _ {out : List ℕ} {s : ℕ} {p : Put} {out' : List ℕ}
-      (y : StringMet Utf8 source r.place r.first r.second out s p out') where
-    says : (q : Put) → p ≡ q → StringSays Utf8 source r.place r.first r.second out s q out'
-    says q e = subst (λ (p : Put). StringSays Utf8 source r.place r.first r.second out s p out') e y.says
-
-    pub text_put : (s' : ℕ) → p ≡ put.Done s' → TextPut f source r out s out' s'
-    text_put s' e = let z = says (put.Done s') e in
+  module _ {out : List ℕ} {s : ℕ} {out' : List ℕ} where
+    pub text_put : {s' : Size} → StringMet Utf8 source r.place r.first r.second out s (Ok s') out'
+        → TextPut f source r out s out' s'
+    text_put y = let z = y.says in
         record { content = z.0; written = z.1; item = opened_item z.0 z.2; form = z.3; puts = z.4 }
 
     -- none is put: the row claims no item, or one whose content has no form
-    pub text_not : p ≡ put.NoRecord → {P : Type 0} → (item_at (content_at source) (row_of r) ≡ none → P)
+    pub text_not : {n : NoRecord} → StringMet Utf8 source r.place r.first r.second out s (Err n) out'
+        → {P : Type 0} → (item_at (content_at source) (row_of r) ≡ none → P)
         → ((cs : List ℕ) → item_at (content_at source) (row_of r) ≡ some (f cs) → shortest_text cs ≡ none → P) → P
-    text_not e g k = opened_or_none g (λ cs z. k cs (opened_item cs z) (says put.NoRecord e cs z))
+    text_not y g k = opened_or_none g (λ cs z. k cs (opened_item cs z) (y.says cs z))

@@ -1,15 +1,19 @@
 // Lists, maps and objects, up to the values inside. The laws of what is written of them are in record's
 // proofs/ForWriter/WrittenItems.antt.
-ghost use Rattle.std.specs.Prelude.{◌≡◌, ◌≤◌};
+ghost use Rattle.std.specs.Prelude.{◌≡◌};
 ghost use Rattle.record.specs.Model.Shortest.{object_code};
-ghost use Rattle.record.specs.Laws.KnownArray.{Kept};
 ghost use Rattle.writer.specs.Promises.{WritableIn, TurnIn, HolderKind, list_code, map_code, holder_code, PutMet};
-ghost use Rattle.writer.specs.Promises.{CountWritten, ListOrMapBegun, ObjectBegun, HolderBegun, over_longest};
+ghost use Rattle.writer.specs.Promises.{CountWritten, ListOrMapBegun, ObjectBegun, HolderBegun};
 
-use crate::progress::{Progress, Scope, Step, Turn};
-use crate::puts::Put;
-use record::kinds::{MAP, OBJECT};
-use record::known::{CLASSES_GIVEN, KNOWN, REFERENCES_GIVEN};
+use crate::progress::{NoRecord, Progress, Turn};
+use crate::puts::{put_byte, put_int};
+use crate::size::Size;
+use crate::table::Table;
+use crate::types::{has_type, put_type};
+use record::kinds::Kind;
+use record::known::Known;
+use record::limits::LISTS_OPEN_FROM;
+use record::tables::Cell;
 use record::{Contents, Row};
 
 // What a list, map or object holds, and where that begins.
@@ -19,18 +23,16 @@ pub(crate) struct Interior {
     pub at: Progress,
 }
 
-// How a value begins: it is written, and ends there; what it holds is to follow, with 5a after it where `closes`; or
-// there is no record.
+// How a value begins: it is written, and ends there; or what it holds is to follow, with 5a after it where `closes`.
 #[derive(Clone, Copy)]
 pub(crate) enum ValueStart {
     Past(Progress),
     Within { inside: Interior, closes: bool },
-    NoRecord,
 }
 
 // The code of a list of so many elements.
-fn list_code(typed: bool, open_from: u64, count: u64) -> u8
-    ensures { result ≡ list_code typed open_from count }
+fn list_code(typed: bool, count: u64) -> u8
+    ensures { result ≡ list_code typed count }
 {
     if count < 8 {
         return if typed {
@@ -39,7 +41,7 @@ fn list_code(typed: bool, open_from: u64, count: u64) -> u8
             0x78 + count as u8
         };
     }
-    if count < open_from {
+    if count < LISTS_OPEN_FROM {
         return if typed { 0x56 } else { 0x58 };
     }
     if typed { 0x55 } else { 0x57 }
@@ -53,162 +55,119 @@ fn map_code(typed: bool) -> u8
 }
 
 // The code of the list or map of the row r.
-fn code_of(r: Row, open_from: u64) -> u8
-    ensures { result ≡ holder_code r open_from }
+fn code_of(r: Row) -> u8
+    ensures { result ≡ holder_code r }
 {
-    let typed = crate::types::has_type(r);
-    if r.kind < MAP {
-        return list_code(typed, open_from, r.first);
+    let typed = has_type(r);
+    if r.kind < Kind::Map as u64 {
+        return list_code(typed, r.first);
     }
     map_code(typed)
 }
 
 // The count of a list, where its form has one; its elements are to follow.
-fn put_count(out: &mut [u8], count: u64, at: Progress, open_from: u64) -> ValueStart
-    requires { at.size ≤ over_longest }
-    ensures { CountWritten out.old count at open_from result out.new }
+fn put_count(out: &mut [u8], count: u64, at: Progress) -> Result<ValueStart, NoRecord>
+    ensures { CountWritten out.old count at result out.new }
 {
     let contents = Contents::Elements(count);
     if count < 8 {
-        return ValueStart::Within {
+        return Ok(ValueStart::Within {
             inside: Interior { contents, at },
             closes: false,
-        };
+        });
     }
-    if open_from <= count {
-        return ValueStart::Within {
+    if LISTS_OPEN_FROM <= count {
+        return Ok(ValueStart::Within {
             inside: Interior { contents, at },
             closes: true,
-        };
+        });
     }
-    match crate::puts::put_int(out, count, at.size) {
-        Put::NoRecord => ValueStart::NoRecord,
-        Put::Done { size } => ValueStart::Within {
-            inside: Interior {
-                contents,
-                at: Progress {
-                    next: at.next,
-                    size,
-                },
-            },
-            closes: false,
-        },
-    }
+    let size = put_int(out, count, at.size)?;
+    let at = Progress { size, ..at };
+    Ok(ValueStart::Within {
+        inside: Interior { contents, at },
+        closes: false,
+    })
 }
 
 // The list or map of a row, which has its reference number; its type, if it has one, has the next row.
-fn put_list_or_map(
-    source: &[u8],
-    numbers: &[u64],
-    bytes: &[u8],
-    known: &mut [u64; KNOWN],
+fn put_list_or_map<C: Cell>(
+    table: &Table<C>,
+    known: &mut Known,
     out: &mut [u8],
     holder: Turn,
-    scope: Scope,
-) -> ValueStart
-    requires { WritableIn source.now numbers.now bytes.now known.old holder.at scope.rows }
-    ensures { ListOrMapBegun
-        source.now numbers.now bytes.now known.old out.old
-        holder scope
-        result known.new out.new }
+) -> Result<ValueStart, NoRecord>
+    requires { WritableIn table.now known.old holder.at }
+    ensures { ListOrMapBegun table.now known.old out.old holder result known.new out.new }
 {
     let row = holder.row;
-    let code = code_of(row, scope.open_from);
     let at = Progress {
-        next: holder.at.next,
-        size: crate::puts::put_byte(out, code, holder.at.size),
+        size: put_byte(out, code_of(row), holder.at.size),
+        ..holder.at
     };
-    let coded = Turn { row, at };
-    match crate::types::put_type(source, numbers, bytes, known, out, coded, scope.rows) {
-        Step::NoRecord => ValueStart::NoRecord,
-        Step::Done(end) => {
-            if row.kind < MAP {
-                return put_count(out, row.first, end, scope.open_from);
-            }
-            ValueStart::Within {
-                inside: Interior {
-                    contents: Contents::Couples(row.first),
-                    at: end,
-                },
-                closes: true,
-            }
-        }
+    let at = put_type(table, known, out, Turn { row, at })?;
+    if row.kind < Kind::Map as u64 {
+        return put_count(out, row.first, at);
     }
+    let contents = Contents::Couples(row.first);
+    Ok(ValueStart::Within {
+        inside: Interior { contents, at },
+        closes: true,
+    })
 }
 
 // The code of an object of this class.
-fn put_object_code(out: &mut [u8], class: u64, size: usize) -> Put
-    requires { size ≤ over_longest }
-    ensures { PutMet (object_code class) out.old size result out.new }
+fn put_object_code(out: &mut [u8], class: u64, size: Size) -> Result<Size, NoRecord>
+    ensures { PutMet (object_code class) out.old size.bytes result out.new }
 {
     if class < 16 {
-        let s = crate::puts::put_byte(out, 0x60 + class as u8, size);
-        return Put::Done { size: s };
+        return Ok(put_byte(out, 0x60 + class as u8, size));
     }
-    let at = crate::puts::put_byte(out, 0x4f, size);
-    crate::puts::put_int(out, class, at)
+    let coded = put_byte(out, 0x4f, size);
+    put_int(out, class, coded)
 }
 
 // The object of a row, which has its reference number; its fields begin at the next row.
-fn put_object(known: &[u64; KNOWN], out: &mut [u8], object: Turn) -> ValueStart
-    requires { Kept known.now × (object.at.size ≤ over_longest) }
+fn put_object(known: &Known, out: &mut [u8], object: Turn) -> Result<ValueStart, NoRecord>
     ensures { ObjectBegun known.now out.old object result out.new }
 {
     let class = object.row.first;
     let fields = object.row.second;
-    if known[CLASSES_GIVEN] <= class {
-        return ValueStart::NoRecord;
+    if known.fields_of(class) != Some(fields) {
+        return Err(NoRecord);
     }
-    let j = class as usize;
-    if known[j] != fields {
-        return ValueStart::NoRecord;
-    }
-    match put_object_code(out, class, object.at.size) {
-        Put::NoRecord => ValueStart::NoRecord,
-        Put::Done { size } => ValueStart::Within {
-            inside: Interior {
-                contents: Contents::Elements(fields),
-                at: Progress {
-                    next: object.at.next,
-                    size,
-                },
-            },
-            closes: false,
-        },
-    }
+    let size = put_object_code(out, class, object.at.size)?;
+    let contents = Contents::Elements(fields);
+    let at = Progress { size, ..object.at };
+    Ok(ValueStart::Within {
+        inside: Interior { contents, at },
+        closes: false,
+    })
 }
 
 // The list, map or object of a row, up to the values inside: it gets the next reference number.
-pub(crate) fn put_holder(
-    source: &[u8],
-    numbers: &[u64],
-    bytes: &[u8],
-    known: &mut [u64; KNOWN],
+pub(crate) fn put_holder<C: Cell>(
+    table: &Table<C>,
+    known: &mut Known,
     out: &mut [u8],
     holder: Turn,
-    scope: Scope,
-) -> ValueStart
-    requires { TurnIn source.now numbers.now bytes.now known.old holder scope.rows × HolderKind holder.row.kind }
-    ensures { HolderBegun
-        source.now numbers.now bytes.now known.old out.old
-        holder scope
-        result known.new out.new }
+) -> Result<ValueStart, NoRecord>
+    requires turn { TurnIn table.now known.old holder }
+    requires kind { HolderKind holder.row.kind }
+    ensures { HolderBegun table.now known.old out.old holder result known.new out.new }
 {
-    known[REFERENCES_GIVEN] = known[REFERENCES_GIVEN] + 1;
+    known.references += 1;
     let row = holder.row;
-    let next = holder.at.next + 1;
     let at = Progress {
-        next,
-        size: holder.at.size,
+        next: holder.at.next + 1,
+        ..holder.at
     };
     let past = Turn { row, at };
-    if row.kind == OBJECT {
+    if row.kind == Kind::Object as u64 {
         return put_object(known, out, past);
     }
-    if row.kind % 2 == 1 {
-        if row.second != 0 {
-            return ValueStart::NoRecord;
-        }
+    if !has_type(row) && row.second != 0 {
+        return Err(NoRecord);
     }
-    put_list_or_map(source, numbers, bytes, known, out, past, scope)
+    put_list_or_map(table, known, out, past)
 }

@@ -9,146 +9,133 @@ pub(crate) mod names;
 pub(crate) mod progress;
 pub(crate) mod puts;
 pub(crate) mod rows;
+pub(crate) mod size;
+pub(crate) mod table;
 pub(crate) mod types;
 pub(crate) mod values;
 
-ghost use Rattle.std.specs.Prelude.{◌≡◌, ◌≤◌, length};
-ghost use Rattle.record.specs.Model.Answers.{base, base_open_from, shortest_of, as_numbers, as_bytes};
+ghost use Rattle.std.specs.Prelude.{◌≡◌};
+ghost use Rattle.record.specs.Model.Answers.{base, base_open_from, as_numbers, as_bytes};
 ghost use Rattle.record.specs.Model.Calls.{WriteCall};
-ghost use Rattle.record.specs.Model.Claims.{content_at};
+ghost use Rattle.writer.specs.declared.WriteError.TheVariants as errors;
 ghost use Rattle.writer.specs.Answers.{report};
-ghost use Rattle.writer.specs.Promises.{lent_in, rows_in, PutMet, WritesInto, WritesFrom};
+ghost use Rattle.writer.specs.Promises.{PutMet, WritesInto, shortest_in};
 
 use crate::holders::Interior;
-use crate::progress::{Progress, Scope, Step};
-use crate::puts::Put;
-use record::known::KNOWN;
-use record::limits::{CONTAINERS, LISTS_OPEN_FROM, LONGEST};
-use record::{Contents, ROW_BYTES, ROW_NUMBERS};
+use crate::progress::{NoRecord, Progress};
+use crate::size::Size;
+use crate::table::Table;
+use record::Contents;
+use record::known::Known;
+use record::limits::{CONTAINERS, LONGEST};
+use record::tables::Cell;
 
-// What writing a table comes to: the bytes written; the source, or the shortest message, is too long; the rows are no
-// record; the bytes needed, where fewer are lent.
-#[derive(Clone, Copy)]
-pub enum WriteAnswer {
-    Written { size: usize },
+// Why a table is not written.
+#[derive(Clone, Copy, PartialEq, Eq)]
+pub enum WriteError {
+    // The source, or the shortest message, is too long.
     TooLong,
+    // The rows are no record.
     NoRecord,
+    // Fewer bytes are lent than needed.
     TooFew { needed: usize },
 }
 
-// One run over the first n rows: whether they are a record, and how many bytes its shortest message takes, up to one
-// more than the longest message. It is stored where it fits.
-fn put_rows(
-    source: &[u8],
-    numbers: &[u64],
-    bytes: &[u8],
-    out: &mut [u8],
-    n: usize,
-    open_from: u64,
-) -> Put
-    requires { n ≤ lent_in numbers.now bytes.now }
-    ensures { PutMet
-        (shortest_of base open_from (content_at source.now)
-        (rows_in numbers.now bytes.now n))
-        out.old 0
-        result out.new }
+impl From<NoRecord> for WriteError {
+    ghost from_gives = { λ none error. error ≡ errors.NoRecord };
+
+    fn from(_none: NoRecord) -> WriteError {
+        WriteError::NoRecord
+    }
+}
+
+// One run over the rows: how many bytes their shortest message takes, up to one more than the longest message, if they
+// are a record. It is stored where it fits.
+fn put_rows<C: Cell>(table: &Table<C>, out: &mut [u8]) -> Result<Size, NoRecord>
+    ensures { PutMet (shortest_in table.now) out.old 0 result out.new }
 {
-    let mut known = [0u64; KNOWN];
+    let rows = table.rows;
+    let mut known = Known::new();
     let one = Interior {
         contents: Contents::Elements(1),
-        at: Progress { next: 0, size: 0 },
+        at: Progress {
+            next: 0,
+            size: Size { bytes: 0 },
+        },
     };
-    let scope = Scope {
-        rows: n,
-        allowed: CONTAINERS,
-        open_from,
-    };
-    match values::write_values(source, numbers, bytes, &mut known, out, one, scope) {
-        Step::NoRecord => Put::NoRecord,
-        Step::Done(end) => {
-            if end.next < n {
-                return Put::NoRecord;
-            }
-            Put::Done { size: end.size }
-        }
+    let end = values::write_values(table, &mut known, out, one, CONTAINERS)?;
+    if end.next < rows {
+        return Err(NoRecord);
     }
+    Ok(end.size)
 }
 
-// Writes the first n rows, which are lent: judges and counts first, with no output, then stores, so that a refusal
-// stores nothing.
-fn write_rows(
-    source: &[u8],
-    numbers: &[u64],
-    bytes: &[u8],
-    out: &mut [u8],
-    n: usize,
-    open_from: u64,
-) -> WriteAnswer
-    requires { n ≤ lent_in numbers.now bytes.now }
-    ensures { WritesInto
-        (shortest_of base open_from (content_at source.now)
-        (rows_in numbers.now bytes.now n))
-        out.old
-        result out.new }
+// Writes the rows: judges and counts first, with no output, then stores, so that a refusal stores nothing.
+fn write_rows<C: Cell>(table: &Table<C>, out: &mut [u8]) -> Result<usize, WriteError>
+    ensures { WritesInto (shortest_in table.now) out.old result out.new }
 {
     let mut none: [u8; 0] = [];
-    match put_rows(source, numbers, bytes, &mut none, n, open_from) {
-        Put::NoRecord => WriteAnswer::NoRecord,
-        Put::Done { size } => {
-            if LONGEST < size {
-                return WriteAnswer::TooLong;
-            }
-            if out.len() < size {
-                return WriteAnswer::TooFew { needed: size };
-            }
-            put_rows(source, numbers, bytes, out, n, open_from);
-            WriteAnswer::Written { size }
-        }
+    let size = put_rows(table, &mut none)?.bytes;
+    if LONGEST < size {
+        return Err(WriteError::TooLong);
     }
+    if out.len() < size {
+        return Err(WriteError::TooFew { needed: size });
+    }
+    let _ = put_rows(table, out);
+    Ok(size)
 }
 
-// Writes the first `rows` rows of both tables, in which so many are lent.
-fn write_from(
+// Writes the first `rows` rows of a table.
+fn write_table<C: Cell>(
     source: &[u8],
-    numbers: &[u64],
-    bytes: &[u8],
-    out: &mut [u8],
-    lent: usize,
+    cells: &[C],
     rows: u64,
-    open_from: u64,
-) -> WriteAnswer
-    requires { lent ≡ lent_in numbers.now bytes.now }
-    ensures { WritesFrom
-        open_from source.now numbers.now bytes.now rows out.old
-        result out.new }
+    out: &mut [u8],
+) -> Result<usize, WriteError>
+    ensures { WriteCall base base_open_from C.layout
+        source.now (C.numbers cells.now) rows out.old
+        (report result) out.new }
 {
     if LONGEST < source.len() {
-        return WriteAnswer::TooLong;
+        return Err(WriteError::TooLong);
     }
-    if (lent as u64) < rows {
-        return WriteAnswer::NoRecord;
+    if (C::rows(cells) as u64) < rows {
+        return Err(WriteError::NoRecord);
     }
-    write_rows(source, numbers, bytes, out, rows as usize, open_from)
+    let rows = rows as usize;
+    let table = Table {
+        source,
+        cells,
+        rows,
+    };
+    write_rows(&table, out)
 }
 
 // Writes the first `rows` rows of a table of five numbers a row.
-pub fn write(source: &[u8], table: &[u64], rows: u64, output: &mut [u8]) -> WriteAnswer
+pub fn write(
+    source: &[u8],
+    table: &[u64],
+    rows: u64,
+    output: &mut [u8],
+) -> Result<usize, WriteError>
     ensures { WriteCall base base_open_from as_numbers
         source.now table.now rows output.old
         (report result) output.new }
 {
-    let lent = table.len() / ROW_NUMBERS;
-    let none: [u8; 0] = [];
-    write_from(source, table, &none, output, lent, rows, LISTS_OPEN_FROM)
+    write_table(source, table, rows, output)
 }
 
 // Writes the first `rows` rows of a table of 40 bytes a row, each number as eight bytes, the highest first.
-pub fn write_bytes(source: &[u8], table: &[u8], rows: u64, output: &mut [u8]) -> WriteAnswer
+pub fn write_bytes(
+    source: &[u8],
+    table: &[u8],
+    rows: u64,
+    output: &mut [u8],
+) -> Result<usize, WriteError>
     ensures { WriteCall base base_open_from as_bytes
         source.now table.now rows output.old
         (report result) output.new }
 {
-    let lent = table.len() / ROW_BYTES;
-    let none: [u64; 0] = [];
-    write_from(source, &none, table, output, lent, rows, LISTS_OPEN_FROM)
+    write_table(source, table, rows, output)
 }

@@ -1,19 +1,19 @@
 // Texts and byte strings that rows name by a place of the source.
-ghost use Rattle.std.specs.Prelude.{◌≡◌, ◌≤◌, length};
-ghost use Rattle.writer.specs.Promises.{lent_in, items_in, StringMet, NameWritten, NamesWritten, over_longest};
+ghost use Rattle.writer.specs.Promises.{items_of, Among, StringMet, NameWritten, NamesWritten};
 
-use crate::progress::Progress;
-use crate::puts::Put;
-use crate::rows::Fetched;
+use crate::progress::{NoRecord, Progress};
+use crate::rows::fetch;
+use crate::size::Size;
+use crate::table::Table;
 use record::Row;
-use record::kinds::FIELD_NAME;
+use record::kinds::Kind;
+use record::tables::Cell;
 use scalar::Encoding;
 
 // The text of the row r in its shortest form, if its place opens one of the row's sizes.
-pub(crate) fn put_text(source: &[u8], out: &mut [u8], r: Row, size: usize) -> Put
-    requires { size ≤ over_longest }
+pub(crate) fn put_text(source: &[u8], out: &mut [u8], r: Row, size: Size) -> Result<Size, NoRecord>
     ensures { StringMet
-        Encoding.Utf8 source.now r.place r.first r.second out.old size
+        Encoding.Utf8 source.now r.place r.first r.second out.old size.bytes
         result out.new }
 {
     let place = r.place as usize;
@@ -23,10 +23,9 @@ pub(crate) fn put_text(source: &[u8], out: &mut [u8], r: Row, size: usize) -> Pu
 }
 
 // The bytes of the row r likewise.
-pub(crate) fn put_bytes(source: &[u8], out: &mut [u8], r: Row, size: usize) -> Put
-    requires { size ≤ over_longest }
+pub(crate) fn put_bytes(source: &[u8], out: &mut [u8], r: Row, size: Size) -> Result<Size, NoRecord>
     ensures { StringMet
-        Encoding.Binary source.now r.place r.first r.first out.old size
+        Encoding.Binary source.now r.place r.first r.first out.old size.bytes
         result out.new }
 {
     let place = r.place as usize;
@@ -35,63 +34,39 @@ pub(crate) fn put_bytes(source: &[u8], out: &mut [u8], r: Row, size: usize) -> P
 }
 
 // The name that the next row gives, if it is of this kind.
-pub(crate) fn put_name(
-    source: &[u8],
-    numbers: &[u64],
-    bytes: &[u8],
+pub(crate) fn put_name<C: Cell>(
+    table: &Table<C>,
     out: &mut [u8],
-    kind: u64,
+    kind: Kind,
     at: Progress,
-    rows: usize,
-) -> Put
-    requires { (at.size ≤ over_longest) × (rows ≤ lent_in numbers.now bytes.now)
-        × (at.next ≤ length (items_in source.now numbers.now bytes.now rows)) }
-    ensures { NameWritten
-        source.now numbers.now bytes.now out.old
-        kind at rows
-        result out.new }
+) -> Result<Size, NoRecord>
+    requires { Among (items_of table.now) at.next }
+    ensures { NameWritten table.now out.old kind at result out.new }
 {
-    match crate::rows::fetch(numbers, bytes, rows, at.next) {
-        Fetched::End => Put::NoRecord,
-        Fetched::Row(r) => {
-            if r.kind != kind {
-                return Put::NoRecord;
-            }
-            put_text(source, out, r, at.size)
-        }
+    let row = fetch(table, at.next)?;
+    if row.kind != kind.number() {
+        return Err(NoRecord);
     }
+    put_text(table.source(), out, row, at.size)
 }
 
 // So many field names, from the next row on.
-pub(crate) fn put_field_names(
-    source: &[u8],
-    numbers: &[u64],
-    bytes: &[u8],
+pub(crate) fn put_field_names<C: Cell>(
+    table: &Table<C>,
     out: &mut [u8],
     count: u64,
     from: Progress,
-    rows: usize,
-) -> Put
-    requires { (from.size ≤ over_longest) × (rows ≤ lent_in numbers.now bytes.now)
-        × (from.next ≤ length (items_in source.now numbers.now bytes.now rows)) }
-    ensures { NamesWritten
-        source.now numbers.now bytes.now out.old
-        count from rows
-        result out.new }
+) -> Result<Size, NoRecord>
+    requires { Among (items_of table.now) from.next }
+    ensures { NamesWritten table.now out.old count from result out.new }
 {
     let mut at = from;
-    let mut i: u64 = 0;
-    while i < count {
-        match put_name(source, numbers, bytes, out, FIELD_NAME, at, rows) {
-            Put::NoRecord => {
-                return Put::NoRecord;
-            }
-            Put::Done { size } => {
-                let next = at.next + 1;
-                at = Progress { next, size };
-                i += 1;
-            }
-        }
+    for _ in 0..count {
+        let size = put_name(table, out, Kind::FieldName, at)?;
+        at = Progress {
+            next: at.next + 1,
+            size,
+        };
     }
-    Put::Done { size: at.size }
+    Ok(at.size)
 }

@@ -1,11 +1,16 @@
-// Where writing is, and what it keeps within.
+// Where writing is.
+use crate::size::Size;
 use record::Row;
+
+// The rows are no record.
+#[derive(Clone, Copy, PartialEq, Eq)]
+pub(crate) struct NoRecord;
 
 // The row that comes next, and how many bytes there are.
 #[derive(Clone, Copy)]
 pub(crate) struct Progress {
     pub next: usize,
-    pub size: usize,
+    pub size: Size,
 }
 
 // A row that is written, and where writing is.
@@ -13,20 +18,4 @@ pub(crate) struct Progress {
 pub(crate) struct Turn {
     pub row: Row,
     pub at: Progress,
-}
-
-// How many rows there are, how many more lists, maps and objects may open, and from how many elements on a list has
-// the open form.
-#[derive(Clone, Copy)]
-pub(crate) struct Scope {
-    pub rows: usize,
-    pub allowed: usize,
-    pub open_from: u64,
-}
-
-// Where writing is then; or there is no record.
-#[derive(Clone, Copy)]
-pub(crate) enum Step {
-    Done(Progress),
-    NoRecord,
 }

@@ -1,79 +1,54 @@
-// Bytes put behind those so far: stored where they fit, and counted. The count stops above the longest message, so that
-// it cannot overflow, whatever the rows claim.
-ghost use Rattle.std.specs.Prelude.{◌≡◌, [], ◌∷◌, ◌+◌, ◌≤◌, min};
+// Bytes put behind those so far: stored where they fit, and counted.
+ghost use Rattle.std.specs.Prelude.{[], ◌∷◌};
 ghost use Rattle.scalar.specs.declared.Sort.TheVariants as kinds;
 ghost use Rattle.scalar.specs.Scalars.{shortest, forms_of};
 ghost use Rattle.scalar.specs.Answers.{sized_form};
-ghost use Rattle.writer.specs.Promises.{Puts, put_of, PutMet, over_longest};
+ghost use Rattle.writer.specs.Promises.{Puts, PutBy, PutMet};
 
-use record::limits::LONGEST;
-use scalar::{Encoding, Sort, Written};
-
-// One more than the bytes of the longest message.
-const OVER: usize = LONGEST + 1;
-
-// How many bytes there are then; or there is no record.
-#[derive(Clone, Copy)]
-pub(crate) enum Put {
-    Done { size: usize },
-    NoRecord,
-}
-
-// So many bytes more.
-fn grown(size: usize, more: usize) -> usize
-    requires { size ≤ over_longest }
-    ensures { result ≡ min (size + more) over_longest }
-{
-    if OVER - size <= more {
-        return OVER;
-    }
-    size + more
-}
+use crate::progress::NoRecord;
+use crate::size::Size;
+use scalar::{Encoding, Sort, Unwritten};
 
 // One byte.
-pub(crate) fn put_byte(out: &mut [u8], b: u8, size: usize) -> usize
-    requires { size ≤ over_longest }
-    ensures { Puts out.old size (b ∷ []) out.new result }
+pub(crate) fn put_byte(out: &mut [u8], b: u8, size: Size) -> Size
+    ensures { Puts out.old size.bytes (b ∷ []) out.new result.bytes }
 {
-    if size < out.len() {
-        out[size] = b;
+    if size.bytes < out.len() {
+        out[size.bytes] = b;
     }
-    grown(size, 1)
+    size.grown(1)
 }
 
-// What was put, by what writing it came to.
-fn put_of(written: Written, size: usize) -> Put
-    requires { size ≤ over_longest }
-    ensures { result ≡ put_of written size }
+// How many bytes there are then, by what writing some came to: those that found no room count too.
+fn put_by(written: Result<usize, Unwritten>, size: Size) -> Result<Size, NoRecord>
+    ensures { PutBy written size.bytes result }
 {
-    let more = match written {
-        Written::NoSuchForm => return Put::NoRecord,
-        Written::Stored { size: n } => n,
-        Written::NoRoom { needed } => needed,
-    };
-    Put::Done {
-        size: grown(size, more),
+    match written {
+        Ok(more) => Ok(size.grown(more)),
+        Err(Unwritten::NoRoom { needed }) => Ok(size.grown(needed)),
+        Err(Unwritten::NoSuchForm) => Err(NoRecord),
     }
 }
 
 // ---- numbers
 
 // A number of this kind in its shortest form.
-pub(crate) fn put_number(out: &mut [u8], sort: Sort, value: u64, size: usize) -> Put
-    requires { size ≤ over_longest }
-    ensures { PutMet (shortest (forms_of sort) value) out.old size result out.new }
+pub(crate) fn put_number(
+    out: &mut [u8],
+    sort: Sort,
+    value: u64,
+    size: Size,
+) -> Result<Size, NoRecord>
+    ensures { PutMet (shortest (forms_of sort) value) out.old size.bytes result out.new }
 {
-    let written = numbers::write_number(sort, value, out, size);
-    put_of(written, size)
+    put_by(numbers::write_number(sort, value, out, size.bytes), size)
 }
 
 // An int in its shortest form.
-pub(crate) fn put_int(out: &mut [u8], value: u64, size: usize) -> Put
-    requires { size ≤ over_longest }
-    ensures { PutMet (shortest (forms_of kinds.Int) value) out.old size result out.new }
+pub(crate) fn put_int(out: &mut [u8], value: u64, size: Size) -> Result<Size, NoRecord>
+    ensures { PutMet (shortest (forms_of kinds.Int) value) out.old size.bytes result out.new }
 {
-    let written = numbers::write_number(Sort::Int, value, out, size);
-    put_of(written, size)
+    put_number(out, Sort::Int, value, size)
 }
 
 // ---- texts and byte strings
@@ -87,11 +62,12 @@ pub(crate) fn put_string(
     kind: Encoding,
     units: usize,
     bytes: usize,
-    size: usize,
-) -> Put
-    requires { size ≤ over_longest }
-    ensures { PutMet (sized_form kind source.now place units bytes) out.old size result out.new }
+    size: Size,
+) -> Result<Size, NoRecord>
+    ensures { PutMet (sized_form kind source.now place units bytes) out.old size.bytes result out.new }
 {
-    let written = text_writer::write_sized(kind, source, place, units, bytes, out, size);
-    put_of(written, size)
+    put_by(
+        text_writer::write_sized(kind, source, place, units, bytes, out, size.bytes),
+        size,
+    )
 }

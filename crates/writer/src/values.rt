@@ -1,28 +1,27 @@
 // Values: class definitions, a row, and the values inside. The laws of what is written of them are in record's
 // proofs/ForWriter/WrittenContents.antt and WrittenValues.antt.
-ghost use Rattle.std.specs.Prelude.{◌≡◌, ◌≤◌};
+ghost use Rattle.std.specs.Prelude.{◌≡◌};
 ghost use Rattle.record.specs.ForWriter.WrittenContents.{done};
 ghost use Rattle.writer.specs.Promises.{WritableIn, TurnIn, Puts, closing, RowBegun, ValueBegun};
-ghost use Rattle.writer.specs.Promises.{ValuesWritten, over_longest};
+ghost use Rattle.writer.specs.Promises.{ValuesWritten};
 
-use crate::definitions::Found;
-use crate::holders::{Interior, ValueStart};
-use crate::progress::{Progress, Scope, Step, Turn};
-use crate::puts::Put;
+use crate::definitions::put_definitions;
+use crate::holders::{Interior, ValueStart, put_holder};
+use crate::leaves::put_leaf;
+use crate::progress::{NoRecord, Progress, Turn};
+use crate::puts::put_byte;
+use crate::size::Size;
+use crate::table::Table;
 use record::Contents;
-use record::kinds::{LIST, OBJECT};
-use record::known::{KNOWN, REFERENCES_GIVEN};
+use record::kinds::Kind;
+use record::known::Known;
+use record::tables::Cell;
 
-// How a value begins, as in holders.rt; of a list, map or object also its fifth number.
+// How a value begins, and the fifth number of its row.
 #[derive(Clone, Copy)]
-pub(crate) enum Entered {
-    Past(Progress),
-    Within {
-        inside: Interior,
-        closes: bool,
-        after: u64,
-    },
-    NoRecord,
+pub(crate) struct Entered {
+    pub start: ValueStart,
+    pub after: u64,
 }
 
 // Whether no value is left after i of them.
@@ -36,143 +35,86 @@ fn finished(contents: Contents, i: u64) -> bool
 }
 
 // 5a, where it is due.
-fn close(out: &mut [u8], closes: bool, size: usize) -> usize
-    requires { size ≤ over_longest }
-    ensures { Puts out.old size (closing closes) out.new result }
+fn close(out: &mut [u8], closes: bool, size: Size) -> Size
+    ensures { Puts out.old size.bytes (closing closes) out.new result.bytes }
 {
     if closes {
-        return crate::puts::put_byte(out, 0x5a, size);
+        return put_byte(out, 0x5a, size);
     }
     size
 }
 
-// The value of a row, and all of it where it holds no others.
-fn begin_row(
-    source: &[u8],
-    numbers: &[u64],
-    bytes: &[u8],
-    known: &mut [u64; KNOWN],
+// The value of a row, and all of it where it holds no others. So many more lists, maps and objects may open.
+fn begin_row<C: Cell>(
+    table: &Table<C>,
+    known: &mut Known,
     out: &mut [u8],
     value: Turn,
-    scope: Scope,
-) -> ValueStart
-    requires { TurnIn source.now numbers.now bytes.now known.old value scope.rows }
-    ensures { RowBegun
-        source.now numbers.now bytes.now known.old out.old
-        value scope
-        result known.new out.new }
+    allowed: usize,
+) -> Result<ValueStart, NoRecord>
+    requires { TurnIn table.now known.old value }
+    ensures { RowBegun table.now known.old out.old value allowed result known.new out.new }
 {
     let row = value.row;
-    if row.kind < LIST || OBJECT < row.kind {
-        return match crate::leaves::put_leaf(
-            source,
-            out,
-            row,
-            known[REFERENCES_GIVEN],
-            value.at.size,
-        ) {
-            Put::NoRecord => ValueStart::NoRecord,
-            Put::Done { size } => {
-                let next = value.at.next + 1;
-                ValueStart::Past(Progress { next, size })
-            }
-        };
+    if row.kind < Kind::List as u64 || row.kind > Kind::Object as u64 {
+        let size = put_leaf(table.source(), out, row, known.references, value.at.size)?;
+        let next = value.at.next + 1;
+        return Ok(ValueStart::Past(Progress { next, size }));
     }
-    if scope.allowed == 0 {
-        return ValueStart::NoRecord;
+    if allowed == 0 {
+        return Err(NoRecord);
     }
-    crate::holders::put_holder(source, numbers, bytes, known, out, value, scope)
+    put_holder(table, known, out, value)
 }
 
 // The next value, with the definitions before it, up to the values inside.
-fn begin(
-    source: &[u8],
-    numbers: &[u64],
-    bytes: &[u8],
-    known: &mut [u64; KNOWN],
+fn begin<C: Cell>(
+    table: &Table<C>,
+    known: &mut Known,
     out: &mut [u8],
     at: Progress,
-    scope: Scope,
-) -> Entered
-    requires { WritableIn source.now numbers.now bytes.now known.old at scope.rows }
-    ensures { ValueBegun
-        source.now numbers.now bytes.now known.old out.old
-        at scope
-        result known.new out.new }
+    allowed: usize,
+) -> Result<Entered, NoRecord>
+    requires { WritableIn table.now known.old at }
+    ensures { ValueBegun table.now known.old out.old at allowed result known.new out.new }
 {
-    match crate::definitions::put_definitions(source, numbers, bytes, known, out, at, scope.rows) {
-        Found::NoRecord => Entered::NoRecord,
-        Found::Value(value) => match begin_row(source, numbers, bytes, known, out, value, scope) {
-            ValueStart::NoRecord => Entered::NoRecord,
-            ValueStart::Past(end) => Entered::Past(end),
-            ValueStart::Within { inside, closes } => Entered::Within {
-                inside,
-                closes,
-                after: value.row.after,
-            },
-        },
-    }
+    let value = put_definitions(table, known, out, at)?;
+    let start = begin_row(table, known, out, value, allowed)?;
+    let after = value.row.after;
+    Ok(Entered { start, after })
 }
 
 // Writes the values inside a list, map or object. The fifth number of each list, map or object among them is the row
 // after its values.
-pub(crate) fn write_values(
-    source: &[u8],
-    numbers: &[u64],
-    bytes: &[u8],
-    known: &mut [u64; KNOWN],
+pub(crate) fn write_values<C: Cell>(
+    table: &Table<C>,
+    known: &mut Known,
     out: &mut [u8],
     values: Interior,
-    scope: Scope,
-) -> Step
-    requires { WritableIn source.now numbers.now bytes.now known.old values.at scope.rows }
-    ensures { ValuesWritten
-        source.now numbers.now bytes.now known.old out.old
-        values scope
-        result known.new out.new }
+    allowed: usize,
+) -> Result<Progress, NoRecord>
+    requires { WritableIn table.now known.old values.at }
+    ensures { ValuesWritten table.now known.old out.old values allowed result known.new out.new }
 {
-    let contents = values.contents;
     let mut at = values.at;
     let mut i: u64 = 0;
-    loop {
-        if finished(contents, i) {
-            return Step::Done(at);
-        }
-        match begin(source, numbers, bytes, known, out, at, scope) {
-            Entered::NoRecord => {
-                return Step::NoRecord;
-            }
-            Entered::Past(end) => {
-                at = end;
-                i += 1;
-            }
-            Entered::Within {
-                inside,
-                closes,
-                after,
-            } => {
-                let allowed = scope.allowed - 1;
-                let below = Scope {
-                    rows: scope.rows,
-                    allowed,
-                    open_from: scope.open_from,
-                };
-                match write_values(source, numbers, bytes, known, out, inside, below) {
-                    Step::NoRecord => {
-                        return Step::NoRecord;
-                    }
-                    Step::Done(end) => {
-                        if end.next as u64 != after {
-                            return Step::NoRecord;
-                        }
-                        at = Progress {
-                            next: end.next,
-                            size: close(out, closes, end.size),
-                        };
-                        i += 1;
-                    }
+    // No range counts the values: twice the pairs may be more than 64 bits hold.
+    while !finished(values.contents, i) {
+        let entered = begin(table, known, out, at, allowed)?;
+        at = match entered.start {
+            ValueStart::Past(end) => end,
+            ValueStart::Within { inside, closes } => {
+                let end = write_values(table, known, out, inside, allowed - 1)?;
+                if end.next as u64 != entered.after {
+                    return Err(NoRecord);
+                }
+                Progress {
+                    size: close(out, closes, end.size),
+                    ..end
                 }
             }
-        }
+        };
+        i += 1;
     }
+    Ok(at)
 }

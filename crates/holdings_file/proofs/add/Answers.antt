@@ -1,33 +1,28 @@
 -- Each way out has its law in proofs/Calls.antt.
-use Rattle.holdings_file.proofs.Calls.{lent_enough, add_few, add_beyond, add_within}
+use Rattle.std.proofs.lemmas.Result.{err_from_is_err_and}
+use Rattle.holdings_file.proofs.Calls.{extended_file, add_unlent, add_beyond, add_faulty, add_within}
 use Rattle.holdings_file.proofs.add.Goals as goal
 
-pub returns-then-not-is_lent : goal.returns-then-not-is_lent
-returns-then-not-is_lent c = let args = c.args in
-    let is-lent = c.is_lent in
-    add_few args.file.now args.used args.«record».now args.rows.now args.bytes.now _
-    is-lent.ensures c.if-not-is_lent.true
+pub returns-in_default : goal.returns-in_default
+returns-in_default c = let args = c.args in
+    add_unlent args.file.now args.used args.«record».now args.rows.now args.bytes.now c.in_default.ensures
 
-pub returns-then-file-used : goal.returns-then-file-used
-returns-then-file-used c = let args = c.args in
-    let is-lent = c.is_lent in
-    let if1 = c.if-not-is_lent in
-    add_beyond args.file.now args.used args.«record».now args.rows.now args.bytes.now _
-    is-lent.ensures if1.false c.if-file-used.true
+pub returns-in_err-used : goal.returns-in_err-used
+returns-in_err-used c = let args = c.args in
+    let p = err_from_is_err_and c.from_residual.result c.from_residual.ensures.1 in
+    rw (p.1, p.2) (add_beyond args.file.now args.used args.«record».now args.rows.now args.bytes.now c.in-Some.ensures _
+    c.in_err-used.ensures)
 
-pub add_used-requires : goal.add_used-requires
-add_used-requires c = let args = c.args in
-    let is-lent = c.is_lent in
-    let if1 = c.if-not-is_lent in
-    let if2 = c.if-file-used in (
-      lent_enough args.rows.now args.bytes.now _ is-lent.ensures if1.false,
-      if2.false,
-    )
+pub returns-in_err-count : goal.returns-in_err-count
+returns-in_err-count c = let args = c.args in
+    let p = err_from_is_err_and c.from_residual-in_err-count.result c.from_residual-in_err-count.ensures.1 in
+    rw (p.1, p.2) (add_faulty args.file.now args.used args.«record».now args.rows.now args.bytes.now c.in-Some.ensures _
+    c.in_ok-used.ensures _ c.check_to_extend.new.index c.in_err-count.ensures)
+
+pub add_record-requires : goal.add_record-requires
+add_record-requires c = extended_file c.args.file.now c.args.used _ c.in_ok-used.ensures _ _ c.in_ok-count.ensures
 
 pub returns : goal.returns
 returns c = let args = c.args in
-    let is-lent = c.is_lent in
-    let if1 = c.if-not-is_lent in
-    let add-used = c.add_used in
-    add_within args.file.now args.used args.«record».now args.rows.now args.bytes.now _
-    is-lent.ensures if1.false add-used.result _ add-used.ensures
+    add_within args.file.now args.used args.«record».now args.rows.now args.bytes.now c.in-Some.ensures _
+    c.in_ok-used.ensures c.in_ok-count.count _ _ c.add_record.new.index c.add_record.ensures

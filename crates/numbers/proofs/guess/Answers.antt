@@ -10,7 +10,7 @@ pub returns-in-Plain : goal.returns-in-Plain
 returns-in-Plain c = rw (c.in-Plain.is, guess_plain)
 
 pub returns-in-Offset : goal.returns-in-Offset
-returns-in-Offset c = rw (c.in-Offset.is, guess_offset) c.wrapping_add_u64.ensures.value
+returns-in-Offset c = rw (c.in-Offset.is, guess_offset)
 
 pub returns-in-Signed : goal.returns-in-Signed
 returns-in-Signed c = rw (c.in-Signed.is, guess_signed)

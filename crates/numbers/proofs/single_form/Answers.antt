@@ -10,7 +10,7 @@ use Rattle.numbers.proofs.single_form.Goals as goal
 pub returns-then-b-code : goal.returns-then-b-code
 returns-then-b-code c = let a = c.args in
     let here = within_yes a.code (a.code + 1) a.b (omega arith) (omega arith) in
-    starts (omega arith) ∙ sym (form_here (form a.code 1 0 (Exactly a.value)) [] a.b here)
+    c.begun.ensures ∙ starts (omega arith) ∙ sym (form_here (form a.code 1 0 (Exactly a.value)) [] a.b here)
 
 pub returns-else-b-code : goal.returns-else-b-code
 returns-else-b-code c = no_form _ _ (search rules)

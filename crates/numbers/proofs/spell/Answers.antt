@@ -4,13 +4,13 @@ use Rattle.numbers.proofs.Writing.{last_found}
 use Rattle.numbers.proofs.spell.Goals as goal
 
 pub returns-in-Null : goal.returns-in-Null
-returns-in-Null c = rw (c.in-Null.is, forms_null) (last_found _ _ c.try_exactly.ensures)
+returns-in-Null c = rw (c.in-Null.is, forms_null) (last_found _ _ c.try_form.ensures)
 
 pub returns-in-False : goal.returns-in-False
-returns-in-False c = rw (c.in-False.is, forms_false) (last_found _ _ c.try_exactly-in-False.ensures)
+returns-in-False c = rw (c.in-False.is, forms_false) (last_found _ _ c.try_form-in-False.ensures)
 
 pub returns-in-True : goal.returns-in-True
-returns-in-True c = rw (c.in-True.is, forms_true) (last_found _ _ c.try_exactly-in-True.ensures)
+returns-in-True c = rw (c.in-True.is, forms_true) (last_found _ _ c.try_form-in-True.ensures)
 
 pub returns-in-Int : goal.returns-in-Int
 returns-in-Int c = rw c.in-Int.is c.spell_int.ensures

@@ -1,34 +1,21 @@
 -- Each form that was tried before is passed over.
+use Rattle.std.proofs.Common.{[], ◌∷◌, rules}
+use Rattle.scalar.specs.declared.Rule.TheVariants.{Exactly, WholeByte, WholePair, Float}
+use Rattle.scalar.specs.Scalars.{form}
 use Rattle.scalar.proofs.FormLaws.{forms_double}
-use Rattle.numbers.proofs.Writing.{first_found, passed_over, added_second}
+use Rattle.numbers.proofs.Writing.{last_found, tried_after, plain_after}
 use Rattle.numbers.proofs.spell_double.Goals as goal
 
-pub returns-then-found : goal.returns-then-found
-returns-then-found c = rw forms_double
-    (first_found _ _ _ c.try_exactly-zero.ensures c.found.ensures c.if-found.true)
-
-pub returns-then-found-2 : goal.returns-then-found-2
-returns-then-found-2 c = rw forms_double
-    (passed_over _ _ _ c.try_exactly-zero.ensures c.found.ensures c.if-found.false
-    (first_found _ _ _ c.try_exactly-one.ensures c.found-2.ensures c.if-found-2.true))
-
-pub returns-then-found-3 : goal.returns-then-found-3
-returns-then-found-3 c = rw forms_double
-    (passed_over _ _ _ c.try_exactly-zero.ensures c.found.ensures c.if-found.false
-    (passed_over _ _ _ c.try_exactly-one.ensures c.found-2.ensures c.if-found-2.false
-    (first_found _ _ _ c.try_byte-two.ensures c.found-3.ensures c.if-found-3.true)))
-
-pub returns-then-found-4 : goal.returns-then-found-4
-returns-then-found-4 c = rw forms_double
-    (passed_over _ _ _ c.try_exactly-zero.ensures c.found.ensures c.if-found.false
-    (passed_over _ _ _ c.try_exactly-one.ensures c.found-2.ensures c.if-found-2.false
-    (passed_over _ _ _ c.try_byte-two.ensures c.found-3.ensures c.if-found-3.false
-    (first_found _ _ _ c.try_pair-three.ensures c.found-4.ensures c.if-found-4.true))))
-
 pub returns : goal.returns
-returns c = rw forms_double
-    (passed_over _ _ _ c.try_exactly-zero.ensures c.found.ensures c.if-found.false
-    (passed_over _ _ _ c.try_exactly-one.ensures c.found-2.ensures c.if-found-2.false
-    (passed_over _ _ _ c.try_byte-two.ensures c.found-3.ensures c.if-found-3.false
-    (passed_over _ _ _ c.try_pair-three.ensures c.found-4.ensures c.if-found-4.false
-    (added_second _ _ _ c.try_float.ensures c.or_plain.ensures)))))
+returns c =
+    let zero = form 0x5b 1 0 (Exactly 0) in
+    let one = form 0x5c 1 0 (Exactly 0x3ff0_0000_0000_0000) in
+    let byte = form 0x5d 1 1 WholeByte in
+    let pair = form 0x5e 1 2 WholePair in
+    let float = form 0x5f 1 4 Float in
+    let first = last_found zero _ c.try_form.ensures in
+    let two = tried_after (zero ∷ []) one _ _ _ first c.or_else.ensures (λ p. search rules) in
+    let three = tried_after (zero ∷ one ∷ []) byte _ _ _ two c.or_else-2.ensures (λ p. search rules) in
+    let four = tried_after (zero ∷ one ∷ byte ∷ []) pair _ _ _ three c.or_else-3.ensures (λ p. search rules) in
+    let five = tried_after (zero ∷ one ∷ byte ∷ pair ∷ []) float _ _ _ four c.or_else-4.ensures (λ p. search rules) in
+    rw forms_double (plain_after _ _ _ _ _ _ five c.or.ensures c.plain_form.ensures)

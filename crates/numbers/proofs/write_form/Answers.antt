@@ -1,19 +1,16 @@
--- `numbers::write_form` meets its contract.
-use Rattle.std.proofs.Common.{rules}
-use Rattle.numbers.proofs.Writing.{few_more, written_whole, written_not, absent_written}
+-- There is no form, or it is stored.
+use Rattle.std.proofs.Common.{◌∙◌, sym, ap}
+use Rattle.numbers.specs.Answers.{spelled}
+use Rattle.numbers.proofs.Writing.{few_more, unspelled, written_as}
 use Rattle.numbers.proofs.write_form.Goals as goal
 
-pub overflow_add-result : goal.overflow_add-result
-overflow_add-result c = search (few_more, rules)
+pub returns-in_err-spelling : goal.returns-in_err-spelling
+returns-in_err-spelling c =
+    let e = c.in_err-spelling.ensures in
+    unspelled _ _ _ _ _ c.from_residual.ensures.1 e.value e.ok_part c.spell.ensures
 
-pub returns-then-store : goal.returns-then-store
-returns-then-store c = written_whole c.spell.ensures c.in-Form.is _ _ c.store.ensures c.if-store.true
+pub store_spelling-requires : goal.store_spelling-requires
+store_spelling-requires c = few_more _ _ _ c.spell.ensures c.in_ok-spelling.ensures.ok_part
 
-pub overflow_add-result-in-Form : goal.overflow_add-result-in-Form
-overflow_add-result-in-Form c = search (few_more, rules)
-
-pub returns-in-Absent : goal.returns-in-Absent
-returns-in-Absent c = absent_written c.spell.ensures c.in-Absent.is _ _
-
-pub returns-else-store : goal.returns-else-store
-returns-else-store c = written_not c.spell.ensures c.in-Form.is _ _ c.store.ensures c.if-store.false
+pub returns : goal.returns
+returns c = written_as c.store_spelling.ensures (sym c.spell.ensures ∙ ap spelled c.in_ok-spelling.ensures.ok_part)

@@ -1,10 +1,11 @@
 -- Each way out has its law in proofs/Message.antt.
-use Rattle.std.proofs.Common.{rules}
-use Rattle.reader.proofs.Message.{length_lost, length_got}
+use Rattle.flow.specs.Tests.{bytes_all}
+use Rattle.reader.proofs.Message.{first_number, length_lost, record_length}
 use Rattle.reader.proofs.length_by.Goals as goal
 
-pub returns-in-Refused : goal.returns-in-Refused
-returns-in-Refused c = search (length_lost, rules)
+pub returns-in-Ok : goal.returns-in-Ok
+returns-in-Ok g c = first_number (λ x. x.sum) _ c.judge.new.slots _
+    (record_length _ (bytes_all _ (λ i. (c.type_inv.message i).fits)) c.in-Ok.ensures.says)
 
-pub returns-in-Record : goal.returns-in-Record
-returns-in-Record c = search (length_got, rules)
+pub returns-in-Err : goal.returns-in-Err
+returns-in-Err g c = length_lost _ _ c.in-Err.ensures

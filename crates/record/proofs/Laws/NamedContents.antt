@@ -1,17 +1,21 @@
 -- What a row names, by its kind.
 use Rattle.std.specs.Prelude.{◌≡◌, false, List, ℕ, ◌≤◌, ◌<◌, ltb}
 use Rattle.std.proofs.Math.Path.{refl}
-use Rattle.std.proofs.Common.{sym, ◌∙◌}
+use Rattle.std.proofs.Common.{sym, ◌∙◌, arith}
 use Rattle.std.proofs.Math.Bool.{true}
 use Rattle.std.proofs.Math.Option.{none}
 use Rattle.std.proofs.Math.Dec.{eqb}
 use borrow.Author.Tests.{ne_eqb, le-leb}
-use Rattle.flow.specs.Tests.{pick_true, pick_false, within_below}
+use Rattle.flow.specs.Flow.{pick}
+use Rattle.flow.specs.Tests.{pick_true, pick_false, within_above, within_below}
 use Rattle.scalar.specs.declared.Encoding.TheVariants.{Utf8, Binary}
 use Rattle.scalar.specs.Scalars.{string_at}
 use Rattle.scalar.specs.Answers.{content_read}
 use Rattle.record.specs.Model.Kinds.{text_kind, bytes_kind, class_name_kind, type_number_kind}
+use Rattle.record.specs.Model.KindNumbers.{kind_number, encoding_of, named_by}
 use Rattle.record.specs.Model.Claims.{is_text_kind, content_at, names_content, named_content}
+use Rattle.record.specs.declared.kinds.Kind.{Kind}
+use Rattle.record.specs.declared.kinds.Kind.TheVariants as kind
 
 -- ---- the kinds that name a text
 module _ (k : ℕ) where
@@ -46,3 +50,36 @@ module _ (s : List ℕ) (k p : ℕ) where
     pub named_other : false ≡ is_text_kind k → named_content s k p ≡ none
     unfolding named_content
     named_other f = pick_false _ _ (rw (ne_eqb k bytes_kind e, ← f) refl)
+
+module _ (s : List ℕ) (p : ℕ) where
+  pub named_kind : (k : Kind) → named_content s (kind_number k) p ≡ named_by (encoding_of k) s p
+  unfolding named_content content_at pick
+  named_kind kind.Null = refl
+  named_kind kind.False = refl
+  named_kind kind.True = refl
+  named_kind kind.Int = refl
+  named_kind kind.Long = refl
+  named_kind kind.Double = refl
+  named_kind kind.Date = refl
+  named_kind kind.Text = refl
+  named_kind kind.Bytes = refl
+  named_kind kind.List = refl
+  named_kind kind.TypedList = refl
+  named_kind kind.Map = refl
+  named_kind kind.TypedMap = refl
+  named_kind kind.Object = refl
+  named_kind kind.Reference = refl
+  named_kind kind.Class = refl
+  named_kind kind.ClassName = refl
+  named_kind kind.FieldName = refl
+  named_kind kind.TypeName = refl
+  named_kind kind.TypeNumber = refl
+
+  -- a number past those of the kinds names nothing
+  pub named_past : (n : ℕ) → type_number_kind < n → named_content s n p ≡ none
+  unfolding named_content
+  named_past n h = pick_false _ _ (rw (
+    ne_eqb n bytes_kind (λ e. omega arith),
+    ne_eqb n text_kind (λ e. omega arith),
+    within_above class_name_kind type_number_kind n (omega arith),
+  ) refl)

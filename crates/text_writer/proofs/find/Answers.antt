@@ -1,25 +1,39 @@
 -- Each way out has its law in proofs/Laying.antt.
-use borrow.Author.Rules.{rules}
-use Rattle.text_writer.proofs.Laying.{find_ends, find_head, find_size, find_end, find_last, find_opens, find_on, find_refused}
+use mathlib.Core.Path.{refl, sym, ◌∙◌}
+use native.Mathlib.Omega.{arith}
+use Rattle.text_writer.specs.Cursor.{chunk_there}
+use Rattle.text_writer.proofs.Laying.{find_last, find_broken, find_on, find_few}
 use Rattle.text_writer.proofs.find.Goals as goal
 
-pub returns-then-source-at : goal.returns-then-source-at
-returns-then-source-at c = search (find_ends, rules)
+pub returns-then-chunk : goal.returns-then-chunk
+returns-then-chunk c =
+    let s = chunk_there _ c.first_chunk.ensures _ (sym c.ok.ensures.value ∙ c.in_ok-chunk.was) in
+    rw c.opened-first.ensures (find_last _ _ _ _ s c.if-chunk.true)
 
-pub overflow_add-first : goal.overflow_add-first
-overflow_add-first c = search (find_head, rules)
+pub returns-in_err-others : goal.returns-in_err-others
+returns-in_err-others c =
+    let s = chunk_there _ c.first_chunk.ensures _ (sym c.ok.ensures.value ∙ c.in_ok-chunk.was) in
+    let e = sym c.ok-2.ensures.value ∙ c.in_err-others.was in
+    rw c.from_residual-in_err-others.ensures
+    (find_broken _ _ _ _ s c.if-chunk.false _ (rw c.opened-first.ensures refl) _ c.read_string.ensures e)
 
-pub returns-then-last : goal.returns-then-last
-returns-then-last c = search (find_last, rules)
+pub overflow_add-result : goal.overflow_add-result
+overflow_add-result c =
+    let s = chunk_there _ c.first_chunk.ensures _ (sym c.ok.ensures.value ∙ c.in_ok-chunk.was) in
+    let e = sym c.ok-2.ensures.value ∙ c.in_ok-others.was in
+    let x = find_on _ _ _ _ s c.if-chunk.false _ (rw c.opened-first.ensures refl) _ c.read_string.ensures _ e in
+    (find_few _ _ _ _ x c.type_inv.source (record { fits = omega arith })).0
 
-pub overflow_add-h : goal.overflow_add-h
-overflow_add-h c = search (find_size, rules)
+pub overflow_add-result-2 : goal.overflow_add-result-2
+overflow_add-result-2 c =
+    let s = chunk_there _ c.first_chunk.ensures _ (sym c.ok.ensures.value ∙ c.in_ok-chunk.was) in
+    let e = sym c.ok-2.ensures.value ∙ c.in_ok-others.was in
+    let x = find_on _ _ _ _ s c.if-chunk.false _ (rw c.opened-first.ensures refl) _ c.read_string.ensures _ e in
+    (find_few _ _ _ _ x c.type_inv.source (record { fits = omega arith })).1
 
-pub overflow_add-at : goal.overflow_add-at
-overflow_add-at c = search (find_end, rules)
-
-pub find_more-requires : goal.find_more-requires
-find_more-requires c = search (find_opens, find_on, rules)
-
-pub returns-in-Refused : goal.returns-in-Refused
-returns-in-Refused c = search (find_refused, rules)
+pub returns : goal.returns
+returns c =
+    let s = chunk_there _ c.first_chunk.ensures _ (sym c.ok.ensures.value ∙ c.in_ok-chunk.was) in
+    let e = sym c.ok-2.ensures.value ∙ c.in_ok-others.was in
+    let x = find_on _ _ _ _ s c.if-chunk.false _ (rw c.opened-first.ensures refl) _ c.read_string.ensures _ e in
+    rw c.opened-first.ensures x

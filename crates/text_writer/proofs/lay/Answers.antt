@@ -1,65 +1,68 @@
-use mathlib.Core.Path.{◌∙◌}
-use borrow.Author.Rules.{rules}
-use Rattle.text_writer.specs.Cursor.{all_copied}
-use Rattle.text_writer.specs.Laying.{laying_start, part_few, part_within, part_shrinks, part_less, part_first, part_room, part_start, part_end, laying_part, last_behind, last_room, last_start, last_end, laying_last}
+-- Each step has its law in specs/Laying.antt.
+use native.Mathlib.Omega.{arith}
+use Rattle.text_writer.specs.Laying.{laying_start, part_few, rest_falls, part_less, part_first, part_start, part_end}
+use Rattle.text_writer.specs.Laying.{part_room, laying_on, last_start, last_room, last_copied, laying_copied}
 use Rattle.text_writer.proofs.lay.Goals as goal
 
 pub loop-rest-init : goal.loop-rest-init
-loop-rest-init c = search (laying_start, rules)
-
-pub copy-s-requires : goal.copy-s-requires
-copy-s-requires c = part_first c.loop-rest.invariant c.loop-rest-test.true c.requires.1
-
-pub put_part_head-requires : goal.put_part_head-requires
-put_part_head-requires c = search (part_few, rules)
-
-pub overflow_add-start : goal.overflow_add-start
-overflow_add-start c = search (part_start, rules)
+loop-rest-init c = laying_start _ _ _ c.requires.0 _ _
 
 pub copy-part-requires : goal.copy-part-requires
-copy-part-requires c = let R = c.loop-rest.invariant in
-    let long = c.loop-rest-test.true in
-    let part = c.copy-s.ensures.spans in
-    part_room R long _ part c.put_part_head.ensures.0 c.requires.1
+copy-part-requires c = part_first c.loop-rest.invariant c.loop-rest-test.true c.requires.1
+
+pub put_part_head-requires : goal.put_part_head-requires
+put_part_head-requires c = part_few c.loop-rest.invariant c.loop-rest-test.true _ c.copy-part.ensures.spans
 
 pub overflow_add-place : goal.overflow_add-place
-overflow_add-place c = search (part_end, rules)
-
-pub overflow_sub-content : goal.overflow_sub-content
-overflow_sub-content c = search (part_within, rules)
-
-pub overflow_sub-rest : goal.overflow_sub-rest
-overflow_sub-rest c = search (part_less, rules)
-
-pub loop-rest-smaller : goal.loop-rest-smaller
-loop-rest-smaller c = search (part_shrinks, rules)
-
-pub loop-rest-preserved : goal.loop-rest-preserved
-loop-rest-preserved c = let R = c.loop-rest.invariant in
-    let long = c.loop-rest-test.true in
-    let part = c.copy-s.ensures.spans in
-    let head = c.put_part_head.ensures in
-    laying_part R long _ part head.0 _ head.1 _ _ c.copy-part.ensures
-
-pub overflow_add-start-2 : goal.overflow_add-start-2
-overflow_add-start-2 c = search (last_start, rules)
+overflow_add-place c =
+    let R = c.loop-rest.invariant in
+    part_start R c.loop-rest-test.true _ c.copy-part.ensures.spans c.put_part_head.ensures.0 c.requires.1
 
 pub copy-requires : goal.copy-requires
-copy-requires c = search (last_room, rules)
+copy-requires c =
+    let R = c.loop-rest.invariant in
+    part_room R c.loop-rest-test.true _ c.copy-part.ensures.spans c.put_part_head.ensures.0 c.requires.1
+
+pub overflow_sub-rest : goal.overflow_sub-rest
+overflow_sub-rest c = part_less c.loop-rest.invariant c.loop-rest-test.true _ c.copy-part.ensures.spans
+
+pub overflow_add-place-in-loop-rest : goal.overflow_add-place-in-loop-rest
+overflow_add-place-in-loop-rest c =
+    let R = c.loop-rest.invariant in
+    part_start R c.loop-rest-test.true _ c.copy-part.ensures.spans c.put_part_head.ensures.0 c.requires.1
+
+pub overflow_add-place-in-loop-rest-2 : goal.overflow_add-place-in-loop-rest-2
+overflow_add-place-in-loop-rest-2 c =
+    let R = c.loop-rest.invariant in
+    part_end R c.loop-rest-test.true _ c.copy-part.ensures.spans c.put_part_head.ensures.0 c.requires.1
+
+pub loop-rest-smaller : goal.loop-rest-smaller
+loop-rest-smaller c =
+    let part = c.copy-part.ensures in
+    rest_falls c.loop-rest.invariant c.loop-rest-test.true _ part.spans _ part.copies.behind
+
+pub loop-rest-preserved : goal.loop-rest-preserved
+loop-rest-preserved c =
+    let part = c.copy-part.ensures in
+    let head = c.put_part_head.ensures in
+    laying_on c.loop-rest.invariant c.loop-rest-test.true _ part.spans head.0 _ head.1 _ _ c.copy.ensures
+    part.copies.going part.copies.behind
+
+pub overflow_add-place-2 : goal.overflow_add-place-2
+overflow_add-place-2 c =
+    last_start c.loop-rest.invariant c.loop-rest-test.false _ c.put_last_head-place.ensures.0 c.requires.1
+
+pub copy-last-requires : goal.copy-last-requires
+copy-last-requires c =
+    last_room c.loop-rest.invariant c.loop-rest-test.false _ c.put_last_head-place.ensures.0 c.requires.1
 
 pub overflow_add-result : goal.overflow_add-result
-overflow_add-result c = search (last_end, rules)
-
-pub overflow_sub-result : goal.overflow_sub-result
-overflow_sub-result c = search (last_behind, rules)
-
-pub shape_of-out : goal.shape_of-out
-shape_of-out c = let R = c.loop-rest.invariant in
-    c.copy.ensures.copies.same ∙ c.put_last_head-h.auto.out ∙ R.same
+overflow_add-result c =
+    let head = c.put_last_head-place.ensures in
+    let e = last_copied c.loop-rest.invariant c.loop-rest-test.false _ head.0 _ _ _ c.copy-last.ensures in
+    record { fits = omega (arith, e, c.requires.1) }
 
 pub returns : goal.returns
-returns c = let R = c.loop-rest.invariant in
-    let short = c.loop-rest-test.false in
-    let head = c.put_last_head-h.ensures in
-    let all = all_copied c.copy.ensures R.units_are _ R.bytes_are in
-    laying_last R short _ head.0 _ head.1 _ _ all
+returns c =
+    let head = c.put_last_head-place.ensures in
+    laying_copied c.loop-rest.invariant c.loop-rest-test.false _ head.0 _ _ _ c.copy-last.ensures head.1

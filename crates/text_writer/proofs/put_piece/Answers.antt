@@ -1,23 +1,15 @@
 -- Each way out has its law in proofs/Pieces.antt.
-use native.Mathlib.Omega.{arith}
-use borrow.Author.Rules.{rules}
-use Rattle.text_writer.proofs.Pieces.{pair_six, pair_stops, piece_pair, byte_stops, piece_byte}
+use Rattle.text_writer.proofs.Pieces.{part_singles, next_plain, next_singles}
 use Rattle.text_writer.proofs.put_piece.Goals as goal
 
-pub returns-then-cap-lt2 : goal.returns-then-cap-lt2
-returns-then-cap-lt2 c = let pair = c.pair_at in
-    pair_stops _ _ _ _ c.requires.0.inside _ pair.ensures _ _ _ c.if-pair_at.true (omega arith)
+pub returns-then-c-cap : goal.returns-then-c-cap
+returns-then-c-cap c =
+    next_plain c.requires.0 _ _ _ c.requires.1 c.if-c.true c.if-c-cap.true c.put_bytes.ensures
 
-pub put_pair-requires : goal.put_pair-requires
-put_pair-requires c = search (pair_six, rules)
+pub slice_bounds-put_bytes-end : goal.slice_bounds-put_bytes-end
+slice_bounds-put_bytes-end c = part_singles c.requires.0 _ _ _ c.singles-n.ensures c.min.ensures
 
-pub returns-then-pair_at : goal.returns-then-pair_at
-returns-then-pair_at c = let pair = c.pair_at in
-    let stored = c.put_pair.ensures in
-    piece_pair _ _ _ _ c.requires.0.inside _ pair.ensures _ _ _ c.if-pair_at.true (omega arith) _ stored
-
-pub returns-then-cap-w : goal.returns-then-cap-w
-returns-then-cap-w c = search (byte_stops, rules)
-
-pub returns : goal.returns
-returns c = search (piece_byte, rules)
+pub returns-then-n-gt0 : goal.returns-then-n-gt0
+returns-then-n-gt0 c =
+    next_singles c.requires.0 _ _ _ c.singles-n.ensures c.min.ensures c.if-n-gt0.true _ _ _
+    c.put_bytes-then-n-gt0.ensures

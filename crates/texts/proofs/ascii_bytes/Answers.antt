@@ -1,22 +1,26 @@
-use Rattle.std.proofs.Common.{arith, le-ltb, lt-ltb}
-use native.Mathlib.Nat.{mod-one}
-use Rattle.texts.specs.Ascii.{tells_byte, counting_more, counting_end, counting_stop}
+-- The words of the run, and the bytes of the rest.
+use Rattle.std.proofs.Common.{◌≡◌, ◌+◌, ◌*◌, ◌≤◌, length, arith, rules, Fits, w64}
+use Rattle.std.proofs.lemmas.List.Sums.{prefix_len-le-length}
+use Rattle.texts.specs.Ascii.{is_ascii, ascii_run, run_rest}
 use Rattle.texts.proofs.ascii_bytes.Goals as goal
 
-pub loop-n-init : goal.loop-n-init
-loop-n-init c = record { room = c.requires; whole = mod-one _; within = omega (arith, c.ascii_eights-n.ensures) }
+few : (c : goal.After-ascii_words-n) → 8 * c.ascii_words-n.result ≤ ascii_run c.args.bytes.now
+few c = omega (arith, c.ascii_words-n.ensures)
 
-pub overflow_add-at : goal.overflow_add-at
-overflow_add-at c = omega (arith, c.loop-n.invariant.room)
+whole : (c : goal.After-ascii_singles) → 8 * c.ascii_words-n.result + c.ascii_singles.result ≡ ascii_run c.args.bytes.now
+whole c = omega (arith, c.ascii_singles.ensures, run_rest c.args.bytes.now (8 * c.ascii_words-n.result) (omega (arith, c.ascii_words-n.ensures)))
 
-pub bounds-message-at : goal.bounds-message-at
-bounds-message-at c = omega (arith, c.loop-n.invariant.room)
+pub overflow_mul-n : goal.overflow_mul-n
+overflow_mul-n c = let l = prefix_len-le-length is_ascii c.args.bytes.now in omega (arith, few c)
 
-pub loop-n-preserved : goal.loop-n-preserved
-loop-n-preserved c = counting_more c.loop-n.invariant (tells_byte _ _) (lt-ltb _ _ c.if-message-at-ge128.false) (omega arith)
+pub slice_bounds-ascii_singles-count : goal.slice_bounds-ascii_singles-count
+slice_bounds-ascii_singles-count c = omega (arith, few c, prefix_len-le-length is_ascii c.args.bytes.now)
 
-pub returns-after-loop-n : goal.returns-after-loop-n
-returns-after-loop-n c = omega (arith, counting_end c.loop-n.invariant (omega arith) (omega arith))
+pub slice_bounds-ascii_singles-start : goal.slice_bounds-ascii_singles-start
+slice_bounds-ascii_singles-start c = omega (arith, few c, prefix_len-le-length is_ascii c.args.bytes.now)
 
-pub returns-then-message-at-ge128 : goal.returns-then-message-at-ge128
-returns-then-message-at-ge128 c = omega (arith, counting_stop c.loop-n.invariant (tells_byte _ _) (omega arith) (le-ltb _ _ c.if-message-at-ge128.true))
+pub overflow_add-result : goal.overflow_add-result
+overflow_add-result c = let l = prefix_len-le-length is_ascii c.args.bytes.now in omega (arith, whole c)
+
+pub returns : goal.returns
+returns c = whole c

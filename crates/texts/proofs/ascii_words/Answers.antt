@@ -1,24 +1,16 @@
-use Rattle.std.proofs.Common.{arith}
-use Rattle.texts.specs.Ascii.{counting_start, counting_few, counting_more, counting_end, counting_stop}
+-- So many words as the run has.
+use Rattle.std.proofs.Common.{◌∙◌, arith, rules, tests}
+use Rattle.std.proofs.lemmas.Iterator.{YieldsList-from_slice}
+use Rattle.std.proofs.lemmas.Iterator.Consumers.{count_from_yields_List}
+use Rattle.std.proofs.lemmas.Iterator.Search.{YieldsList-from_take_while}
+use Rattle.std.proofs.lemmas.List.Folds.{length-prefix_len}
+use Rattle.texts.specs.Ascii.{all_ascii, chunks_run}
 use Rattle.texts.proofs.ascii_words.Goals as goal
 
-pub loop-n-init : goal.loop-n-init
-loop-n-init c = counting_start _ _ _ _ c.requires
-
-pub overflow_sub-most : goal.overflow_sub-most
-overflow_sub-most c = counting_few c.loop-n.invariant
-
-pub overflow_add-at : goal.overflow_add-at
-overflow_add-at c = omega (arith, c.loop-n.invariant.room, counting_few c.loop-n.invariant)
-
-pub words_ascii-requires : goal.words_ascii-requires
-words_ascii-requires c = omega (arith, c.loop-n.invariant.room)
-
-pub loop-n-preserved : goal.loop-n-preserved
-loop-n-preserved c = counting_more c.loop-n.invariant c.words_ascii.ensures c.if-not-words_ascii.false (omega arith)
-
-pub returns-after-loop-n : goal.returns-after-loop-n
-returns-after-loop-n c = counting_end c.loop-n.invariant (omega arith) (omega arith)
-
-pub returns-then-not-words_ascii : goal.returns-then-not-words_ascii
-returns-then-not-words_ascii c = counting_stop c.loop-n.invariant c.words_ascii.ensures (omega arith) c.if-not-words_ascii.true
+pub returns : goal.returns
+returns c =
+    count_from_yields_List c.take_while.result _ c.count.ensures.ran
+    (YieldsList-from_take_while _ all_ascii (YieldsList-from_slice c.as_chunks.result.0.now (cc))
+    c.take_while.ensures.closure c.take_while.ensures.done (λ x b q k. search (rules, tests)))
+    ∙ length-prefix_len all_ascii c.as_chunks.result.0.now
+    ∙ chunks_run 8 c.args.bytes.now c.as_chunks.ensures.front (omega arith)

@@ -1,10 +1,7 @@
 -- Each way out has its law in proofs/Strings.antt.
 use Rattle.std.proofs.Common.{rules}
-use Rattle.texts.proofs.Strings.{content_text, content_there, content_cut}
+use Rattle.texts.proofs.Strings.{content_there, content_cut}
 use Rattle.texts.proofs.body.Goals as goal
-
-pub returns-in-Utf8 : goal.returns-in-Utf8
-returns-in-Utf8 c = search (content_text, rules)
 
 pub returns-then-len-at : goal.returns-then-len-at
 returns-then-len-at c = search (content_cut, rules)

@@ -1,19 +1,16 @@
 -- Each way out has its law in proofs/Strings.antt.
-use Rattle.std.proofs.Common.{arith, rules}
-use Rattle.texts.proofs.Strings.{head_says, chunk_headless, chunk_cut, chunk_there}
+use Rattle.texts.specs.Answers.{ChunkMet}
+use Rattle.texts.proofs.Strings.{raised, chunk_headless, chunk_cut, chunk_there}
 use Rattle.texts.proofs.chunk.Goals as goal
 
-pub overflow_add-at : goal.overflow_add-at
-overflow_add-at c = omega (arith, (head_says c.head.ensures c.in-Head.is).2)
+pub returns-in_err-h : goal.returns-in_err-h
+returns-in_err-h c =
+    raised (ChunkMet _ _ _) _ _ c.from_residual.ensures.1 (chunk_headless _ _ _ _ c.in_err-h.ensures)
 
-pub body-requires : goal.body-requires
-body-requires c = (head_says c.head.ensures c.in-Head.is).2
+pub returns-in_err-content : goal.returns-in_err-content
+returns-in_err-content c =
+    raised (ChunkMet _ _ _) _ _ c.from_residual-in_err-content.ensures.1
+    (chunk_cut _ _ _ _ c.in_ok-h.ensures _ c.in_err-content.ensures)
 
-pub returns-in-Refused : goal.returns-in-Refused
-returns-in-Refused c = search (chunk_headless, rules)
-
-pub returns-in-Refused-body : goal.returns-in-Refused-body
-returns-in-Refused-body c = search (chunk_cut, rules)
-
-pub returns-in-Takes : goal.returns-in-Takes
-returns-in-Takes c = search (chunk_there, rules)
+pub returns : goal.returns
+returns c = chunk_there _ _ _ _ c.in_ok-h.ensures c.type_inv.message _ _ c.in_ok-content.ensures

@@ -1,7 +1,6 @@
 -- A short text has its law in proofs/AsciiRuns.antt.
-use Rattle.std.proofs.Common.{rules}
 use Rattle.texts.proofs.AsciiRuns.{chunk_short}
 use Rattle.texts.proofs.first_chunk.Goals as goal
 
-pub returns-then-s-gt0 : goal.returns-then-s-gt0
-returns-then-s-gt0 c = search (chunk_short, rules)
+pub returns-in-Some : goal.returns-in-Some
+returns-in-Some c = chunk_short _ _ _ c.type_inv.message c.in-Some.ensures _ c.in-Utf8.is

@@ -1,6 +1,7 @@
--- The highest bit of each byte is tested.
+-- A bit of each byte is tested, its highest.
+use Rattle.std.proofs.Common.{rules}
 use Rattle.texts.specs.Ascii.{tells_four}
 use Rattle.texts.proofs.four_ascii.Goals as goal
 
 pub returns : goal.returns
-returns c = tells_four _ c.type_inv.message _ c.four-word.ensures.1
+returns c = tells_four c.args.bytes (search rules) (search rules) c.from_le_bytes-word.ensures

@@ -1,19 +1,19 @@
--- Each sum and each way out has its law in proofs/Strings.antt.
-use Rattle.std.proofs.Common.{rules}
-use Rattle.texts.proofs.Strings.{one_more, one_held, two_room, two_more, two_held}
+-- The number stays small.
+use Rattle.std.proofs.Common.{◌<◌, ◌^◌, arith}
+use Rattle.texts.proofs.Strings.{held_few, held_more}
 use Rattle.texts.proofs.head_units.Goals as goal
 
-pub overflow_add-u : goal.overflow_add-u
-overflow_add-u c = search (one_more, rules)
+pub overflow_mul-units : goal.overflow_mul-units
+overflow_mul-units c =
+    let few : c.loop-b.units < 2 ^ 24 =
+    held_few c.args.more.now c.type_inv.more c.loop-b.b-index c.args.held c.loop-b.invariant c.ranges.held.fits c.requires in
+    record { fits = omega arith }
 
-pub returns-then-more-eq1 : goal.returns-then-more-eq1
-returns-then-more-eq1 c = search (one_held, rules)
+pub overflow_add-units : goal.overflow_add-units
+overflow_add-units c =
+    let few : c.loop-b.units < 2 ^ 24 =
+    held_few c.args.more.now c.type_inv.more c.loop-b.b-index c.args.held c.loop-b.invariant c.ranges.held.fits c.requires in
+    record { fits = omega arith }
 
-pub overflow_mul-result : goal.overflow_mul-result
-overflow_mul-result c = search (two_room, rules)
-
-pub overflow_add-result : goal.overflow_add-result
-overflow_add-result c = search (two_more, rules)
-
-pub returns : goal.returns
-returns c = search (two_held, rules)
+pub loop-b-preserved : goal.loop-b-preserved
+loop-b-preserved c = held_more _ c.type_inv.more _ _ c.loop-b.invariant c.loop-b-test.true c.from.ensures

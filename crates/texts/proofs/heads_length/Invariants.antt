@@ -5,8 +5,8 @@ use Rattle.scalar.specs.StringLengths.{parts}
 use Rattle.texts.specs.Answers.{Cutting}
 use Rattle.texts.proofs.heads_length.Given as goal
 
-abbrev pub invariant-loop-h : goal.invariant-loop-h
-invariant-loop-h l = Cutting l.kind l.message l.at l.here (parts l.cuts l.filled)
+abbrev pub invariant-loop-c : goal.invariant-loop-c
+invariant-loop-c l = Cutting l.kind l.message l.at l.here (parts l.parts.cuts l.parts.filled)
 
-abbrev pub decreases-loop-h : goal.decreases-loop-h
-decreases-loop-h l = length l.message - l.here
+abbrev pub decreases-loop-c : goal.decreases-loop-c
+decreases-loop-c l = length l.message - l.here

@@ -1,29 +1,31 @@
 -- Each way out has its law in proofs/Strings.antt.
-use Rattle.std.proofs.Common.{rules}
-use Rattle.texts.proofs.Strings.{pair_room_1, pair_room_2, pair_room_3, pair_cut_1, pair_cut_2, pair_cut_3, pair_cut_4, pair_whole}
+use Rattle.texts.specs.Answers.{CharMet}
+use Rattle.texts.proofs.Strings.{raised, pair_cut_1, pair_cut_2, pair_cut_3, pair_cut_4, pair_whole}
 use Rattle.texts.proofs.pair.Goals as goal
 
-pub continued-requires-in-Takes : goal.continued-requires-in-Takes
-continued-requires-in-Takes c = search (pair_room_1, rules)
+pub returns-in_err-continued : goal.returns-in_err-continued
+returns-in_err-continued c = λ left h.
+    raised (CharMet left _ _) _ _ c.from_residual.ensures.1
+    (pair_cut_1 _ _ c.requires.0 c.requires.1 _ h _ c.in_err-continued.ensures)
 
-pub continued-requires-in-Takes-continued : goal.continued-requires-in-Takes-continued
-continued-requires-in-Takes-continued c = pair_room_2 _ _ c.requires.0 _ c.continued.ensures _ _ c.in-Takes.is _ c.continued-in-Takes.ensures _ _ c.in-Takes-continued.is
+pub returns-in_err-continued-2 : goal.returns-in_err-continued-2
+returns-in_err-continued-2 c = λ left h.
+    raised (CharMet left _ _) _ _ c.from_residual-in_err-continued-2.ensures.1
+    (pair_cut_2 _ _ c.requires.0 c.requires.1 _ h c.in_ok-continued.ensures _ c.in_err-continued-2.ensures)
 
-pub continued-requires-in-Takes-continued-2 : goal.continued-requires-in-Takes-continued-2
-continued-requires-in-Takes-continued-2 c = pair_room_3 _ _ c.requires.0 _ c.continued.ensures _ _ c.in-Takes.is _ c.continued-in-Takes.ensures _ _ c.in-Takes-continued.is _
-    c.continued-in-Takes-continued.ensures _ _ c.in-Takes-continued-2.is
+pub returns-in_err-continued-3 : goal.returns-in_err-continued-3
+returns-in_err-continued-3 c = λ left h.
+    raised (CharMet left _ _) _ _ c.from_residual-in_err-continued-3.ensures.1
+    (pair_cut_3 _ _ c.requires.0 c.requires.1 _ h c.in_ok-continued.ensures c.in_ok-continued-2.ensures _
+    c.in_err-continued-3.ensures)
 
-pub returns-in-Refused : goal.returns-in-Refused
-returns-in-Refused c = λ left h. search (pair_cut_1, rules)
+pub returns-in_err-continued-4 : goal.returns-in_err-continued-4
+returns-in_err-continued-4 c = λ left h.
+    raised (CharMet left _ _) _ _ c.from_residual-in_err-continued-4.ensures.1
+    (pair_cut_4 _ _ c.requires.0 c.requires.1 _ h c.in_ok-continued.ensures c.in_ok-continued-2.ensures
+    c.in_ok-continued-3.ensures _ c.in_err-continued-4.ensures)
 
-pub returns-in-Refused-continued : goal.returns-in-Refused-continued
-returns-in-Refused-continued c = λ left h. search (pair_cut_2, rules)
-
-pub returns-in-Refused-continued-2 : goal.returns-in-Refused-continued-2
-returns-in-Refused-continued-2 c = λ left h. search (pair_cut_3, rules)
-
-pub returns-in-Refused-continued-3 : goal.returns-in-Refused-continued-3
-returns-in-Refused-continued-3 c = λ left h. search (pair_cut_4, rules)
-
-pub returns-in-Takes-continued-3 : goal.returns-in-Takes-continued-3
-returns-in-Takes-continued-3 c = λ left h. search (pair_whole, rules)
+pub returns : goal.returns
+returns c = λ left h.
+    pair_whole _ _ c.requires.0 c.requires.1 _ h c.in_ok-continued.ensures c.in_ok-continued-2.ensures
+    c.in_ok-continued-3.ensures c.in_ok-continued-4.ensures

@@ -4,8 +4,8 @@ use Rattle.std.proofs.Common.{◌-◌, length}
 use Rattle.texts.specs.Answers.{Joining}
 use Rattle.texts.proofs.pass_string.Given as goal
 
-abbrev pub invariant-loop-number : goal.invariant-loop-number
-invariant-loop-number l = Joining l.kind l.message l.at l.here l.total l.bytes
+abbrev pub invariant-loop-c : goal.invariant-loop-c
+invariant-loop-c l = Joining l.kind l.message l.at l.here l.units l.bytes
 
-abbrev pub decreases-loop-number : goal.decreases-loop-number
-decreases-loop-number l = length l.message - l.here
+abbrev pub decreases-loop-c : goal.decreases-loop-c
+decreases-loop-c l = length l.message - l.here

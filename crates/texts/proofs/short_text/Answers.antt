@@ -1,12 +1,12 @@
 -- All the bytes that are counted are ASCII.
-use Rattle.std.proofs.Common.{arith}
-use Rattle.texts.specs.Ascii.{ascii_part}
+use Rattle.std.proofs.Common.{sym, ◌∙◌, arith, rules}
+use Rattle.texts.specs.Ascii.{ascii_all}
 use Rattle.texts.proofs.short_text.Goals as goal
 
 pub returns : goal.returns
-returns c = λ z. record {
-  counted = omega arith;
+returns c = record {
+  counted = search rules;
   short = omega arith;
   inside = omega arith;
-  ascii = ascii_part _ _ _ 0 _ _ (omega arith) (omega arith) (c.short_ascii.ensures.0 c.if-not-short_ascii.false);
+  ascii = ascii_all _ _ _ (omega arith) (sym c.short_ascii.ensures ∙ c.if-not-short_ascii.false);
 }

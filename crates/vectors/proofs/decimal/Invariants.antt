@@ -1,6 +1,6 @@
--- `decimal` meets its contract. The invariant: what is read so far is the worth of the digits passed. The measure is what is left of the line.
-use Prim.Native.Nat.{◌-◌}
-use lib.ListN.{length}
+-- `decimal` meets its contract. What is read so far is the worth of the digits passed. The measure is what is left of
+-- the line.
+use Rattle.std.proofs.Common.{◌-◌, length}
 use Rattle.vectors.proofs.Laws.{Reads}
 use Rattle.vectors.proofs.decimal.Given as goal
 

@@ -1,31 +1,25 @@
-use native.Mathlib.Omega.{arith}
-use borrow.Author.Rules.{rules}
+use Rattle.std.proofs.Common.{arith, refl, rules}
 use Rattle.vectors.proofs.Stores.{takes_end, takes_odd, takes_full, takes_more}
 use Rattle.vectors.proofs.take_bytes.Goals as goal
 
-pub overflow_add-here : goal.overflow_add-here
-overflow_add-here c = omega (arith, c.digit_at-high.ensures.at_in_bounds (omega arith))
-
-pub returns-then-low-gt15 : goal.returns-then-low-gt15
-returns-then-low-gt15 c = let d = c.digit_at-high.ensures in
-    takes_odd c.loop-high.invariant d.value (search rules) (d.at_in_bounds (search rules)) c.digit_at-low.ensures.value (search rules)
+pub returns-in_err-low : goal.returns-in_err-low
+returns-in_err-low c =
+    let d = c.in-Some.ensures in
+    takes_odd c.loop-high.invariant d.value.0 d.value.1 (d.at_in_bounds refl) c.in_err-low.ensures.value (search rules)
 
 pub returns-then-bytes-size : goal.returns-then-bytes-size
-returns-then-bytes-size c = let d = c.digit_at-high.ensures in
-    let e = c.digit_at-low.ensures in
-    takes_full c.loop-high.invariant d.value (search rules) (d.at_in_bounds (search rules)) e.value (search rules) (e.at_in_bounds (search rules)) (search rules)
-
-pub overflow_add-here-in-loop-high : goal.overflow_add-here-in-loop-high
-overflow_add-here-in-loop-high c = omega (arith, c.digit_at-low.ensures.at_in_bounds (omega arith))
-
-pub loop-high-smaller : goal.loop-high-smaller
-loop-high-smaller c = omega (arith, c.digit_at-low.ensures.at_in_bounds (omega arith))
+returns-then-bytes-size c =
+    let d = c.in-Some.ensures in
+    let e = c.in_ok-low.ensures in
+    takes_full c.loop-high.invariant d.value.0 d.value.1 (d.at_in_bounds refl) e.value.0 e.value.1 (e.at_in_bounds refl)
+    c.if-bytes-size.true
 
 pub loop-high-preserved : goal.loop-high-preserved
-loop-high-preserved c = let d = c.digit_at-high.ensures in
-    let e = c.digit_at-low.ensures in
-    let w = c.loop-high.invariant in
-    takes_more w d.value (search rules) (d.at_in_bounds (search rules)) e.value (search rules) (e.at_in_bounds (search rules)) (search rules)
+loop-high-preserved c =
+    let d = c.in-Some.ensures in
+    let e = c.in_ok-low.ensures in
+    takes_more c.loop-high.invariant d.value.0 d.value.1 (d.at_in_bounds refl) e.value.0 e.value.1 (e.at_in_bounds refl)
+    c.if-bytes-size.false (omega arith)
 
 pub returns : goal.returns
-returns c = takes_end c.loop-high.invariant c.digit_at-high.ensures.value (search rules)
+returns c = takes_end c.loop-high.invariant (search rules)

@@ -1,6 +1,5 @@
 -- `take_bytes` meets its contract. The measure is what is left of the line.
-use Prim.Native.Nat.{◌-◌}
-use lib.ListN.{length}
+use Rattle.std.proofs.Common.{◌-◌, length}
 use Rattle.vectors.proofs.Stores.{Takes}
 use Rattle.vectors.proofs.take_bytes.Given as goal
 

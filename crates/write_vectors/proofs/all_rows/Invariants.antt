@@ -1,9 +1,6 @@
 -- `all_rows` is safe and ends. The measure is what is left of the line.
-use Rattle.std.proofs.Common.{◌≡◌, ◌-◌, length}
+use Rattle.std.proofs.Common.{◌-◌, length}
 use Rattle.write_vectors.proofs.all_rows.Given as goal
-
-abbrev pub invariant-loop-here : goal.invariant-loop-here
-invariant-loop-here l = length l.table ≡ length l.initial.table
 
 abbrev pub decreases-loop-here : goal.decreases-loop-here
 decreases-loop-here l = length l.line - l.here

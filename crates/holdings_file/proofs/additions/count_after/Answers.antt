@@ -1,5 +1,5 @@
 use borrow.Author.Rules.{rules}
-use Rattle.holdings_file.proofs.FileExtents.{count_old, count_new}
+use Rattle.holdings_file.proofs.Stores.{count_old, count_new}
 use Rattle.holdings_file.proofs.additions.count_after.Goals as goal
 
 pub returns-then-number-count : goal.returns-then-number-count

@@ -1,9 +1,9 @@
-use borrow.Author.Rules.{rules}
-use Rattle.holdings_file.proofs.FileExtents.{entry_out, entry_in}
+use Rattle.holdings_file.proofs.Stores.{copied, entry_in}
+use native.Mathlib.Omega.{arith}
 use Rattle.holdings_file.proofs.additions.put_entry.Goals as goal
 
-pub returns-then-file-end : goal.returns-then-file-end
-returns-then-file-end c = search (entry_out, rules)
-
 pub returns : goal.returns
-returns c = search (entry_in, rules)
+returns c = let args = c.args in
+    entry_in args.file.now args.at args.message.now c.if-file-end.false _ _ c.store_number.ensures.1
+    (copied c.store_number.new.bytes c.copy_from_slice.new.self args.message.now c.copy_from_slice.ensures.after
+    _ _ (omega arith) (omega arith))

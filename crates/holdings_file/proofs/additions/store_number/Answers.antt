@@ -1,5 +1,5 @@
 use borrow.Author.Rules.{rules}
-use Rattle.holdings_file.proofs.FileExtents.{number_in, number_out}
+use Rattle.holdings_file.proofs.Stores.{number_in, number_out}
 use Rattle.holdings_file.proofs.additions.store_number.Goals as goal
 
 pub returns-then-index-list : goal.returns-then-index-list

@@ -1,12 +1,11 @@
--- The loop's invariant: each list with the placements left laid over it is the one sought. The measure is what is left
--- of the file.
-use Prim.Native.Nat.{◌-◌}
-use lib.ListN.{length}
+-- The loop's invariant: the list with the placements left laid over it is the one sought.
+use mathlib.Core.Path.{◌≡◌}
+use Rattle.holdings_file.specs.Promises.{filled_by}
 use Rattle.holdings_file.proofs.EntryWalks.{Filling}
 use Rattle.holdings_file.proofs.entries.fill.Given as goal
 
-abbrev pub invariant-loop-at : goal.invariant-loop-at
-invariant-loop-at l = Filling l.file l.initial.pairs l.initial.encoded l.pairs l.encoded l.n l.at
-
-abbrev pub decreases-loop-at : goal.decreases-loop-at
-decreases-loop-at l = length l.file - l.at
+abbrev pub invariant-loop-entry : goal.invariant-loop-entry
+invariant-loop-entry g l = let numbers = g.C.PairCell.numbers in let layout = g.C.PairCell.layout in record {
+  bytes : l.entry-iterator.bytes.now ≡ l.file;
+  filling : Filling layout l.file (filled_by layout l.file (numbers l.initial.list)) (numbers l.list) l.n l.entry-iterator.at;
+}

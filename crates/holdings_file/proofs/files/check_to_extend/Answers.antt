@@ -1,9 +1,11 @@
-use borrow.Author.Rules.{rules}
+use mathlib.Core.Path.{sym, ◌∙◌}
+use borrow.Author.Tests.{eqb-true, eqb-false}
 use Rattle.holdings_file.proofs.FileChecks.{opened_new, opened_old}
 use Rattle.holdings_file.proofs.files.check_to_extend.Goals as goal
 
-pub returns-then-file-eq0 : goal.returns-then-file-eq0
-returns-then-file-eq0 c = search (opened_new, rules)
+pub returns-then-is_empty : goal.returns-then-is_empty
+returns-then-is_empty c = opened_new c.args.file.now c.args.index.now
+    (eqb-true _ _ (sym c.is_empty.ensures ∙ c.if-is_empty.true)) c.requires
 
 pub returns : goal.returns
-returns c = search (opened_old, rules)
+returns c = opened_old c.args.file.now (eqb-false _ _ (sym c.is_empty.ensures ∙ c.if-is_empty.false)) _ _ c.check.ensures

@@ -3,4 +3,4 @@ use Rattle.scalar.proofs.ChartLaws.{entries}
 use Rattle.numbers.proofs.chart.entry.Goals as goal
 
 pub returns : goal.returns
-returns c = entries c.args.b c.ranges.b.fits
+returns c = rw c.from.ensures (entries c.args.b c.ranges.b.fits)

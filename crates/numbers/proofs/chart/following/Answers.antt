@@ -4,4 +4,4 @@ use Rattle.scalar.proofs.ChartLaws.{entry_parts}
 use Rattle.numbers.proofs.chart.following.Goals as goal
 
 pub returns : goal.returns
-returns c = ap (λ (n : ℕ). n % 10) c.entry.ensures ∙ (entry_parts c.args.b c.ranges.b.fits).1
+returns c = c.from.ensures ∙ ap (λ (n : ℕ). n % 10) c.entry.ensures ∙ (entry_parts c.args.b c.ranges.b.fits).1

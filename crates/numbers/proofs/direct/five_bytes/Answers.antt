@@ -1,18 +1,9 @@
 -- Each way out has its law in proofs/Loads.antt.
-use Rattle.std.proofs.Common.{arith, w64, rules}
-use borrow.Author.Rules.{sfits_of}
-use mir.ValLaws.{to_z-of_z}
-use Rattle.numbers.proofs.Loads.{formed_cut, five_is}
+use Rattle.numbers.proofs.Loads.{passed_cut, formed_is}
 use Rattle.numbers.proofs.direct.five_bytes.Goals as goal
 
-pub returns-then-len-at-le4 : goal.returns-then-len-at-le4
-returns-then-len-at-le4 c = search (formed_cut, rules)
+pub returns-in_err-followed : goal.returns-in_err-followed
+returns-in_err-followed c = passed_cut _ _ _ _ _ _ _ c.from_residual.ensures.1 c.in_err-followed.ensures
 
 pub returns : goal.returns
-returns c = let a = c.args in
-    five_is a.message.now a.at _ _ (omega arith) c.four_at-u.ensures.0
-    (rw (
-      ← c.signed_32.ensures,
-      ← to_z-of_z w64 c.signed_32.result (sfits_of c.signed_32.type_inv),
-    )
-    c.bits_of.ensures)
+returns c = formed_is _ _ _ _ _ c.in_ok-followed.ensures _ _ c.four_at.ensures.0 c.value_of.ensures

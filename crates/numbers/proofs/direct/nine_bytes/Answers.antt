@@ -1,10 +1,9 @@
 -- Each way out has its law in proofs/Loads.antt.
-use Rattle.std.proofs.Common.{rules}
-use Rattle.numbers.proofs.Loads.{formed_cut, nine_is}
+use Rattle.numbers.proofs.Loads.{passed_cut, nine_is}
 use Rattle.numbers.proofs.direct.nine_bytes.Goals as goal
 
-pub returns-then-len-at-le8 : goal.returns-then-len-at-le8
-returns-then-len-at-le8 c = search (formed_cut, rules)
+pub returns-in_err-followed : goal.returns-in_err-followed
+returns-in_err-followed c = passed_cut _ _ _ _ _ _ _ c.from_residual.ensures.1 c.in_err-followed.ensures
 
 pub returns : goal.returns
-returns c = search (nine_is, rules)
+returns c = nine_is _ _ _ c.in_ok-followed.ensures c.eight_at.ensures

@@ -5,9 +5,10 @@ use Rattle.scalar.proofs.Ieee.{of_int_no_nan, whole_agrees}
 use Rattle.numbers.proofs.doubles.whole.Goals as goal
 
 pub float_to_bits-result : goal.float_to_bits-result
-float_to_bits-result c = of_int_no_nan _ _
+float_to_bits-result c = rw c.from.ensures (of_int_no_nan _ _)
 
 pub returns : goal.returns
-returns c = let n = c.args.n in
+returns c =
+    let n = c.args.n in
     let f = c.ranges.n in
-    rw (to_z-of_z w16 n f) (sym (whole_agrees n (omega (arith, f.sfits))))
+    rw (c.from.ensures, to_z-of_z w16 n f) (sym (whole_agrees n (omega (arith, f.sfits))))

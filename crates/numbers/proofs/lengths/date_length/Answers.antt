@@ -6,5 +6,5 @@ use Rattle.numbers.proofs.lengths.date_length.Goals as goal
 pub returns-then-milliseconds-value : goal.returns-then-milliseconds-value
 returns-then-milliseconds-value c = search (length_minutes, rules)
 
-pub returns : goal.returns
-returns c = search (length_no_minutes, rules)
+pub returns-else-milliseconds-value : goal.returns-else-milliseconds-value
+returns-else-milliseconds-value c = search (length_no_minutes, rules)

@@ -13,7 +13,7 @@ returns-then-widened-value c = let narrow = c.narrowed in
     (not_whole _ c.whole_guess-u.ensures.0 c.whole_pair.ensures c.if-whole_pair-value.false)
     narrow.result narrow.ensures.1 (sym c.if-widened-value.true ∙ c.widened.ensures)
 
-pub returns : goal.returns
-returns c = length_plain _
+pub returns-else-widened-value : goal.returns-else-widened-value
+returns-else-widened-value c = length_plain _
     (not_whole _ c.whole_guess-u.ensures.0 c.whole_pair.ensures c.if-whole_pair-value.false)
     (search rules) c.narrowed.ensures.0 c.widened.ensures c.if-widened-value.false

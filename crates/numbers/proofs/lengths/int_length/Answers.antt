@@ -4,8 +4,8 @@ use Rattle.numbers.proofs.Shortest.{int_codes}
 use Rattle.numbers.proofs.LengthLaws.{in_range_law, length_no_int}
 use Rattle.numbers.proofs.lengths.int_length.Goals as goal
 
-pub at_most_five-requires : goal.at_most_five-requires
-at_most_five-requires c = search (int_codes, in_range_law, rules)
+pub whole_length-requires : goal.whole_length-requires
+whole_length-requires c = search (int_codes, in_range_law, rules)
 
-pub returns : goal.returns
-returns c = search (length_no_int, rules)
+pub returns-else-within : goal.returns-else-within
+returns-else-within c = search (length_no_int, rules)

@@ -1,14 +1,15 @@
--- Each way out has its law in proofs/Writing.antt.
-use Rattle.std.proofs.Common.{◌∷◌, arith}
+-- Both ways out have their laws in proofs/Writing.antt.
+use Rattle.std.proofs.Common.{◌∷◌, ◌∙◌, refl}
 use Rattle.wire.specs.BigEndian.{be}
-use Rattle.numbers.proofs.Writing.{stores_none, stores_nine}
+use Rattle.numbers.proofs.Writing.{no_room, all_stored, nine_stored}
 use Rattle.numbers.proofs.stores.store_nine.Goals as goal
 
-pub returns-then-len-lt9 : goal.returns-then-len-lt9
-returns-then-len-lt9 c = stores_none _ _ (_ ∷ be 8 _) (omega arith)
-
-pub returns-then-len-at : goal.returns-then-len-at
-returns-then-len-at c = stores_none _ _ (_ ∷ be 8 _) (omega arith)
+pub returns-in_err-room : goal.returns-in_err-room
+returns-in_err-room c =
+    no_room _ _ (c.args.code ∷ be 8 c.args.v) refl _ _ c.from_residual.ensures.1 c.in_err-room.ensures
 
 pub returns : goal.returns
-returns c = stores_nine _ _ _ _ (omega arith) c.store_four.ensures c.store_four-2.ensures
+returns c =
+    let room = c.in_ok-room.ensures in
+    all_stored _ _ (c.args.code ∷ be 8 c.args.v) refl room
+    (nine_stored _ _ _ _ _ room (c.copy_from_slice.ensures.after ∙ c.to_be_bytes.ensures))

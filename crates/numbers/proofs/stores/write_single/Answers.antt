@@ -8,4 +8,4 @@ pub returns-then-value-ne0 : goal.returns-then-value-ne0
 returns-then-value-ne0 c = written_none _ _ (single_other _ _ c.if-value-ne0.true)
 
 pub returns : goal.returns
-returns c = written_as c.store_one.ensures (single_held _ _ (search rules))
+returns c = written_as c.store.ensures (single_held _ _ (search rules))

@@ -1,11 +1,8 @@
--- The loop's invariant: what is left reads as the whole does, with the rows so far in front. The measure is how many
--- names are left.
-use Rattle.std.proofs.Common.{◌-◌}
+-- The loop's invariant: what is left reads as the whole does, with the rows so far in front.
 use Rattle.reader.proofs.ClassDefinitions.{ReadingNames}
 use Rattle.reader.proofs.definitions.field_names.Given as goal
 
-abbrev pub invariant-loop-i : goal.invariant-loop-i
-invariant-loop-i l = ReadingNames l.message l.initial.numbers l.initial.bytes l.from l.count l.numbers l.bytes l.here l.i
-
-abbrev pub decreases-loop-i : goal.decreases-loop-i
-decreases-loop-i l = l.count - l.i
+abbrev pub invariant-loop-row : goal.invariant-loop-row
+invariant-loop-row g l =
+    ReadingNames g.S.Slot.kept l.message (g.S.Slot.numbers l.initial.slots) l.from l.count
+    (g.S.Slot.numbers l.slots) l.here l.row

@@ -1,6 +1,6 @@
 -- The first byte says which: proofs/ValueHeads.antt.
-use Rattle.std.proofs.Common.{rules}
 use Rattle.reader.proofs.ValueHeads.{high_int, high_long}
+use Rattle.std.proofs.Common.{rules}
 use Rattle.reader.proofs.heads.high_head.Goals as goal
 
 pub number_leaf-requires : goal.number_leaf-requires

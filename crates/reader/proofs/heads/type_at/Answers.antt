@@ -1,6 +1,6 @@
 -- Each way out has its law in proofs/Types.antt.
+use Rattle.reader.proofs.Types.{lead_at_text, no_name, type_off}
 use Rattle.std.proofs.Common.{rules}
-use Rattle.reader.proofs.Types.{type_off, lead_at_text, no_name}
 use Rattle.reader.proofs.heads.type_at.Goals as goal
 
 pub returns-then-message-at : goal.returns-then-message-at

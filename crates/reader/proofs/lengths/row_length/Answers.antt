@@ -1,22 +1,14 @@
 -- Each way out has its law in proofs/LengthLaws.antt.
+use Rattle.reader.proofs.LengthLaws.{bytes_length_is, int_fits, text_length_is}
+use Rattle.record.specs.Laws.RowLaws.{row_of}
 use Rattle.std.proofs.Common.{rules}
-use Rattle.reader.proofs.LengthLaws.{own_is, text_is, bytes_is, name_is, type_number_is}
 use Rattle.reader.proofs.lengths.row_length.Goals as goal
 
-pub returns-then-kind-lt-TEXT : goal.returns-then-kind-lt-TEXT
-returns-then-kind-lt-TEXT c = search (own_is, rules)
+pub overflow_add-result : goal.overflow_add-result
+overflow_add-result c = search (int_fits, rules)
 
-pub returns-then-kind-eq-TEXT : goal.returns-then-kind-eq-TEXT
-returns-then-kind-eq-TEXT c = search (text_is, rules)
+pub returns-in-Text : goal.returns-in-Text
+returns-in-Text c = text_length_is _ (row_of c.args.row) c.requires c.in-Ok.kind c.in-Ok.ensures c.in-Text.is _ c.passed_length.ensures
 
-pub returns-then-kind-eq-BYTES : goal.returns-then-kind-eq-BYTES
-returns-then-kind-eq-BYTES c = search (bytes_is, rules)
-
-pub returns-then-kind-lt-CLASS_NAME : goal.returns-then-kind-lt-CLASS_NAME
-returns-then-kind-lt-CLASS_NAME c = search (own_is, rules)
-
-pub returns-then-kind-lt-TYPE_NUMBER : goal.returns-then-kind-lt-TYPE_NUMBER
-returns-then-kind-lt-TYPE_NUMBER c = search (name_is, rules)
-
-pub returns : goal.returns
-returns c = search (type_number_is, rules)
+pub returns-in-Bytes : goal.returns-in-Bytes
+returns-in-Bytes c = bytes_length_is _ (row_of c.args.row) c.requires (rw c.in-Bytes.is at c.in-Ok.ensures) _ c.passed_length-in-Bytes.ensures

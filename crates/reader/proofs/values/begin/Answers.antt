@@ -1,38 +1,25 @@
-use Rattle.reader.proofs.ReadValues.{begin_defined, begin_undefined, begin_less, begin_more, begin_fits}
-use Rattle.reader.proofs.ReadValues.{begin_begun}
-use Rattle.reader.proofs.ClassDefinitions.{definitions_start}
-use Rattle.std.proofs.Common.{◌∙◌, rules}
+-- Each way out has its law in proofs/ReadValues.antt.
+use Rattle.reader.proofs.ReadValues.{begin_holder, begin_leaf, begin_more, begin_refused, begin_undefined}
+use Rattle.std.proofs.lemmas.Result.{err_from_is_err_and}
 use Rattle.reader.proofs.values.begin.Goals as goal
 
-pub loop-numbers-init : goal.loop-numbers-init
-loop-numbers-init c = search (definitions_start, rules)
+pub returns-in_err-head_at : goal.returns-in_err-head_at
+returns-in_err-head_at g c = let p = err_from_is_err_and c.from_residual.result c.from_residual.ensures.1 in
+    rw (p.1, p.2) (begin_refused c.loop-slots.invariant _ c.in_err-head_at.ensures)
 
-pub definition-requires : goal.definition-requires
-definition-requires c = begin_defined c.loop-numbers.invariant c.head_at-head.ensures c.in-Definition.is
+pub returns-in_err-here-in-Definition : goal.returns-in_err-here-in-Definition
+returns-in_err-here-in-Definition g c = let p = err_from_is_err_and c.from_residual-in_err-here-in-Definition.result c.from_residual-in_err-here-in-Definition.ensures.1 in
+    rw (p.1, p.2) (begin_undefined c.loop-slots.invariant (rw c.in-Definition.is at c.in_ok-head_at.ensures)
+    _ c.in_err-here-in-Definition.ensures)
 
-pub shape_of-numbers-in-Refused : goal.shape_of-numbers-in-Refused
-shape_of-numbers-in-Refused c = search (◌∙◌, rules)
+pub loop-slots-preserved : goal.loop-slots-preserved
+loop-slots-preserved g c = begin_more c.loop-slots.invariant (rw c.in-Definition.is at c.in_ok-head_at.ensures)
+    c.in_ok-here-in-Definition.ensures
 
-pub shape_of-bytes-in-Refused : goal.shape_of-bytes-in-Refused
-shape_of-bytes-in-Refused c = search (◌∙◌, rules)
+pub returns-in-Leaf : goal.returns-in-Leaf
+returns-in-Leaf g c = begin_leaf c.loop-slots.invariant (rw c.in-Leaf.is at c.in_ok-head_at.ensures)
+    c.number.ensures c.keep.ensures
 
-pub returns-in-Refused : goal.returns-in-Refused
-returns-in-Refused c = search (begin_undefined, rules)
-
-pub loop-numbers-smaller : goal.loop-numbers-smaller
-loop-numbers-smaller c = search (begin_less, rules)
-
-pub loop-numbers-preserved : goal.loop-numbers-preserved
-loop-numbers-preserved c = search (begin_more, rules)
-
-pub by_head-requires : goal.by_head-requires
-by_head-requires c = search (begin_fits, rules)
-
-pub shape_of-numbers-in_default : goal.shape_of-numbers-in_default
-shape_of-numbers-in_default c = search (◌∙◌, rules)
-
-pub shape_of-bytes-in_default : goal.shape_of-bytes-in_default
-shape_of-bytes-in_default c = search (◌∙◌, rules)
-
-pub returns-in_default : goal.returns-in_default
-returns-in_default c = search (begin_begun, rules)
+pub returns-in-Holder : goal.returns-in-Holder
+returns-in-Holder g c = begin_holder c.loop-slots.invariant (rw c.in-Holder.is at c.in_ok-head_at.ensures)
+    c.open_holder.ensures

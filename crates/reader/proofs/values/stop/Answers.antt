@@ -1,16 +1,10 @@
--- Each way out has its law in proofs/Containers.antt.
-use Rattle.reader.proofs.Containers.{stops_few, stops_open, stops_even, stops_odd}
-use Rattle.std.proofs.Common.{rules}
+-- Where a map's value is due, 5a is no end.
+use Rattle.flow.specs.Tests.{pick_false, pick_true}
+use Rattle.std.proofs.Common.{eq-eqb, ne_eqb, sym, ◌∙◌}
 use Rattle.reader.proofs.values.stop.Goals as goal
 
-pub returns-then-group-lt-OPEN : goal.returns-then-group-lt-OPEN
-returns-then-group-lt-OPEN c = search (stops_few, rules)
-
-pub returns-then-group-lt-PAIRS : goal.returns-then-group-lt-PAIRS
-returns-then-group-lt-PAIRS c = search (stops_open, rules)
-
 pub returns-then-i-eq0 : goal.returns-then-i-eq0
-returns-then-i-eq0 c = search (stops_even, rules)
+returns-then-i-eq0 c = rw c.in-Pairs.is (c.closed_at-then-i-eq0.ensures ∙ sym (pick_true _ _ (eq-eqb _ _ c.if-i-eq0.true)))
 
-pub returns : goal.returns
-returns c = search (stops_odd, rules)
+pub returns-else-i-eq0 : goal.returns-else-i-eq0
+returns-else-i-eq0 c = rw c.in-Pairs.is (ne_eqb _ _ c.if-i-eq0.false ∙ sym (pick_false _ _ (ne_eqb _ _ c.if-i-eq0.false)))

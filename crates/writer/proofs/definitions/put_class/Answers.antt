@@ -1,13 +1,12 @@
 -- Each way out has its law in proofs/Classes.antt.
 use borrow.Author.Rules.{rules}
-use Rattle.writer.proofs.Classes.{class_unnamed, class_size, class_counted}
+use Rattle.std.proofs.lemmas.Result.{err_from_is_err_and}
+use Rattle.writer.proofs.Classes.{class_unnamed, class_counted}
 use Rattle.writer.proofs.definitions.put_class.Goals as goal
 
-pub put_int-requires : goal.put_int-requires
-put_int-requires c = search (class_size, rules)
+pub returns-in_err-named : goal.returns-in_err-named
+returns-in_err-named g c = let p = err_from_is_err_and c.from_residual.result c.from_residual.ensures.1 in
+    rw p.1 (search (class_unnamed, c.in_err-named.ensures, rules))
 
-pub returns-in-NoRecord : goal.returns-in-NoRecord
-returns-in-NoRecord c = search (class_unnamed, rules)
-
-pub returns-in-Done : goal.returns-in-Done
-returns-in-Done c = search (class_counted, rules)
+pub returns : goal.returns
+returns g c = search (class_counted, c.in_ok-named.ensures, rules)

@@ -1,16 +1,21 @@
 -- Each way out has its law in proofs/HolderLaws.antt.
+use mathlib.Core.Path.{sym, ◌∙◌}
 use borrow.Author.Rules.{rules}
-use Rattle.writer.proofs.HolderLaws.{object_ungiven, object_misfit, object_uncoded, object_opens}
+use Rattle.std.proofs.lemmas.Result.{err_from_is_err_and}
+use Rattle.writer.proofs.HolderLaws.{as_many, not_as_many, object_misfit, object_uncoded, object_opens}
 use Rattle.writer.proofs.holders.put_object.Goals as goal
 
-pub returns-then-known-class : goal.returns-then-known-class
-returns-then-known-class c = search (object_ungiven, rules)
+pub returns-then-ne : goal.returns-then-ne
+returns-then-ne c = object_misfit _ _ _ _ _ _
+    (λ e. not_as_many _ _ (sym c.ne.ensures ∙ c.if-ne.true) (c.fields_of.ensures ∙ e)) _
 
-pub returns-then-known-j : goal.returns-then-known-j
-returns-then-known-j c = search (object_misfit, rules)
+pub returns-in_err-size : goal.returns-in_err-size
+returns-in_err-size c =
+    let p = err_from_is_err_and c.from_residual.result c.from_residual.ensures.1 in
+    let e = as_many _ _ (sym c.ne.ensures ∙ c.if-ne.false) in
+    rw p.1 (object_uncoded _ _ _ _ _ _ (sym c.fields_of.ensures ∙ e) _ c.in_err-size.ensures)
 
-pub returns-in-NoRecord : goal.returns-in-NoRecord
-returns-in-NoRecord c = search (object_uncoded, rules)
-
-pub returns-in-Done : goal.returns-in-Done
-returns-in-Done c = search (object_opens, rules)
+pub returns : goal.returns
+returns c =
+    let e = as_many _ _ (sym c.ne.ensures ∙ c.if-ne.false) in
+    object_opens _ _ _ _ _ _ (sym c.fields_of.ensures ∙ e) _ _ c.in_ok-size.ensures

@@ -1,19 +1,16 @@
 -- Each way out has its law in proofs/LeafLaws.antt.
+use native.Mathlib.Omega.{arith}
 use borrow.Author.Rules.{rules}
-use Rattle.writer.proofs.LeafLaws.{leaf_number, leaf_text, leaf_content, leaf_reference, leaf_none}
+use Rattle.writer.proofs.LeafLaws.{leaf_text, leaf_none, kind_above}
 use Rattle.writer.proofs.leaves.put_leaf.Goals as goal
-
-pub returns-then-kind-lt-TEXT : goal.returns-then-kind-lt-TEXT
-returns-then-kind-lt-TEXT c = search (leaf_number, rules)
-
-pub returns-in-7 : goal.returns-in-7
-returns-in-7 c = search (leaf_text, rules)
-
-pub returns-in-8 : goal.returns-in-8
-returns-in-8 c = search (leaf_content, rules)
-
-pub returns-in-14 : goal.returns-in-14
-returns-in-14 c = search (leaf_reference, rules)
 
 pub returns-in_default : goal.returns-in_default
 returns-in_default c = search (leaf_none, rules)
+
+pub returns-in-Text : goal.returns-in-Text
+returns-in-Text c = search (leaf_text, rules)
+
+pub returns-in_default-kind : goal.returns-in_default-kind
+returns-in_default-kind c = leaf_none _ _ _ _ _
+    (kind_above c.in-Ok.kind c.in-Ok.ensures c.in_default-sort_of.ensures
+    c.in_default-kind.not-Text c.in_default-kind.not-Bytes c.in_default-kind.not-Reference c.requires) _

@@ -1,19 +1,20 @@
-use borrow.Author.Rules.{rules}
+-- Each step has its law in proofs/Classes.antt.
+use Rattle.std.proofs.lemmas.Result.{err_from_is_err_and}
 use Rattle.writer.proofs.Classes.{names_begin, names_lost, names_room, names_more, names_past}
-use Rattle.writer.proofs.FetchLaws.{items_few}
 use Rattle.writer.proofs.names.put_field_names.Goals as goal
 
-pub loop-i-init : goal.loop-i-init
-loop-i-init c = search (names_begin, rules)
+pub loop-init : goal.loop-init
+loop-init g c = names_begin c.requires c.args.count c.args.out.now c.args.from.size
 
-pub returns-in-NoRecord : goal.returns-in-NoRecord
-returns-in-NoRecord c = search (names_lost, rules)
+pub returns-in_err-size : goal.returns-in_err-size
+returns-in_err-size g c = let p = err_from_is_err_and c.from_residual.result c.from_residual.ensures.1 in
+    rw p.1 (names_lost c.loop.invariant c.loop-test.true c.in_err-size.ensures)
 
-pub overflow_add-next : goal.overflow_add-next
-overflow_add-next c = search (names_room, items_few, rules)
+pub overflow_add-at : goal.overflow_add-at
+overflow_add-at g c = names_room c.loop.invariant c.loop-test.true c.in_ok-size.ensures
 
-pub loop-i-preserved : goal.loop-i-preserved
-loop-i-preserved c = search (names_more, rules)
+pub loop-preserved : goal.loop-preserved
+loop-preserved g c = names_more c.loop.invariant c.loop-test.true c.in_ok-size.ensures
 
 pub returns : goal.returns
-returns c = search (names_past, rules)
+returns g c = names_past c.loop.at.size c.loop.invariant c.loop-test.false c.loop.auto.counter-end

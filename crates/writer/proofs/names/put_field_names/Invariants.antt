@@ -1,12 +1,10 @@
--- The loop's invariant: what is left is written as the whole is, with the bytes so far before it. The measure is how
--- many names are left.
-use Prim.Native.Nat.{◌-◌}
-use Rattle.writer.specs.Promises.{items_in}
+-- The loop's invariant: what is left is written as the whole is, with the bytes so far before it.
+use Rattle.writer.specs.Promises.{items_of}
 use Rattle.writer.proofs.Classes.{NamesSoFar}
 use Rattle.writer.proofs.names.put_field_names.Given as goal
 
-abbrev pub invariant-loop-i : goal.invariant-loop-i
-invariant-loop-i l = NamesSoFar (items_in l.source l.numbers l.bytes l.rows) l.initial.at.next l.count l.initial.out l.initial.at.size l.out l.at.next l.at.size l.i
-
-abbrev pub decreases-loop-i : goal.decreases-loop-i
-decreases-loop-i l = l.count - l.i
+abbrev pub invariant-loop : goal.invariant-loop
+invariant-loop g l =
+    NamesSoFar
+    (items_of l.table) l.fn.from.next l.count l.fn.out l.fn.from.size.bytes
+    l.out l.at.next l.at.size.bytes l.counter

@@ -1,19 +1,21 @@
 -- Each way out has its law in proofs/FetchLaws.antt.
+use mathlib.Core.Logic.{inl, inr}
 use borrow.Author.Rules.{rules}
-use Rattle.writer.proofs.FetchLaws.{plainly_held, plainly_low, plainly_single, plainly_short, plainly_defined}
+use Rattle.writer.proofs.FetchLaws.{plainly_held, plainly_single, plainly_short, plainly_defined}
 use Rattle.writer.proofs.rows.ends_plainly.Goals as goal
+use Rattle.writer.proofs.rows.ends_plainly.Goals.{else-r-via-then-r+else-r-2, else-r-via-else-r}
 
-pub returns-then-kind-lt-LIST : goal.returns-then-kind-lt-LIST
-returns-then-kind-lt-LIST c = search (plainly_low, rules)
+pub returns-then-r-2 : goal.returns-then-r-2
+returns-then-r-2 c = search (plainly_held, rules)
 
-pub returns-then-kind-lt-REFERENCE : goal.returns-then-kind-lt-REFERENCE
-returns-then-kind-lt-REFERENCE c = search (plainly_held, rules)
+pub returns-then-next-r : goal.returns-then-next-r
+returns-then-next-r c = search (plainly_defined, rules)
 
-pub returns-then-r-next : goal.returns-then-r-next
-returns-then-r-next c = search (plainly_short, rules)
-
-pub returns-then-kind-eq-CLASS : goal.returns-then-kind-eq-CLASS
-returns-then-kind-eq-CLASS c = search (plainly_defined, rules)
+pub returns-else-next-r : goal.returns-else-next-r
+returns-else-next-r c = search (plainly_short, rules)
 
 pub returns : goal.returns
-returns c = search (plainly_single, rules)
+returns c = elim c.else-r.branch [
+  | else-r-via-then-r+else-r-2 w ↦ plainly_single c.args.r _ (inr w.if-r-2.false) c.if-r-3.false
+  | else-r-via-else-r w ↦ plainly_single c.args.r _ (inl w.if-r.false) c.if-r-3.false
+]

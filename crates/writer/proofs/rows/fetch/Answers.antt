@@ -3,11 +3,13 @@ use borrow.Author.Rules.{rules}
 use Rattle.writer.proofs.FetchLaws.{fetch_end, fetch_row, fetch_wrong}
 use Rattle.writer.proofs.rows.fetch.Goals as goal
 
-pub returns-then-n-k : goal.returns-then-n-k
-returns-then-n-k c = search (fetch_end, rules)
+pub returns-then-table-k : goal.returns-then-table-k
+returns-then-table-k g c = rw (← c.table.view_is) (search (fetch_end, rules))
 
-pub returns-then-ends_plainly : goal.returns-then-ends_plainly
-returns-then-ends_plainly c = search (fetch_row, rules)
+pub returns-in-Some : goal.returns-in-Some
+returns-in-Some g c = let at = c.in-Some.ensures in
+    rw (← c.table.view_is) (search (fetch_row, at.1, rules))
 
-pub returns : goal.returns
-returns c = search (fetch_wrong, rules)
+pub returns-in_default : goal.returns-in_default
+returns-in_default g c = let at = c.in-Some.ensures in
+    rw (← c.table.view_is) (search (fetch_wrong, at.1, rules))

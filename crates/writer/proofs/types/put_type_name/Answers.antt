@@ -3,11 +3,11 @@ use borrow.Author.Rules.{rules}
 use Rattle.writer.proofs.TypeLaws.{type_misnumbered, type_full, type_named}
 use Rattle.writer.proofs.types.put_type_name.Goals as goal
 
-pub returns-then-given-number : goal.returns-then-given-number
-returns-then-given-number c = search (type_misnumbered, rules)
+pub returns-then-known-number : goal.returns-then-known-number
+returns-then-known-number c = search (type_misnumbered, rules)
 
-pub returns-then-given-ge-TYPES : goal.returns-then-given-ge-TYPES
-returns-then-given-ge-TYPES c = search (type_full, rules)
+pub returns-then-known-ge-TYPES : goal.returns-then-known-ge-TYPES
+returns-then-known-ge-TYPES c = search (type_full, rules)
 
 pub returns : goal.returns
 returns c = search (type_named, rules)

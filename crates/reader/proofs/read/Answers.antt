@@ -1,7 +1,0 @@
--- Its one way out has its law in proofs/Message.antt.
-use Rattle.std.proofs.Common.{rules}
-use Rattle.reader.proofs.Message.{read_numbers_law}
-use Rattle.reader.proofs.read.Goals as goal
-
-pub returns : goal.returns
-returns c = search (read_numbers_law, rules)
