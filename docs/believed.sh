@@ -4,7 +4,7 @@
 cd "$(dirname "$0")/../crates" || exit 1
 echo '1 to 7: the definitions that the promises of the public functions use'
 wc -l flow/specs/RefusalNumbers.antt flow/specs/Flow.antt wire/specs/BigEndian.antt scalar/specs/Scalars.antt \
-    scalar/specs/Answers.antt record/specs/Model/Kinds.antt record/specs/Model/Items.antt \
+    scalar/specs/Answers.antt scalar/specs/Refusals.antt record/specs/Model/Kinds.antt record/specs/Model/Items.antt \
     record/specs/Model/Containers.antt record/specs/Model/Reading.antt record/specs/Model/Rows.antt record/specs/Model/Claims.antt \
     record/specs/Model/Shortest.antt record/specs/Model/Answers.antt record/specs/Model/Calls.antt \
     reader/specs/Answers.antt writer/specs/Answers.antt hessian/specs/Packed.antt

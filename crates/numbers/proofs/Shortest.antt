@@ -130,6 +130,12 @@ module _ {c : Codes} (k : HasCodes c) (v : ℕ) (l : Fits w64 v) {x : ℕ} (ex :
         not_five h =
             not_three nz ∙ not_held (form c.five 1 4 Signed) k.others v (signed_other v l.fits h)
 
+-- a long that 32 bits with a sign don't hold
+pub long_wide : (v : ℕ) → Fits w64 v → 2 ^ 32 ≤ (v + 2 ^ 31) % 2 ^ 64 → shortest (forms_of Long) v ≡ some (0x4c ∷ be 8 v)
+long_wide v l h =
+    not_five long_codes v l refl (omega (arith, l.fits)) refl (omega (arith, l.fits)) refl (omega (arith, l.fits)) h
+    ∙ plain_held 0x4c v l.fits
+
 -- ---- dates: minutes are multiples of 32 milliseconds
 minutes_low : (z : ℤ) → of_z w64 (z *ℤ pos 60_000) % 32 ≡ 0
 minutes_low (pos a) = omega arith

@@ -1,12 +1,12 @@
 -- The shortest form: what the code tries, form by form, and what it then stores.
-use Rattle.std.proofs.Common.{◌≡◌, ℕ, zero, suc, ◌+◌, ◌-◌, ◌*◌, ◌/◌, ◌^◌, ◌<◌, ◌≤◌, Bool, true, false, cond, ◌&&◌, T, leb, List, [], ◌∷◌, ◌++◌, length, set, sym, refl, ap, ◌∙◌, subst, add-zero, arith, leb→le, drop-drop, length-set, w64, le-ltb, lt-ltb, eq-eqb, ne_eqb}
+use Rattle.std.proofs.Common.{◌≡◌, ℕ, zero, suc, ◌+◌, ◌-◌, ◌*◌, ◌/◌, ◌^◌, ◌<◌, ◌≤◌, Bool, true, false, cond, ◌&&◌, T, leb, List, [], ◌∷◌, ◌++◌, length, set, sym, refl, ap, ◌∙◌, subst, add-zero, arith, leb→le, drop-drop, length-set, w32, w64, le-ltb, lt-ltb, eq-eqb, ne_eqb}
 use mathlib.Core.Option.{Option, none, some}
 use native.Mathlib.Nat.{div-div-eq-div-mul}
 use borrow.Rule.Slice.PartMut.{put_mid}
 use Rattle.std.specs.Int.{to_be_bytes}
 use Rattle.flow.specs.Tests.{and_left, and_right}
-use Rattle.flow.specs.Flow.{stored}
-use Rattle.flow.specs.OverlayLaws.{stored_in, stored_out, stored_sets, stored_seam}
+use Rattle.flow.specs.Flow.{stored, reported}
+use Rattle.flow.specs.OverlayLaws.{stored_in, stored_out, stored_sets, stored_seam, length_stored}
 use Rattle.wire.specs.BigEndian.{be, high, wider}
 use Rattle.wire.specs.Laws.{be_length, be_bytes, joined_be, joined_below}
 use Rattle.scalar.specs.declared.Sort.{Sort}
@@ -29,9 +29,10 @@ use Rattle.scalar.proofs.FormLaws.{forms_null, forms_false, forms_true, forms_in
 use Rattle.scalar.proofs.FormLaws.{shortest_none, shortest_first}
 use Rattle.scalar.specs.NumberLaws.{tried}
 use Rattle.scalar.proofs.NumberLaws.{EachForm, IsNumber, number_fact, shortest_is}
-use Rattle.numbers.specs.Answers.{Takes, Good, spelled, HasRoom, Writes}
-use Rattle.scalar.specs.Answers.{report, report_of, output_of}
+use Rattle.numbers.specs.Answers.{Takes, Good, spelled, HasRoom}
+use Rattle.scalar.specs.Answers.{report, report_of, output_of, length_of}
 use Rattle.scalar.proofs.AnswerLaws.{report_none, report_stored, report_over, output_none, output_some}
+use Rattle.scalar.proofs.AnswerLaws.{length_none, length_some}
 
 -- ---- one form
 -- what stands before the k lowest bytes is the quotient
@@ -142,33 +143,67 @@ all_short Long = rw forms_long tt
 all_short Double = rw forms_double tt
 all_short Date = rw forms_date tt
 
--- ---- what was written, by the form: there is none; it is w
-pub written_none : {o : Option (List ℕ)} (l : List ℕ) (at : ℕ) → o ≡ none → Writes o l at (Err NoSuchForm) l
-written_none l at e = rw e (record { says = sym (report_none (length l) at); holds = sym (output_none l at) })
+-- ---- what was put, by the form: how many bytes it has, if there is one, and what the list then holds
+abbrev Form? : Option (List ℕ) → code.Option ℕ → Type 0
+Form? o r = MatchOption r (o ≡ none) (λ n. (0 < n) × (n ≡ length_of o))
 
--- no spelling, passed on as the refusal y
-pub unspelled : {o : Option (List ℕ)} (l : List ℕ) (at : ℕ) (x : Result ℕ Unwritten) (y : Unwritten)
-    (z : code.Option Spelling) → IsErrAnd x (λ e. e ≡ y) → Err y ≡ ok_or z NoSuchForm → z ≡ None → spelled z ≡ o
-    → Writes o l at x l
-unspelled l at x y z h e i f =
-    let p = err_from_is_err_and x h in
-    let q : y ≡ NoSuchForm = cc (e ∙ ap (λ (z : code.Option Spelling). ok_or z NoSuchForm) i) in
-    rw (p.1, p.2, q) (written_none l at (sym f ∙ ap spelled i))
+pub put_none : {o : Option (List ℕ)} (l : List ℕ) (at : ℕ) → o ≡ none → Form? o None × (l ≡ output_of o l at)
+put_none l at e = (e, rw e (sym (output_none l at)))
 
-pub written_as : {o : Option (List ℕ)} {w l l' : List ℕ} {at : ℕ} {r : Result ℕ Unwritten}
-    → Writes (some w) l at r l' → o ≡ some w → Writes o l at r l'
-written_as h e = rw e h
+pub put_as : {o : Option (List ℕ)} {w : List ℕ} (l : List ℕ) (at : ℕ) {l' : List ℕ} {n : ℕ} → l' ≡ stored l at w
+    → n ≡ length w → 0 < n → o ≡ some w → Form? o (Some n) × (l' ≡ output_of o l at)
+put_as {w = w} l at f e h g = rw g ((h, e ∙ sym (length_some w)), f ∙ sym (output_some l at w))
 
--- the promise, of a value of the kind x; of one whose forms are ws
-pub written_kind : {s x : Sort} (v : ℕ) {l l' : List ℕ} {at : ℕ} {r : Result ℕ Unwritten}
-    → s ≡ x → Writes (shortest (forms_of x) v) l at r l'
-    → (report r ≡ report_of (shortest (forms_of s) v) (length l) at) × (l' ≡ output_of (shortest (forms_of s) v) l at)
-written_kind v e h = rw e (h.says, h.holds)
+-- of one whose forms are ws
+pub put_forms : {s x : Sort} (v : ℕ) {ws : List Form} (l : List ℕ) (at : ℕ) {l' : List ℕ} (r : code.Option ℕ)
+    → s ≡ x → forms_of x ≡ ws → Form? (shortest ws v) r × (l' ≡ output_of (shortest ws v) l at)
+    → Form? (shortest (forms_of s) v) r × (l' ≡ output_of (shortest (forms_of s) v) l at)
+put_forms v l at r e f h = rw (e, f) h
 
-pub written_forms : {s x : Sort} (v : ℕ) {ws : List Form} {l l' : List ℕ} {at : ℕ} {r : Result ℕ Unwritten}
-    → s ≡ x → forms_of x ≡ ws → Writes (shortest ws v) l at r l'
-    → (report r ≡ report_of (shortest (forms_of s) v) (length l) at) × (l' ≡ output_of (shortest (forms_of s) v) l at)
-written_forms v e f h = rw (e, f) (h.says, h.holds)
+-- no spelling
+pub unspelled : {o : Option (List ℕ)} (l : List ℕ) (at : ℕ) (z : code.Option Spelling) → z ≡ None → spelled z ≡ o
+    → Form? o None × (l ≡ output_of o l at)
+unspelled l at z i f = put_none l at (sym f ∙ ap spelled i)
+
+-- ---- what is reported of it: there is no form, passed on as the refusal y; it has no room; it has room
+form_there : (o : Option (List ℕ)) {n : ℕ} → (0 < n) × (n ≡ length_of o)
+    → (w : List ℕ) × (o ≡ some w) × (n ≡ length w)
+form_there none h = absurd (omega (arith, h.0, h.1, length_none))
+form_there (some w) h = (w, refl, h.1 ∙ length_some w)
+
+module _ (o : Option (List ℕ)) (l l' : List ℕ) (at : ℕ) (f : l' ≡ output_of o l at) (n : ℕ) (w : List ℕ)
+    (e : o ≡ some w) (g : n ≡ length w) where
+  same : length l' ≡ length l
+  same = rw (f, e, output_some) (length_stored l at w)
+
+  over : length l' < at + n → reported 9 n ≡ report_of o (length l) at
+  over h = rw (e, g) (sym (report_over (length l) at w (omega (arith, h, same, g))))
+
+  within : at + n ≤ length l' → reported 0 n ≡ report_of o (length l) at
+  within h = rw (e, g) (sym (report_stored (length l) at w (omega (arith, h, same, g))))
+
+module _ (o : Option (List ℕ)) (l l' : List ℕ) (at : ℕ) (r : code.Option ℕ)
+    (f : Form? o r × (l' ≡ output_of o l at)) where
+  pub told_none : (x : Result ℕ Unwritten) (y : Unwritten) → IsErrAnd x (λ e. e ≡ y) → Err y ≡ ok_or r NoSuchForm
+      → r ≡ None → report x ≡ report_of o (length l) at
+  told_none x y h e i =
+      let p = err_from_is_err_and x h in
+      let q : y ≡ NoSuchForm = cc (e ∙ ap (λ (z : code.Option ℕ). ok_or z NoSuchForm) i) in
+      let n : o ≡ none = subst (Form? o) i f.0 in
+      rw (p.1, p.2, q, n) (sym (report_none (length l) at))
+
+  module _ (n : ℕ) (i : r ≡ Some n) where
+    pub told_over : (x : Result ℕ Unwritten) (y : Unwritten) → IsErrAnd x (λ e. e ≡ y)
+        → HasRoom (length l') at n (Err y) → report x ≡ report_of o (length l) at
+    told_over x y h c =
+        let p = err_from_is_err_and x h in
+        let w = form_there o (subst (Form? o) i f.0) in
+        ap report (p.1 ∙ ap Err (p.2 ∙ c.1)) ∙ over o l l' at f.1 n w.0 w.1 w.2 c.0
+
+    pub told_stored : at + n ≤ length l' → report (Ok n) ≡ report_of o (length l) at
+    told_stored c =
+        let w = form_there o (subst (Form? o) i f.0) in
+        within o l l' at f.1 n w.0 w.1 w.2 c
 
 -- a form has up to eight bytes after its first
 pub few_more : (s : Sort) (v : ℕ) (x : Spelling) {r : code.Option Spelling} → spelled r ≡ shortest (forms_of s) v
@@ -176,24 +211,6 @@ pub few_more : (s : Sort) (v : ℕ) (x : Spelling) {r : code.Option Spelling} �
 few_more s v x e q =
     let n = subst (IsNumber (forms_of s) v) (sym e ∙ ap spelled q) (shortest_is (forms_of s) v) in
     omega (arith, be_length x.more x.rest, number_fact (λ m x. m ≤ 9) n (each_short (forms_of s) (all_short s)))
-
--- ---- the bytes w stored, which are n: they do not fit, or they do
-module _ (l : List ℕ) (at : ℕ) (w : List ℕ) {n : ℕ} (e : n ≡ length w) where
-  pub no_room : (x : Result ℕ Unwritten) (y : Unwritten) → IsErrAnd x (λ z. z ≡ y) → HasRoom (length l) at n (Err y)
-      → Writes (some w) l at x l
-  no_room x y h c =
-      let p = err_from_is_err_and x h in
-      let over : length l < at + length w = omega (arith, c.0) in
-      rw (p.1, p.2, c.1, e) (record {
-        says = sym (report_over (length l) at w over);
-        holds = sym (output_some l at w ∙ stored_out l at w over);
-      })
-
-  pub all_stored : at + n ≤ length l → {l' : List ℕ} → l' ≡ stored l at w → Writes (some w) l at (Ok n) l'
-  all_stored h f = rw e (record {
-    says = sym (report_stored (length l) at w (omega arith));
-    holds = f ∙ sym (output_some l at w);
-  })
 
 -- a byte and a number's bytes, stored one after the other
 pub code_stored : (l : List ℕ) (at code more rest : ℕ) → at + (more + 1) ≤ length l
@@ -217,9 +234,18 @@ be_eight n =
     let f : n / 256 ^ 7 ≡ n / 256 / 256 / 256 / 256 / 256 / 256 / 256 = omega arith in
     rw (a, b, c, d, e, f) refl
 
-pub nine_stored : (l b : List ℕ) (at code v : ℕ) → at + 9 ≤ length l → b ≡ to_be_bytes w64 v
-    → put_mid (at + 1) (at + 9 - (at + 1)) (set l at code) b ≡ stored l at (code ∷ be 8 v)
-nine_stored l b at code v h e =
-    rw (e ∙ be_eight v)
-    (part_stored (set l at code) (be 8 v) (at + 1) (at + 9 - (at + 1)) (omega arith) (rw length-set (omega arith))
-    ∙ code_stored l at code 8 v (omega arith))
+-- and the four of one of 32 bits
+pub be_four : (n : ℕ) → to_be_bytes w32 n ≡ be 4 n
+be_four n =
+    let a : n / 256 ^ 2 ≡ n / 256 / 256 = omega arith in
+    let b : n / 256 ^ 3 ≡ n / 256 / 256 / 256 = omega arith in
+    rw (a, b) refl
+
+-- a byte and k bytes after it
+pub wide_stored : (k : ℕ) (l b : List ℕ) (at code v : ℕ) → at + (k + 1) ≤ length l → b ≡ be k v
+    → put_mid (at + 1) (at + (k + 1) - (at + 1)) (set l at code) b ≡ stored l at (code ∷ be k v)
+wide_stored k l b at code v h e =
+    let n = be_length k v in
+    rw e
+    (part_stored (set l at code) (be k v) (at + 1) (at + (k + 1) - (at + 1)) (omega (arith, n)) (rw length-set (omega arith))
+    ∙ code_stored l at code k v h)

@@ -37,6 +37,7 @@ pub fn following(b: u8) -> usize
 }
 
 // What the byte opens, by its range.
+#[inline(always)]
 pub fn classify(b: u8) -> Lead
     ensures { result ≡ lead_of b }
 {

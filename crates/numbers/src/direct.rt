@@ -50,6 +50,7 @@ fn five_bytes(message: &[u8], at: usize, rule: Rule) -> Result<NumberPassed, Ref
 }
 
 // Of 64 bits.
+#[inline(always)]
 fn nine_bytes(message: &[u8], at: usize) -> Result<NumberPassed, Refused>
     requires { at < length message.now }
     ensures { passed result ≡ form_read message.now at 8 0 rule.Plain }
@@ -64,6 +65,7 @@ fn nine_bytes(message: &[u8], at: usize) -> Result<NumberPassed, Refused>
 // ---- values, each by the forms that its function is for; others are read as any number
 
 // A value of a kind whose only form is this byte.
+#[inline(always)]
 fn single(sort: Sort, code: u8, message: &[u8], at: usize) -> Result<NumberPassed, Refused>
     requires { forms_of sort ≡ single_form code }
     ensures { passed result ≡ number_at sort message.now at }
@@ -76,6 +78,7 @@ fn single(sort: Sort, code: u8, message: &[u8], at: usize) -> Result<NumberPasse
 }
 
 // Null, false or true.
+#[inline(always)]
 pub fn pass_single(sort: Sort, message: &[u8], at: usize) -> Result<NumberPassed, Refused>
     ensures { passed result ≡ number_at sort message.now at }
 {
@@ -88,6 +91,7 @@ pub fn pass_single(sort: Sort, message: &[u8], at: usize) -> Result<NumberPassed
 }
 
 // An int, by the forms of the upper half of the codes first.
+#[inline(always)]
 pub fn pass_int(message: &[u8], at: usize) -> Result<NumberPassed, Refused>
     ensures { passed result ≡ number_at sort.Int message.now at }
 {
@@ -101,6 +105,7 @@ pub fn pass_int(message: &[u8], at: usize) -> Result<NumberPassed, Refused>
 }
 
 // An int, by the form of the lower half first.
+#[inline(always)]
 pub fn pass_wide_int(message: &[u8], at: usize) -> Result<NumberPassed, Refused>
     ensures { passed result ≡ number_at sort.Int message.now at }
 {
@@ -112,6 +117,7 @@ pub fn pass_wide_int(message: &[u8], at: usize) -> Result<NumberPassed, Refused>
 }
 
 // A long, by the forms of the upper half first.
+#[inline(always)]
 pub fn pass_long(message: &[u8], at: usize) -> Result<NumberPassed, Refused>
     ensures { passed result ≡ number_at sort.Long message.now at }
 {
@@ -124,6 +130,7 @@ pub fn pass_long(message: &[u8], at: usize) -> Result<NumberPassed, Refused>
 }
 
 // A long, by the forms of the lower half first.
+#[inline(always)]
 pub fn pass_wide_long(message: &[u8], at: usize) -> Result<NumberPassed, Refused>
     ensures { passed result ≡ number_at sort.Long message.now at }
 {
@@ -137,6 +144,7 @@ pub fn pass_wide_long(message: &[u8], at: usize) -> Result<NumberPassed, Refused
 }
 
 // A double, by its two widest forms first.
+#[inline(always)]
 pub fn pass_double(message: &[u8], at: usize) -> Result<NumberPassed, Refused>
     ensures { passed result ≡ number_at sort.Double message.now at }
 {
@@ -149,6 +157,7 @@ pub fn pass_double(message: &[u8], at: usize) -> Result<NumberPassed, Refused>
 }
 
 // A date, by its form in milliseconds first.
+#[inline(always)]
 pub fn pass_date(message: &[u8], at: usize) -> Result<NumberPassed, Refused>
     ensures { passed result ≡ number_at sort.Date message.now at }
 {

@@ -7,9 +7,9 @@ pub mod direct;
 pub mod doubles;
 mod lengths;
 pub(crate) mod signed;
-mod stores;
+pub mod stores;
 
-ghost use Rattle.std.specs.Prelude.{◌≡◌, ◌<◌, ◌≤◌, [], ◌∷◌, length, Some};
+ghost use Rattle.std.specs.Prelude.{◌≡◌, ◌<◌, ◌≤◌, [], ◌∷◌, length, Some, MatchOption};
 ghost use Rattle.std.proofs.Math.Option.{none};
 ghost use Rattle.scalar.specs.declared.Rule.TheVariants as Rule;
 ghost use Rattle.scalar.specs.declared.Sort.TheVariants as Sort;
@@ -17,7 +17,7 @@ ghost use Rattle.scalar.specs.Scalars.{value as value_of, form, forms_of, begun 
 ghost use Rattle.scalar.specs.Guesses.{guess as guessOf};
 ghost use Rattle.scalar.specs.Answers.{number_at, length_of, report, report_of, output_of};
 ghost use Rattle.numbers.specs.Answers.{passed, Measured, NumberMet, ByteThere, Followed, cut_at, Takes, Good, spelled};
-ghost use Rattle.numbers.specs.Answers.{whole_forms, HasCodes, Writes};
+ghost use Rattle.numbers.specs.Answers.{whole_forms, HasCodes};
 ghost use Rattle.scalar.specs.NumberLaws.{tried};
 
 use crate::stores::{Codes, INT_CODES, LONG_CODES};
@@ -174,7 +174,7 @@ fn value_of(rule: Rule, u: u64) -> u64
     match rule {
         Rule::Exactly(v) => v,
         Rule::Plain => u,
-        Rule::Offset(k) => u.wrapping_sub(k),
+        Rule::Offset(k) => signed::less(u, k),
         Rule::Signed => signed::signed_32(u).cast_unsigned(),
         Rule::Minutes => signed::milliseconds(u),
         Rule::WholeByte => doubles::whole_byte(u),
@@ -345,12 +345,36 @@ pub fn number_length(sort: Sort, value: u64) -> usize
     }
 }
 
-// The shortest form of the value in `out` from `at` on: each form is tried in turn.
-fn write_form(sort: Sort, value: u64, out: &mut [u8], at: usize) -> Result<usize, Unwritten>
-    ensures { Writes (shortest (forms_of sort) value) out.old at result out.new }
+// The shortest form of the value in `out` from `at` on, where it fits: each form is tried in turn. How many bytes it
+// has.
+#[inline(never)]
+fn put_form(sort: Sort, value: u64, out: &mut [u8], at: usize) -> Option<usize>
+    ensures { MatchOption result (shortest (forms_of sort) value ≡ none)
+        (λ n. (0 < n) × (n ≡ length_of (shortest (forms_of sort) value)))
+        × (out.new ≡ output_of (shortest (forms_of sort) value) out.old at) }
 {
-    let spelling = spell(sort, value).ok_or(Unwritten::NoSuchForm)?;
-    stores::store_spelling(out, at, spelling)
+    let spelling = spell(sort, value)?;
+    stores::store_spelling(out, at, spelling);
+    Some(spelling.more + 1)
+}
+
+// The shortest form of the value in `out` from `at` on, where it fits. How many bytes it has, whether they fit or not;
+// None, where it is no value of this kind.
+#[inline(always)]
+pub fn put_number(sort: Sort, value: u64, out: &mut [u8], at: usize) -> Option<usize>
+    ensures { MatchOption result (shortest (forms_of sort) value ≡ none)
+        (λ n. (0 < n) × (n ≡ length_of (shortest (forms_of sort) value)))
+        × (out.new ≡ output_of (shortest (forms_of sort) value) out.old at) }
+{
+    match sort {
+        Sort::Null => stores::put_single(0x4e, value, out, at),
+        Sort::False => stores::put_single(0x46, value, out, at),
+        Sort::True => stores::put_single(0x54, value, out, at),
+        Sort::Int => stores::put_int(value, out, at),
+        Sort::Long => stores::put_long(value, out, at),
+        Sort::Double => stores::put_double(value, out, at),
+        Sort::Date => stores::put_date(value, out, at),
+    }
 }
 
 // The shortest form of the value in `out` from `at` on: stored whole or not at all.
@@ -358,13 +382,7 @@ pub fn write_number(sort: Sort, value: u64, out: &mut [u8], at: usize) -> Result
     ensures { (report result ≡ report_of (shortest (forms_of sort) value) (length out.old) at)
         × (out.new ≡ output_of (shortest (forms_of sort) value) out.old at) }
 {
-    match sort {
-        Sort::Null => stores::write_single(0x4e, value, out, at),
-        Sort::False => stores::write_single(0x46, value, out, at),
-        Sort::True => stores::write_single(0x54, value, out, at),
-        Sort::Int => stores::write_int(value, out, at),
-        Sort::Long => stores::write_long(value, out, at),
-        Sort::Double => stores::write_double(value, out, at),
-        Sort::Date => stores::write_date(value, out, at),
-    }
+    let size = put_number(sort, value, out, at).ok_or(Unwritten::NoSuchForm)?;
+    stores::room(out, at, size)?;
+    Ok(size)
 }

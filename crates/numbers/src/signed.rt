@@ -1,5 +1,5 @@
 // Numbers with a sign, and their two's complement in 64 bits.
-ghost use Rattle.std.specs.Prelude.{◌≡◌, ◌+◌, ◌*◌, ◌%◌, ◌^◌, ◌<◌, pos, ◌*ℤ◌, int_div, nat_lt};
+ghost use Rattle.std.specs.Prelude.{◌≡◌, ◌+◌, ◌*◌, ◌%◌, ◌^◌, ◌<◌, pos, ◌-ℤ◌, ◌*ℤ◌, int_div, nat_lt};
 ghost use Rattle.std.specs.Int.{w32, w64};
 ghost use Rattle.std.proofs.Common.{of_z, to_z};
 
@@ -9,6 +9,14 @@ pub(crate) fn signed_32(n: u64) -> i64
     ensures { result ≡ to_z w32 n }
 {
     i64::from((n as u32).cast_signed())
+}
+
+// u less k.
+pub(crate) fn less(u: u64, k: u64) -> u64
+    requires { (u < 2 ^ 63) × (k < 2 ^ 63) }
+    ensures { result ≡ of_z w64 (pos u -ℤ pos k) }
+{
+    ((u as i64) - (k as i64)).cast_unsigned()
 }
 
 // Whether the number whose two's complement is v is one from -d to d - 1.

@@ -34,7 +34,7 @@ use Rattle.record.proofs.ForReader.ReadValues.{reference_got, reference_ungiven,
 use Rattle.record.specs.ForReader.ReadDefinitions.{below, plain}
 use Rattle.reader.specs.declared.heads.Head.TheVariants as head
 use Rattle.reader.specs.Slots.{RowRead}
-use Rattle.reader.specs.Promises.{refused, lost, PlaceIn, LeadAt, CountMet, HeadIs, LeafHeadMet, PlainHeadMet}
+use Rattle.reader.specs.Promises.{leaf_of, refused, lost, PlaceIn, LeadAt, CountMet, HeadIs, LeafHeadMet, PlainHeadMet}
 use Rattle.reader.proofs.Sizes.{binary_has, string_room, string_has}
 
 pub byte_small : (m : List ℕ) (p : ℕ) → Bytes m → get_or m p 0 < 256
@@ -93,7 +93,7 @@ module _ (m : List ℕ) (p : ℕ) (x : Lead) (h : LeadAt m p x) where
 
   pub lead_at_got : (d : ℕ) (c : Known) (k : Kind) (z v w n : ℕ) → kind_number k ≡ z → (0 < n) × (p + n ≤ length m)
       → run (plain_from Floats base (below base d) p (get_or m p 0)) c m (p + 1) ≡ ReadTo (p + n) tt (row z p v w 1 ∷ []) c
-      → ((e : ℕ) → RowRead m (row z p v w e)) → HeadIs m c p d (Ok (head.Leaf k v w (p + n)))
+      → ((e : ℕ) → RowRead m (row z p v w e)) → HeadIs m c p d (Ok (head.Leaf (leaf_of k v w (p + n))))
   lead_at_got d c k z v w n q i e r = record {
     says = lead_at_run d c ∙ e ∙ ap (λ (z : ℕ). ReadTo (p + n) tt (row z p v w 1 ∷ []) c) (sym q);
     goes = (omega (arith, i.0), i.1);
@@ -109,7 +109,7 @@ module _ (s : Sort) (m : List ℕ) (p : ℕ) (h : LeadAt m p (lead.Number s)) wh
   }
 
   pub number_head_is : (k : Kind) → kind_number k ≡ sort_kind s → (n : NumberPassed) → passed (Ok n) ≡ number_at s m p
-      → LeafHeadMet m p (Ok (head.Leaf k n.value 0 (p + n.size)))
+      → LeafHeadMet m p (Ok (head.Leaf (leaf_of k n.value 0 (p + n.size))))
   number_head_is k q n t = record {
     heads = λ d c. lead_at_got m p _ h d c k (sort_kind s) n.value 0 n.size q (number_room s m p t h.bytes)
         (leaf_number base (below base d) c m p h.inside (lead_at_form m p _ h) s h.lead n.size n.value (sym t))
@@ -125,7 +125,7 @@ module _ (m : List ℕ) (p : ℕ) where
     }
 
     pub text_head_is : (x : StringPassed) → PassedMet Utf8 m p (Ok x)
-        → LeafHeadMet m p (Ok (head.Leaf kind.Text x.units x.bytes (p + x.size)))
+        → LeafHeadMet m p (Ok (head.Leaf (leaf_of kind.Text x.units x.bytes (p + x.size))))
     text_head_is x t = record {
       heads = λ d c. lead_at_got m p _ h d c kind.Text 7 x.units x.bytes x.size refl (string_room Utf8 m p t h.bytes)
           (leaf_text base (below base d) c m p h.inside (lead_at_form m p _ h) h.lead x.size x.units x.bytes _
@@ -141,7 +141,7 @@ module _ (m : List ℕ) (p : ℕ) where
     }
 
     pub bytes_head_is : (x : StringPassed) → PassedMet Binary m p (Ok x)
-        → LeafHeadMet m p (Ok (head.Leaf kind.Bytes x.bytes 0 (p + x.size)))
+        → LeafHeadMet m p (Ok (head.Leaf (leaf_of kind.Bytes x.bytes 0 (p + x.size))))
     bytes_head_is x t = record {
       heads = λ d c. lead_at_got m p _ h d c kind.Bytes 8 x.bytes 0 x.size refl (string_room Binary m p t h.bytes)
           (leaf_bytes base (below base d) c m p h.inside (lead_at_form m p _ h) h.lead x.size x.units x.bytes _
@@ -165,7 +165,7 @@ module _ (m : List ℕ) (c : Known) (p : ℕ) (h : LeadAt m p lead.Reference) wh
 
   module _ (n : NumberPassed) (t : passed (Ok n) ≡ number_at Int m (p + 1)) where
     pub reference_is : n.value < c.references
-        → PlainHeadMet m c p (Ok (head.Leaf kind.Reference n.value 0 (p + 1 + n.size)))
+        → PlainHeadMet m c p (Ok (head.Leaf (leaf_of kind.Reference n.value 0 (p + 1 + n.size))))
     reference_is l =
         let w = number_room Int m (p + 1) t h.bytes in
         record {

@@ -1,5 +1,5 @@
 -- What the contracts of `begin` and `read_values` ask at each of their ways out.
-use Rattle.std.proofs.Common.{◌≡◌, ℕ, suc, ◌+◌, ◌-◌, ◌≤◌, Bool, true, false, List, [], ◌∷◌, ◌++◌, length, sym, refl, ap, ◌∙◌, subst, ap₂, append-nil, arith, length-append}
+use Rattle.std.proofs.Common.{Fits, w64, ◌≡◌, ℕ, suc, ◌+◌, ◌-◌, ◌≤◌, Bool, true, false, List, [], ◌∷◌, ◌++◌, length, sym, refl, ap, ◌∙◌, subst, ap₂, append-nil, arith, length-append}
 use Rattle.std.specs.Prelude.{Result, Ok, Err, Some, None}
 use Rattle.std.specs.declared.option.Option as code-option
 use Rattle.scalar.specs.Scalars.{Floats}
@@ -21,6 +21,7 @@ use Rattle.record.proofs.ForReader.ReadDefinitions.{value_plain}
 use Rattle.record.specs.Laws.KnownLaws.{known_in}
 use Rattle.reader.specs.declared.Spot.{Spot}
 use Rattle.reader.specs.declared.heads.TypeItem.{TypeItem}
+use Rattle.reader.specs.declared.heads.Leaf.{Leaf}
 use Rattle.reader.specs.declared.heads.Head.{Head}
 use Rattle.reader.specs.declared.heads.Head.TheVariants as head
 use Rattle.reader.specs.declared.values.Holder.{Holder}
@@ -28,7 +29,7 @@ use Rattle.reader.specs.declared.values.Beginning.{Beginning}
 use Rattle.reader.specs.declared.values.ValuesRead.{ValuesRead}
 use Rattle.reader.specs.Slots.{Keeping, Swaps}
 use Rattle.reader.specs.Promises.{lost, ReadyAt, ReadsRows, ReadsOne, headed_by, type_of, type_rows}
-use Rattle.reader.specs.Promises.{holder_read, holder_item, read_by_head, HeadIs, NoDefinition, HeadAtMet}
+use Rattle.reader.specs.Promises.{leaf_row, LeafFits, KeepsLeaf, holder_read, holder_item, read_by_head, HeadIs, NoDefinition, HeadAtMet}
 use Rattle.reader.specs.Promises.{DefinitionReadMet, OpensHolder, ReadsToValues, BegunSays}
 use Rattle.reader.specs.Promises.{BeginningMet, ValuesAre, ValuesReadMet}
 use Rattle.reader.proofs.ClassDefinitions.{ReadingDefinitions, definitions_refused}
@@ -58,17 +59,22 @@ module _ {K : Keeping} {m t₀ : List ℕ} {ks₀ : code.Known} {s₀ : Spot} {t
     begin_more i = definitions_more R z.says i
 
   -- a value that holds no others
-  module _ {k : Kind} {x y q : ℕ} (z : HeadAtMet m (known_in ks) s.at d (Ok (head.Leaf k x y q))) where
-    pub begin_leaf : {n : ℕ} → n ≡ kind_number k → {t' : List ℕ} → t' ≡ K m t s.row (row n s.at x y (s.row + 1))
-        → BeginningMet K m t₀ ks₀ s₀ d (Ok (record { holder = None; next = record { at = q; row = s.row + 1 } })) t' ks
-    begin_leaf e {t'} l =
+  module _ {x : Leaf} (z : HeadAtMet m (known_in ks) s.at d (Ok (head.Leaf x))) where
+    pub leaf_fits : Fits w64 (length m) → LeafFits m s x
+    leaf_fits f = record {
+      row = z.says.0.named (s.row + 1);
+      few = let g = z.says.0.goes in omega (arith, g.0, g.1, R.reads.ready.rows_few, f.fits);
+    }
+
+    pub begin_leaf : {b : Beginning} {t' : List ℕ} → KeepsLeaf K m t s x b t' → BeginningMet K m t₀ ks₀ s₀ d (Ok b) t' ks
+    begin_leaf {t' = t'} h =
         let g = z.says.0.goes in
         let w = R.reads.ready in
-        let next : Spot = record { at = q; row = s.row + 1 } in
-        let leaf = row (kind_number k) s.at x y 1 ∷ [] in
+        let next : Spot = record { at = x.next; row = s.row + 1 } in
+        let leaf = leaf_row s.at x 1 ∷ [] in
         let one : ReadsRows K m t s next t' ks leaf = record {
           counted = omega arith;
-          stores = stores_single K m (l ∙ ap (λ (n : ℕ). K m t s.row (row n s.at x y (s.row + 1))) e);
+          stores = stores_single K m h.keeps;
           onward = omega (arith, g.0);
           ready = record {
             at = record { bytes = w.at.bytes; within = g.1 };
@@ -77,14 +83,14 @@ module _ {K : Keeping} {m t₀ : List ℕ} {ks₀ : code.Known} {s₀ : Spot} {t
             references_few = omega (arith, w.references_few, g.0);
           };
         } in
-        record {
+        rw h.is (record {
           says = record {
             rows = R.some ++ leaf;
-            says = by_head (Ok (head.Leaf k x y q)) z.says.0 z.says.1;
+            says = by_head (Ok (head.Leaf x)) z.says.0 z.says.1;
             reads = reads_on K m R.reads one;
             forward = omega (arith, R.reads.onward, g.0);
           };
-        }
+        })
 
   -- a list, map or object
   module _ {g : Group} {q : ℕ} {of : TypeItem} (z : HeadAtMet m (known_in ks) s.at d (Ok (head.Holder g q of))) where

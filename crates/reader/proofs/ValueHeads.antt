@@ -1,4 +1,4 @@
--- A value's head by its first byte: what the contracts of `opening`, `high_head` and `head_at` ask at each way out, one
+-- A value's head by its first byte: what the contracts of `opening`, `usual_leaf` and `head_at` ask at each way out, one
 -- law for each.
 use Rattle.std.proofs.Common.{◌≡◌, ℕ, ◌+◌, ◌<◌, ◌≤◌, false, T, eqb, List, [], ◌∷◌, length, get_or, sym, refl, ap, ◌∙◌, subst, arith, ne_eqb}
 use Rattle.std.specs.Prelude.{Result, Ok, Err}
@@ -25,11 +25,22 @@ use Rattle.record.proofs.ForReader.ReadValues.{holds, form_full, leaf_none}
 use Rattle.record.specs.ForReader.ReadDefinitions.{below, plain}
 use Rattle.record.proofs.ForReader.ReadDefinitions.{below_none}
 use Rattle.reader.specs.declared.heads.TypeItem.TheVariants.{Untyped}
+use Rattle.reader.specs.declared.heads.Leaf.{Leaf}
 use Rattle.reader.specs.declared.heads.Head.{Head}
 use Rattle.reader.specs.declared.heads.Head.TheVariants as head
-use Rattle.reader.specs.Promises.{refused, PlaceIn, LeadAt, High, IsListOrMap, HeadIs, NoDefinition}
-use Rattle.reader.specs.Promises.{HeadAtMet, LeafHeadMet, PlainHeadMet, HolderHeadMet}
-use Rattle.reader.proofs.Leaves.{byte_small, lead_at_form, lead_at_lost}
+use Rattle.reader.specs.Promises.{leaf_of, refused, PlaceIn, LeadAt, IsListOrMap, HeadIs, NoDefinition}
+use Rattle.reader.specs.Promises.{HeadAtMet, LeafHeadMet, PlainHeadMet, HolderHeadMet, UsualLeaf}
+use Rattle.reader.proofs.Leaves.{byte_small, lead_at_form, lead_at_lost, number_head_is, text_head_is, bytes_head_is}
+use Rattle.numbers.specs.declared.NumberPassed.{NumberPassed}
+use Rattle.numbers.specs.Answers.{passed}
+use Rattle.texts.specs.declared.StringPassed.{StringPassed}
+use Rattle.texts.specs.Answers.{PassedMet}
+use Rattle.scalar.specs.declared.Encoding.TheVariants.{Utf8, Binary}
+use Rattle.scalar.specs.Scalars.{sort_kind}
+use Rattle.scalar.specs.Answers.{number_at}
+use Rattle.record.specs.declared.kinds.Kind.{Kind}
+use Rattle.record.specs.declared.kinds.Kind.TheVariants as kind
+use Rattle.record.specs.Model.KindNumbers.{kind_number}
 use Rattle.reader.proofs.Holders.{map_is}
 
 -- ---- by the variant that a `match` passed
@@ -39,22 +50,6 @@ lead_at_as m p l h x e = subst (LeadAt m p) e h
 pub lead_at_by : (m : List ℕ) (p : ℕ) → PlaceIn m p → p < length m → (l : Lead) → l ≡ lead_of (get_or m p 0) → (x : Lead)
     → l ≡ x → LeadAt m p x
 lead_at_by m p a i l is x e = record { bytes = a.bytes; inside = i; lead = sym is ∙ e }
-
--- ---- a first byte of the upper half
-module _ (m : List ℕ) (p b : ℕ) (h : High m p b) where
-  pub high_int : b < 0xd8 → LeadAt m p (lead.Number Int)
-  high_int l = record {
-    bytes = h.bytes;
-    inside = h.inside;
-    lead = int_lead (get_or m p 0) (omega (arith, h.is, h.upper)) (omega (arith, h.is));
-  }
-
-  pub high_long : 0xd8 ≤ b → LeadAt m p (lead.Number Long)
-  high_long l = record {
-    bytes = h.bytes;
-    inside = h.inside;
-    lead = long_lead (get_or m p 0) (omega (arith, h.is)) (byte_small m p h.bytes);
-  }
 
 -- ---- by the numbers of variants: lists and maps; those but for the three with arms of their own; those that open
 -- nothing
@@ -134,9 +129,6 @@ no_definition : (m : List ℕ) (p : ℕ) (x : Lead) → LeadAt m p x → Plain x
 no_definition m p x h i l =
     ne_eqb (get_or m p 0) 0x43 (λ e. subst Plain (sym h.lead ∙ ap lead_of e ∙ definition_lead) i)
 
-pub lead_short : (b : ℕ) → b < 0x20 → lead.Text ≡ lead_of b
-lead_short b l = sym (text_lead b l)
-
 module _ (d : ℕ) (m : List ℕ) (c : Known) (p : ℕ) where
   full : (l : Lead) → LeadAt m p l → T (holds (form_by l (get_or m p 0))) → d ≡ 0 → HeadIs m c p d (Err (refused refusal.Ceiling p))
   full l h i e =
@@ -156,7 +148,7 @@ module _ (d : ℕ) (m : List ℕ) (c : Known) (p : ℕ) where
 
   -- ---- whatever stands at p
   value : (r : Result Head Refused) → HeadIs m c p d r → NoDefinition m p → HeadAtMet m c p d r
-  value (Ok (head.Leaf k x y q)) h u = record { says = (h, u) }
+  value (Ok (head.Leaf l)) h u = record { says = (h, u) }
   value (Ok (head.Holder g q of)) h u = record { says = (h, u) }
   value (Ok head.Definition) h u = absurd h.goes
   value (Err r) h u = record { says = (h, u) }
@@ -165,10 +157,6 @@ module _ (d : ℕ) (m : List ℕ) (c : Known) (p : ℕ) where
   head_off l = record {
     says = (record { says = run_end (plain base d) c m p l; goes = tt; named = tt }, λ i. absurd (omega arith));
   }
-
-  pub head_high : (b : ℕ) → PlaceIn m p → p < length m → b ≡ get_or m p 0 → 0x80 ≤ b
-      → (r : Result Head Refused) → LeafHeadMet m p r → HeadAtMet m c p d r
-  head_high b a i e u r h = value r (h.heads d c) (λ l. ne_eqb (get_or m p 0) 0x43 (λ z. omega arith))
 
   module _ (a : PlaceIn m p) (i : p < length m) (l : Lead) (is : l ≡ lead_of (get_or m p 0)) where
     lead_here : (x : Lead) → l ≡ x → LeadAt m p x
@@ -239,3 +227,43 @@ module _ (d : ℕ) (m : List ℕ) (c : Known) (p : ℕ) where
         go lead.Definition h t = absurd (miss valueless 9 tt t)
         go lead.Close h t = none lead.Close h tt refl (close_shut (get_or m p 0) h.lead)
         go lead.Reserved h t = none lead.Reserved h tt refl (reserved_shut (get_or m p 0) h.lead)
+
+-- ---- a usual leaf: where it stands, by its first byte; its head
+module _ (m : List ℕ) (p : ℕ) (a : PlaceIn m p) (i : p < length m) (b : ℕ) (is : b ≡ get_or m p 0) where
+  pub usual_long : 0xd8 ≤ b → LeadAt m p (lead.Number Long)
+  usual_long l = record {
+    bytes = a.bytes;
+    inside = i;
+    lead = long_lead (get_or m p 0) (omega (arith, is)) (byte_small m p a.bytes);
+  }
+
+  pub usual_int : 0x80 ≤ b → b < 0xd8 → LeadAt m p (lead.Number Int)
+  usual_int u l = record {
+    bytes = a.bytes;
+    inside = i;
+    lead = int_lead (get_or m p 0) (omega (arith, is, u)) (omega (arith, is));
+  }
+
+  pub usual_text : b < 0x20 → LeadAt m p lead.Text
+  usual_text l = record { bytes = a.bytes; inside = i; lead = text_lead (get_or m p 0) (omega (arith, is)) }
+
+module _ (m : List ℕ) (p : ℕ) where
+  usual : (x : Leaf) (l : Lead) → LeadAt m p l → Plain l → LeafHeadMet m p (Ok (head.Leaf x)) → UsualLeaf m p x
+  usual x l h t z = record {
+    heads = λ c d. value d m c p (Ok (head.Leaf x)) (z.heads d c) (no_definition m p l h t);
+  }
+
+  pub number_is_usual : (s : Sort) → LeadAt m p (lead.Number s) → (k : Kind) → kind_number k ≡ sort_kind s
+      → (n : NumberPassed) → passed (Ok n) ≡ number_at s m p → UsualLeaf m p (leaf_of k n.value 0 (p + n.size))
+  number_is_usual s h k e n t =
+      usual (leaf_of k n.value 0 (p + n.size)) (lead.Number s) h tt (number_head_is s m p h k e n t)
+
+  pub text_is_usual : LeadAt m p lead.Text → (x : StringPassed) → PassedMet Utf8 m p (Ok x)
+      → UsualLeaf m p (leaf_of kind.Text x.units x.bytes (p + x.size))
+  text_is_usual h x t =
+      usual (leaf_of kind.Text x.units x.bytes (p + x.size)) lead.Text h tt (text_head_is m p h x t)
+
+  pub bytes_are_usual : LeadAt m p lead.Bytes → (x : StringPassed) → PassedMet Binary m p (Ok x)
+      → UsualLeaf m p (leaf_of kind.Bytes x.bytes 0 (p + x.size))
+  bytes_are_usual h x t =
+      usual (leaf_of kind.Bytes x.bytes 0 (p + x.size)) lead.Bytes h tt (bytes_head_is m p h x t)

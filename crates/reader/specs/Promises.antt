@@ -45,6 +45,8 @@ use Rattle.reader.specs.declared.Spot.{Spot}
 use Rattle.reader.specs.declared.heads.TypeItem.{TypeItem}
 use Rattle.reader.specs.declared.heads.TypeItem.TheVariants.{Untyped, Named, Numbered}
 use Rattle.reader.specs.declared.heads.TypeRead.{TypeRead}
+use Rattle.record.specs.declared.kinds.Kind.{Kind}
+use Rattle.reader.specs.declared.heads.Leaf.{Leaf}
 use Rattle.reader.specs.declared.heads.Head.{Head}
 use Rattle.reader.specs.declared.heads.Head.TheVariants as head
 use Rattle.reader.specs.declared.definitions.ClassRead.{ClassRead}
@@ -80,13 +82,6 @@ pub record LeadAt (m : List ℕ) (p : ℕ) (x : Lead) : Type 0 where
   pub bytes : Bytes m
   pub inside : p < length m
   pub lead : lead_of (slice_index m p) ≡ x
-
--- the byte at p is b, and begins an int or long of the upper half
-pub record High (m : List ℕ) (p b : ℕ) : Type 0 where
-  pub bytes : Bytes m
-  pub inside : p < length m
-  pub is : b ≡ slice_index m p
-  pub upper : 0x80 ≤ b
 
 -- it opens no text
 pub record NoName (m : List ℕ) (p : ℕ) : Type 0 where
@@ -222,9 +217,16 @@ abbrev pub holder_read : List ℕ → Known → ℕ → ℕ → Group → ℕ �
 holder_read m c p d g q ys number =
     topped p (headed_by g number) (front ys (run (rest (value_from Floats base d) g 0) c m q))
 
+-- a leaf by its parts; its row at p, before the row e
+abbrev pub leaf_of : Kind → ℕ → ℕ → ℕ → Leaf
+leaf_of k x y q = record { kind = k; first = x; second = y; next = q }
+
+abbrev pub leaf_row : ℕ → Leaf → ℕ → Row
+leaf_row p l e = row (kind_number l.kind) p l.first l.second e
+
 -- the value at p, with no definitions before it, by its head, where c is known; d: how many containers may open
 abbrev pub read_by_head : List ℕ → Known → ℕ → ℕ → Result Head Refused → ReadingAt One
-read_by_head m c p d (Ok (head.Leaf k x y q)) = ReadTo q tt (row (kind_number k) p x y 1 ∷ []) c
+read_by_head m c p d (Ok (head.Leaf l)) = ReadTo l.next tt (leaf_row p l 1 ∷ []) c
 read_by_head m c p d (Ok (head.Holder g q of)) =
     holder_read m (typed_by of (opened c)) p (d - 1) g q (type_rows (p + 1) of) (type_of c.types of)
 read_by_head m c p d (Ok head.Definition) = RefusedAt 3 p
@@ -232,7 +234,7 @@ read_by_head m c p d (Err r) = lost r
 
 -- how far the head goes, and what may open
 abbrev pub HeadGoes : List ℕ → Known → ℕ → ℕ → Result Head Refused → Type 0
-HeadGoes m c p d (Ok (head.Leaf k x y q)) = (p < q) × (q ≤ length m)
+HeadGoes m c p d (Ok (head.Leaf l)) = (p < l.next) × (l.next ≤ length m)
 HeadGoes m c p d (Ok (head.Holder g q of)) =
     (0 < d) × TypeRoom of c.types
     × (p + 1 + length (type_rows (p + 1) of) ≤ q) × (q ≤ length m)
@@ -241,7 +243,7 @@ HeadGoes m c p d (Err r) = Unit {0}
 
 -- the texts and byte strings that its rows name
 abbrev pub HeadRows : List ℕ → ℕ → Result Head Refused → Type 0
-HeadRows m p (Ok (head.Leaf k x y q)) = (e : ℕ) → RowRead m (row (kind_number k) p x y e)
+HeadRows m p (Ok (head.Leaf l)) = (e : ℕ) → RowRead m (leaf_row p l e)
 HeadRows m p (Ok (head.Holder g q of)) = TypeNamed m (p + 1) of
 HeadRows m p (Ok head.Definition) = Unit {0}
 HeadRows m p (Err r) = Unit {0}
@@ -266,13 +268,26 @@ abbrev pub NoDefinition : List ℕ → ℕ → Type 0
 NoDefinition m p = p < length m → (slice_index m p == 0x43) ≡ false
 
 abbrev pub HeadAtSays : List ℕ → Known → ℕ → ℕ → Result Head Refused → Type 0
-HeadAtSays m c p d (Ok (head.Leaf k x y q)) = HeadIs m c p d (Ok (head.Leaf k x y q)) × NoDefinition m p
+HeadAtSays m c p d (Ok (head.Leaf l)) = HeadIs m c p d (Ok (head.Leaf l)) × NoDefinition m p
 HeadAtSays m c p d (Ok (head.Holder g q of)) = HeadIs m c p d (Ok (head.Holder g q of)) × NoDefinition m p
 HeadAtSays m c p d (Ok head.Definition) = LeadAt m p lead.Definition
 HeadAtSays m c p d (Err r) = HeadIs m c p d (Err r) × NoDefinition m p
 
 pub record HeadAtMet (m : List ℕ) (c : Known) (p d : ℕ) (r : Result Head Refused) : Type 0 where
   pub says : HeadAtSays m c p d r
+
+-- a value with none inside, whatever is known and however many may open
+pub record UsualLeaf (m : List ℕ) (p : ℕ) (l : Leaf) : Type 0 where
+  pub heads : (c : Known) (d : ℕ) → HeadAtMet m c p d (Ok (head.Leaf l))
+
+-- its row can be kept; it is kept, and reading is past it
+pub record LeafFits (m : List ℕ) (s : Spot) (l : Leaf) : Type 0 where
+  pub row : RowRead m (leaf_row s.at l (s.row + 1))
+  pub few : s.row + 1 < 2 ^ 64
+
+pub record KeepsLeaf (K : Keeping) (m t : List ℕ) (s : Spot) (l : Leaf) (b : Beginning) (t' : List ℕ) : Type 0 where
+  pub is : b ≡ record { holder = None; next = record { at = l.next; row = s.row + 1 } }
+  pub keeps : t' ≡ K m t s.row (leaf_row s.at l (s.row + 1))
 
 -- a list of this type with the count that was read at p
 abbrev pub holder_of : TypeItem → ℕ → Result NumberPassed Refused → Result Head Refused

@@ -1,14 +1,15 @@
 // What a value begins with, when no class definition stands before it. The laws of its meaning are in record's
 // proofs/ForReader/ReadValues.antt.
-ghost use Rattle.std.specs.Prelude.{◌≡◌};
+ghost use Rattle.std.specs.Prelude.{◌≡◌, IfSome};
 ghost use Rattle.scalar.specs.declared.Lead.TheVariants as lead;
-ghost use Rattle.scalar.specs.Chart.{lead_of};
+ghost use Rattle.scalar.specs.declared.Encoding.TheVariants as encoding;
+ghost use Rattle.texts.specs.Answers.{PassedMet};
 ghost use Rattle.scalar.specs.Answers.{number_at};
 ghost use Rattle.numbers.specs.Answers.{passed};
 ghost use Rattle.record.specs.Laws.KnownLaws.{known_in};
-ghost use Rattle.reader.specs.Promises.{PlaceIn, LeadAt, High, NoName, IsListOrMap};
+ghost use Rattle.reader.specs.Promises.{PlaceIn, LeadAt, NoName, IsListOrMap};
 ghost use Rattle.reader.specs.Promises.{CountMet, TypeReadMet, ListAt, ListMet, instance_of};
-ghost use Rattle.reader.specs.Promises.{LeafHeadMet, PlainHeadMet, HolderHeadMet, HeadIs, HeadAtMet};
+ghost use Rattle.reader.specs.Promises.{LeafHeadMet, PlainHeadMet, HolderHeadMet, HeadIs, HeadAtMet, UsualLeaf};
 
 use numbers::NumberPassed;
 use record::Group;
@@ -16,6 +17,7 @@ use record::kinds::Kind;
 use record::known::Known;
 use record::limits::TYPES;
 use scalar::{Encoding, Lead, Refusal, Refused, Sort};
+use texts::StringPassed;
 
 // The message and a place stay two parameters, and what stands there a clause, since each call has another place and
 // the laws speak of a place of the whole message: a struct of both would be made for one call and taken apart in it.
@@ -35,16 +37,20 @@ pub(crate) struct TypeRead {
     pub next: usize,
 }
 
+// A value with no values inside: its row, and the place past it.
+#[derive(Clone, Copy)]
+pub(crate) struct Leaf {
+    pub kind: Kind,
+    pub first: u64,
+    pub second: u64,
+    pub next: usize,
+}
+
 // A value's head.
 #[derive(Clone, Copy)]
 pub(crate) enum Head {
-    // A value with no values inside: its row, and the place past it.
-    Leaf {
-        kind: Kind,
-        first: u64,
-        second: u64,
-        next: usize,
-    },
+    // A value with no values inside.
+    Leaf(Leaf),
     // A list, map or object: how its values are counted, where they begin, and its type.
     Holder {
         group: Group,
@@ -129,51 +135,18 @@ fn type_at(message: &[u8], given: u64, at: usize) -> Result<TypeRead, Refused>
     numbered_type(message, given, at)
 }
 
-// The head of a number of this kind, as it was read.
-fn number_leaf(
-    message: &[u8],
-    at: usize,
-    sort: Sort,
-    read: Result<NumberPassed, Refused>,
-) -> Result<Head, Refused>
-    requires { LeadAt message.now at (lead.Number sort) × (passed read ≡ number_at sort message.now at) }
-    ensures { LeafHeadMet message.now at result }
-{
-    let number = read?;
-    Ok(Head::Leaf {
-        kind: Kind::from(sort),
-        first: number.value,
-        second: 0,
-        next: at + number.size,
-    })
-}
-
 // The head of a number of this kind.
 fn number_head(message: &[u8], at: usize, sort: Sort) -> Result<Head, Refused>
     requires { LeadAt message.now at (lead.Number sort) }
     ensures { LeafHeadMet message.now at result }
 {
-    let read = match sort {
-        Sort::Null | Sort::False | Sort::True => numbers::direct::pass_single(sort, message, at),
-        Sort::Int => numbers::direct::pass_wide_int(message, at),
-        Sort::Long => numbers::direct::pass_wide_long(message, at),
-        Sort::Double => numbers::direct::pass_double(message, at),
-        Sort::Date => numbers::direct::pass_date(message, at),
-    };
-    number_leaf(message, at, sort, read)
-}
-
-// The head of an int or long, by its first byte b, which is 0x80 or above.
-fn high_head(message: &[u8], at: usize, b: u8) -> Result<Head, Refused>
-    requires { High message.now at b }
-    ensures { LeafHeadMet message.now at result }
-{
-    if b < 0xd8 {
-        let read = numbers::direct::pass_int(message, at);
-        return number_leaf(message, at, Sort::Int, read);
-    }
-    let read = numbers::direct::pass_long(message, at);
-    number_leaf(message, at, Sort::Long, read)
+    let number = numbers::pass_number(sort, message, at)?;
+    Ok(Head::Leaf(Leaf {
+        kind: Kind::from(sort),
+        first: number.value,
+        second: 0,
+        next: at + number.size,
+    }))
 }
 
 // The head of a text.
@@ -181,13 +154,13 @@ fn text_head(message: &[u8], at: usize) -> Result<Head, Refused>
     requires { LeadAt message.now at lead.Text }
     ensures { LeafHeadMet message.now at result }
 {
-    let text = texts::pass_text(message, at)?;
-    Ok(Head::Leaf {
+    let text = texts::pass_string(Encoding::Utf8, message, at)?;
+    Ok(Head::Leaf(Leaf {
         kind: Kind::Text,
         first: text.units as u64,
         second: text.bytes as u64,
         next: at + text.size,
-    })
+    }))
 }
 
 // The head of a byte string.
@@ -196,12 +169,12 @@ fn bytes_head(message: &[u8], at: usize) -> Result<Head, Refused>
     ensures { LeafHeadMet message.now at result }
 {
     let string = texts::pass_string(Encoding::Binary, message, at)?;
-    Ok(Head::Leaf {
+    Ok(Head::Leaf(Leaf {
         kind: Kind::Bytes,
         first: string.bytes as u64,
         second: 0,
         next: at + string.size,
-    })
+    }))
 }
 
 // The head of a reference.
@@ -216,16 +189,17 @@ fn reference_head(message: &[u8], known: &Known, at: usize) -> Result<Head, Refu
             place: at,
         });
     }
-    Ok(Head::Leaf {
+    Ok(Head::Leaf(Leaf {
         kind: Kind::Reference,
         first: number.value,
         second: 0,
         next: at + 1 + number.size,
-    })
+    }))
 }
 
 // A list of this type, by its first byte b: `open_code` is the code of the open form, the next one that of the counted
 // form, and those from `few` on are the one-byte forms. Its count or its values are at `at`.
+#[inline(always)]
 fn list_of(
     message: &[u8],
     at: usize,
@@ -260,6 +234,7 @@ fn list_of(
 }
 
 // The head of an untyped list.
+#[inline(always)]
 fn list_head(message: &[u8], known: &Known, at: usize) -> Result<Head, Refused>
     requires { LeadAt message.now at lead.List }
     ensures { HolderHeadMet message.now (known_in known.now) at result }
@@ -320,6 +295,7 @@ fn object_head(message: &[u8], known: &Known, at: usize) -> Result<Head, Refused
 }
 
 // The head of a list or map, where as many as allowed may still open.
+#[inline(always)]
 fn opening(
     message: &[u8],
     known: &Known,
@@ -348,18 +324,141 @@ fn opening(
     }
 }
 
-// What the byte opens. Short texts are told first.
-fn lead_of(b: u8) -> Lead
-    ensures { result ≡ lead_of b }
+// The number of this kind at `at`, as it was read, where it is whole. Its answer is an Option, which has no place that it
+// shares with a refusal: so a number stays in registers up to its row.
+#[inline(always)]
+fn whole_number(
+    message: &[u8],
+    at: usize,
+    sort: Sort,
+    read: Result<NumberPassed, Refused>,
+) -> Option<Leaf>
+    requires { LeadAt message.now at (lead.Number sort) × (passed read ≡ number_at sort message.now at) }
+    ensures { IfSome result (UsualLeaf message.now at) }
 {
-    if b < 0x20 {
-        return Lead::Text;
+    match read {
+        Ok(number) => Some(Leaf {
+            kind: Kind::from(sort),
+            first: number.value,
+            second: 0,
+            next: at + number.size,
+        }),
+        Err(_) => None,
     }
-    numbers::chart::classify(b)
 }
 
-// What stands at `at`: a class definition, or the head of a value, where as many lists, maps and objects as allowed may
+// The number of this kind at `at`, where it is whole, by the forms whose first byte is below 0x80.
+#[inline(always)]
+fn low_number(message: &[u8], at: usize, sort: Sort) -> Option<Leaf>
+    requires { LeadAt message.now at (lead.Number sort) }
+    ensures { IfSome result (UsualLeaf message.now at) }
+{
+    match sort {
+        Sort::Null | Sort::False | Sort::True => {
+            whole_number(
+                message,
+                at,
+                sort,
+                numbers::direct::pass_single(sort, message, at),
+            )
+        }
+        Sort::Int => whole_number(
+            message,
+            at,
+            sort,
+            numbers::direct::pass_wide_int(message, at),
+        ),
+        Sort::Long => whole_number(
+            message,
+            at,
+            sort,
+            numbers::direct::pass_wide_long(message, at),
+        ),
+        Sort::Double => whole_number(message, at, sort, numbers::direct::pass_double(message, at)),
+        Sort::Date => whole_number(message, at, sort, numbers::direct::pass_date(message, at)),
+    }
+}
+
+// The text at `at`, as it was read, where it is whole.
+#[inline(always)]
+fn whole_text(message: &[u8], at: usize, read: Result<StringPassed, Refused>) -> Option<Leaf>
+    requires { LeadAt message.now at lead.Text × PassedMet encoding.Utf8 message.now at read }
+    ensures { IfSome result (UsualLeaf message.now at) }
+{
+    match read {
+        Ok(text) => Some(Leaf {
+            kind: Kind::Text,
+            first: text.units as u64,
+            second: text.bytes as u64,
+            next: at + text.size,
+        }),
+        Err(_) => None,
+    }
+}
+
+// The byte string at `at`, as it was read, where it is whole.
+#[inline(always)]
+fn whole_bytes(message: &[u8], at: usize, read: Result<StringPassed, Refused>) -> Option<Leaf>
+    requires { LeadAt message.now at lead.Bytes × PassedMet encoding.Binary message.now at read }
+    ensures { IfSome result (UsualLeaf message.now at) }
+{
+    match read {
+        Ok(string) => Some(Leaf {
+            kind: Kind::Bytes,
+            first: string.bytes as u64,
+            second: 0,
+            next: at + string.size,
+        }),
+        Err(_) => None,
+    }
+}
+
+// The value at `at`, if it is a number, a text of up to 31 units or a byte string, and whole: what most values are. The
+// others, and every refusal, are told by head_at.
+#[inline(always)]
+pub(crate) fn usual_leaf(message: &[u8], at: usize) -> Option<Leaf>
+    requires { PlaceIn message.now at }
+    ensures { IfSome result (UsualLeaf message.now at) }
+{
+    if message.len() <= at {
+        return None;
+    }
+    let b = message[at];
+    if 0xd8 <= b {
+        return whole_number(
+            message,
+            at,
+            Sort::Long,
+            numbers::direct::pass_long(message, at),
+        );
+    }
+    if 0x80 <= b {
+        return whole_number(
+            message,
+            at,
+            Sort::Int,
+            numbers::direct::pass_int(message, at),
+        );
+    }
+    if b < 0x20 {
+        return whole_text(message, at, texts::pass_text(message, at));
+    }
+    match numbers::chart::classify(b) {
+        Lead::Number(sort) => low_number(message, at, sort),
+        Lead::Bytes => {
+            whole_bytes(
+                message,
+                at,
+                texts::pass_string(Encoding::Binary, message, at),
+            )
+        }
+        _ => None,
+    }
+}
+
+// What stands at `at`: a class definition, or the head of a value,// What stands at `at`: a class definition, or the head of a value, where as many lists, maps and objects as allowed may
 // still open.
+#[inline(always)]
 pub(crate) fn head_at(
     message: &[u8],
     known: &Known,
@@ -375,11 +474,7 @@ pub(crate) fn head_at(
             place: at,
         });
     }
-    let b = message[at];
-    if 0x80 <= b {
-        return high_head(message, at, b);
-    }
-    let l = lead_of(b);
+    let l = numbers::chart::classify(message[at]);
     match l {
         Lead::Number(sort) => number_head(message, at, sort),
         Lead::Text => text_head(message, at),

@@ -6,11 +6,11 @@ ghost use Rattle.record.specs.ForReader.ReadLoops.{closes, stops, past};
 ghost use Rattle.record.specs.Laws.RowLaws.{row_of};
 ghost use Rattle.record.specs.Laws.KnownLaws.{Kept};
 ghost use Rattle.reader.specs.Promises.{ReadyAt, StoresRows, type_rows, TypeRoom, TypeNamed, EntersHolder};
-ghost use Rattle.reader.specs.Promises.{holder_item, HolderFits, OpensHolder, BeginningMet, ValuesReadMet};
+ghost use Rattle.reader.specs.Promises.{LeafFits, KeepsLeaf, holder_item, HolderFits, OpensHolder, BeginningMet, ValuesReadMet};
 
 use crate::Spot;
 use crate::definitions::definition;
-use crate::heads::{Head, TypeItem, head_at};
+use crate::heads::{Head, Leaf, TypeItem, head_at, usual_leaf};
 use crate::slots::Slot;
 use record::kinds::Kind;
 use record::known::Known;
@@ -41,6 +41,7 @@ pub(crate) struct ValuesRead {
 }
 
 // Whether 5a stands at `at`.
+#[inline(always)]
 fn closed_at(message: &[u8], at: usize) -> bool
     ensures { result ≡ closes message.now at }
 {
@@ -48,6 +49,7 @@ fn closed_at(message: &[u8], at: usize) -> bool
 }
 
 // Whether no value of the group is left at `at`, after i of them.
+#[inline(always)]
 fn stop(message: &[u8], at: usize, group: Group, i: u64) -> bool
     ensures { result ≡ stops message.now group i at }
 {
@@ -59,6 +61,7 @@ fn stop(message: &[u8], at: usize, group: Group, i: u64) -> bool
 }
 
 // The place past the group's values, which end at `at`.
+#[inline(always)]
 fn passed(at: usize, group: Group) -> usize
     requires { at + 1 < 2 ^ 64 }
     ensures { result ≡ past group at }
@@ -70,6 +73,7 @@ fn passed(at: usize, group: Group) -> usize
 }
 
 // Keeps the row of the type at `here`, if there is one.
+#[inline(always)]
 fn keep_type<S: Slot>(message: &[u8], slots: &mut [S], here: Spot, of: TypeItem)
     requires { (here.row + length (type_rows here.at of) < 2 ^ 64) × TypeNamed message.now here.at of }
     ensures { StoresRows S.kept
@@ -93,6 +97,7 @@ fn keep_type<S: Slot>(message: &[u8], slots: &mut [S], here: Spot, of: TypeItem)
 }
 
 // The row of a list, map or object after i values of its group, which end before the row `after`.
+#[inline(always)]
 fn holder_row(holder: Holder, i: u64, after: usize) -> Row
     ensures { row_of result ≡ item_row holder.spot.at after (holder_item holder i) }
 {
@@ -118,6 +123,7 @@ fn holder_row(holder: Holder, i: u64, after: usize) -> Row
 
 // A list, map or object of this type opens: it gets the next reference number, and a type name the next type number.
 // Its type's number, if it has a type.
+#[inline(always)]
 fn enter(known: &mut Known, of: TypeItem) -> Option<u64>
     requires { Kept known.old × (known.old.references + 1 < 2 ^ 64) × TypeRoom of known.old.types }
     ensures { EntersHolder known.old of result known.new }
@@ -135,6 +141,7 @@ fn enter(known: &mut Known, of: TypeItem) -> Option<u64>
 }
 
 // The list, map or object at `here` opens, and its values begin at `next`.
+#[inline(always)]
 fn open_holder<S: Slot>(
     message: &[u8],
     slots: &mut [S],
@@ -171,7 +178,33 @@ fn open_holder<S: Slot>(
     }
 }
 
+// Keeps the row of the leaf at `here`, and is past it.
+#[inline(always)]
+fn keep_leaf<S: Slot>(message: &[u8], slots: &mut [S], here: Spot, leaf: Leaf) -> Beginning
+    requires { LeafFits message.now here leaf }
+    ensures { KeepsLeaf S.kept
+        message.now (S.numbers slots.old)
+        here leaf
+        result (S.numbers slots.new) }
+{
+    let after = here.row + 1;
+    let row = Row {
+        kind: leaf.kind.number(),
+        place: here.at as u64,
+        first: leaf.first,
+        second: leaf.second,
+        after: after as u64,
+    };
+    S::keep(message, slots, here.row, row);
+    let next = Spot {
+        at: leaf.next,
+        row: after,
+    };
+    Beginning { holder: None, next }
+}
+
 // The definitions and the head of the value at `from`, and all of it where it holds no others.
+#[inline(always)]
 fn begin<S: Slot>(
     message: &[u8],
     slots: &mut [S],
@@ -187,32 +220,12 @@ fn begin<S: Slot>(
 {
     let mut here = from;
     loop {
+        if let Some(leaf) = usual_leaf(message, here.at) {
+            return Ok(keep_leaf(message, slots, here, leaf));
+        }
         match head_at(message, known, here.at, allowed)? {
             Head::Definition => here = definition(message, slots, known, here)?,
-            Head::Leaf {
-                kind,
-                first,
-                second,
-                next,
-            } => {
-                let after = here.row + 1;
-                let leaf = Row {
-                    kind: kind.number(),
-                    place: here.at as u64,
-                    first,
-                    second,
-                    after: after as u64,
-                };
-                S::keep(message, slots, here.row, leaf);
-                let past = Spot {
-                    at: next,
-                    row: after,
-                };
-                return Ok(Beginning {
-                    holder: None,
-                    next: past,
-                });
-            }
+            Head::Leaf(leaf) => return Ok(keep_leaf(message, slots, here, leaf)),
             Head::Holder { group, next, of } => {
                 return Ok(open_holder(message, slots, known, here, group, next, of));
             }

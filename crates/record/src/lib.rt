@@ -41,4 +41,4 @@ pub struct Row {
 pub const ROW_NUMBERS: usize = 5;
 
 // So many bytes has a row in a table of bytes.
-pub(crate) const ROW_BYTES: usize = 40;
+pub const ROW_BYTES: usize = 40;

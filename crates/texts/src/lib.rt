@@ -209,6 +209,7 @@ fn opened(
 }
 
 // The pair of halves at `at`, after its first two bytes: one character, of four bytes in UTF-8 and two units.
+#[inline(always)]
 fn pair(message: &[u8], at: usize) -> Result<CharRead, Refused>
     requires { (at + 1 < length message.now) × HighHalf message.now at }
     ensures { (left : ℕ) → 2 ≤ left → CharMet left message.now at result }
@@ -225,6 +226,7 @@ fn pair(message: &[u8], at: usize) -> Result<CharRead, Refused>
 }
 
 // The character at `at`, whose first byte is ed, where so many units are left: of three bytes, or a pair of halves.
+#[inline(always)]
 #[tactic(auto, using(crate::proofs::Strings::lone_low, crate::proofs::Strings::lone_high))]
 fn halved(message: &[u8], at: usize, left: usize) -> Result<CharRead, Refused>
     requires { (at < length message.now) × (0 < left) × Halves message.now at }
@@ -247,7 +249,9 @@ fn halved(message: &[u8], at: usize, left: usize) -> Result<CharRead, Refused>
     pair(message, at)
 }
 
-// The character at `at`, where so many units are left.
+// The character at `at`, where so many units are left. Both walks over characters have it inlined, with the two functions
+// above: by a call, its answer goes through memory for each character.
+#[inline(always)]
 fn character(message: &[u8], at: usize, left: usize) -> Result<CharRead, Refused>
     requires { (at ≤ length message.now) × (0 < left) }
     ensures { CharMet left message.now at result }
@@ -467,6 +471,7 @@ fn head(kind: Encoding, message: &[u8], at: usize) -> Result<HeadRead, Refused>
 }
 
 // Whether the bytes are ASCII. Up to sixteen are told by the first and the last eight or four of them.
+#[inline(always)]
 fn short_ascii(bytes: &[u8]) -> bool
     ensures { result ≡ all_ascii bytes.now }
 {
@@ -484,6 +489,7 @@ fn short_ascii(bytes: &[u8]) -> bool
 }
 
 // How many characters the short text at `at` has, where all of them are ASCII: the byte there counts them.
+#[inline(always)]
 fn short_text(message: &[u8], at: usize) -> Option<usize>
     ensures { IfSome result (ShortText message.now at) }
 {
@@ -691,6 +697,7 @@ pub fn pass_string(kind: Encoding, message: &[u8], at: usize) -> Result<StringPa
 }
 
 // The text at the place `at` of the message, which is not measured. A short one of ASCII is tried first.
+#[inline(always)]
 pub fn pass_text(message: &[u8], at: usize) -> Result<StringPassed, Refused>
     ensures { PassedMet Encoding.Utf8 message.now at result }
 {

@@ -6,10 +6,12 @@ use lib.{Dec.{ltb, leb, eqb}, ListN.{length, take, drop, get_or, set, length-set
 use lib.Seq.{sets, slice, paste, sets-eq, length-sets, set_out, take-set-le, length-slice, drop-cons, take_at, drop_at, length-take-le}
 use borrow.Author.Tests.{lt-ltb, le-ltb, le-leb, lt-leb, eq-eqb, leb-true, leb-false, eqb-true, eqb-false}
 use Rattle.std.specs.List.{copy_within}
-use Rattle.std.proofs.lemmas.List.{drop-take}
+use borrow.Rule.Slice.PartMut.{put_mid}
+use Rattle.std.proofs.lemmas.List.{drop-take, take_all, take_more, length-replicate, replicate-append-replicate}
+use Rattle.std.proofs.lemmas.Slice.{put_mid-paste}
 use Rattle.std.proofs.Math.Seq.{take-add}
 use Rattle.flow.specs.{Flow.pick, Tests.{pick_true, pick_false, split, by_cases}}
-use Rattle.std.specs.Prelude.{Option, Some, None}
+use Rattle.std.specs.Prelude.{Option, Some, None, replicate}
 use Rattle.vectors.specs.declared.{Scanned.{Scanned}, Step.{Step}}
 use Rattle.vectors.specs.{Cases.{digit_at, worth, Digits, DecimalMet, TimesMet, number}, CaseLaws.{true_false, both_true, stands_says}, GroupLaws.{stands_within, group_on}}
 use Rattle.vectors.specs.Groups.{digits, decimal_of, times_of, hex_bytes, copies, store_times, group_at, group_stands, onward, groups_from, groups_of, took_bytes, repeated, step}
@@ -62,6 +64,27 @@ copied l from size here room h k r e =
     split room (size - from) (λ u. sets_full l here a b (omega (arith, n, e)))
     (λ u. let z : size - from - room ≡ 0 = omega arith in rw z (sym (sets_seam l here a []))) in
     rw o (sym s ∙ sym whole ∙ ap (sets l here) (sym (two_parts from size room l (omega arith) (omega (arith, e)))))
+
+-- a fill of the part that has room
+pub filled_up : (l ys : List ℕ) (size n room k b : ℕ) → ys ≡ replicate k b → size ≤ length l
+    → room ≡ min (length l - size) n → k ≡ room → put_mid size (size + room - size) l ys ≡ sets l size (replicate n b)
+filled_up l ys size n room k b e h r q =
+    let a = replicate room b in
+    let c = replicate (n - room) b in
+    let w : length a ≡ room = length-replicate room b in
+    let z : ys ≡ a = e ∙ ap (λ (j : ℕ). replicate j b) q in
+    let o : room ≡ size + room - size = omega arith in
+    let v : room + (n - room) ≡ n = omega (arith, r) in
+    let p : put_mid size (size + room - size) l ys ≡ paste l size a room =
+    put_mid-paste size (size + room - size) l ys a room z o (sym w) in
+    let t : take room a ≡ a = take_all room a (omega (arith, w)) in
+    let s : sets l size a ≡ paste l size a room = (rw w at (sets-eq a l size (omega (arith, w, r))))
+    ∙ ap (λ (x : List ℕ). take size l ++ x ++ drop (size + room) l) (sym t) in
+    let whole : sets l size (a ++ c) ≡ sets l size a =
+    split room n (λ u. sets_full l size a c (omega (arith, w, r)))
+    (λ u. let y : n - room ≡ 0 = omega arith in rw y (sym (sets_seam l size a []))) in
+    p ∙ sym s ∙ sym whole
+    ∙ ap (sets l size) (replicate-append-replicate room (n - room) b ∙ ap (λ (j : ℕ). replicate j b) v)
 
 -- ---- repeats
 -- what is known while the bytes from `from` to below `size` are repeated, `left` times more
@@ -136,6 +159,56 @@ repeats_never l from size t next h e =
     let u : from + t * (size - from) ≡ from = omega (arith, ap (λ (n : ℕ). n * (size - from)) e, zero-mul (size - from)) in
     let p : pick (leb (size + (t - 1) * (size - from)) (length l)) (Some (step next (from + t * (size - from)))) None ≡ Some (step next from) = pick_true (Some (step next (from + t * (size - from)))) None (le-leb (size + (t - 1) * (size - from)) (length l) (omega arith)) ∙ ap (λ (k : ℕ). Some (step next k)) u in
     λ i. (p i, sets l size (copies (z i) (slice from size l)))
+
+-- a group of one byte
+slice_one : (l : List ℕ) (from size : ℕ) → size ≤ length l → size - from ≡ 1
+    → slice from size l ≡ get_or l (size - 1) 0 ∷ []
+slice_one l from size h e =
+    let s : size ≡ from + 1 = omega arith in
+    let p : size - 1 ≡ from = omega arith in
+    let n : length (take from l) ≡ from = length-take-le from l (omega arith) in
+    let x = get_or l from 0 ∷ [] in
+    rw (p, s) (ap (drop from) (take_more l from 0 (omega arith)) ∙ drop_at (take from l) x from n)
+
+copies_one : (n b : ℕ) → copies n (b ∷ []) ≡ replicate n b
+unfolding copies
+copies_one zero b = refl
+copies_one (suc n) b = ap (λ (l : List ℕ). b ∷ l) (copies_one n b)
+
+-- n times more, where it is there t times in all
+module _ (l : List ℕ) (from size t next n : ℕ) (h : size ≤ length l) (z : 0 < t) (q : n ≡ t - 1)
+    (o : size - from ≡ 1) where
+  abbrev byte : ℕ
+  byte = get_or l (size - 1) 0
+
+  abbrev end_of : ℕ
+  end_of = size + (t - 1) * (size - from)
+
+  end_is : end_of ≡ size + n
+  end_is = omega (arith, ap (λ (k : ℕ). (t - 1) * k) o)
+
+  one_all : {m : List ℕ} → m ≡ sets l size (replicate n byte) → sets l size (copies (t - 1) (slice from size l)) ≡ m
+  one_all e = ap (λ (x : List ℕ). sets l size (copies (t - 1) x)) (slice_one l from size h o)
+      ∙ ap (sets l size) (copies_one (t - 1) byte ∙ ap (λ (k : ℕ). replicate k byte) (sym q)) ∙ sym e
+
+  pub repeats_byte_full : {m : List ℕ} {r : Option Step} → length l < size + n → m ≡ sets l size (replicate n byte)
+      → r ≡ None → repeated l from size t next ≡ (r, m)
+  unfolding repeated
+  repeats_byte_full u e g =
+      let k = Some (step next (from + t * (size - from))) in
+      let p : pick (leb end_of (length l)) k None ≡ None =
+      pick_false k None (lt-leb end_of (length l) (omega (arith, end_is))) in
+      λ i. ((p ∙ sym g) i, one_all e i)
+
+  pub repeats_byte : {m : List ℕ} {end : ℕ} → end ≡ size + n → end ≤ length l → m ≡ sets l size (replicate n byte)
+      → repeated l from size t next ≡ (Some (step next end), m)
+  unfolding repeated
+  repeats_byte {m} {end} s u e =
+      let k = Some (step next (from + t * (size - from))) in
+      let v : from + t * (size - from) ≡ end = omega (arith, ap (λ (j : ℕ). t * j) o) in
+      let p : pick (leb end_of (length l)) k None ≡ Some (step next end) =
+      pick_true k None (le-leb end_of (length l) (omega (arith, end_is))) ∙ ap (λ (j : ℕ). Some (step next j)) v in
+      λ i. (p i, one_all e i)
 
 pub ruleset repeats = (repeats_none, repeats_more, repeats_full, repeats_all, repeats_never)
 

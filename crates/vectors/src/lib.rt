@@ -2,7 +2,8 @@
 // hold before a call, whether they still do, and their checksum.
 #![tactic(auto)]
 
-ghost use Rattle.std.specs.Prelude.{◌≡◌, ◌&&◌, ◌+◌, ◌-◌, ◌≤◌, ◌<◌, ltb, eqb, length, get_or, is_some, IsSome, IsTrue, ◌↔◌, ℕ};
+ghost use Rattle.std.specs.Prelude.{◌≡◌, ◌&&◌, ◌+◌, ◌-◌, ◌≤◌, ◌<◌, ltb, eqb, length, get_or, replicate, is_some};
+ghost use Rattle.std.specs.Prelude.{IsSome, IsTrue, ◌↔◌, ℕ};
 ghost use Rattle.std.specs.Iterator.{at_most};
 ghost use Rattle.std.proofs.lemmas.List.Edits.{sets};
 ghost use Rattle.std.proofs.Math.Seq.{slice};
@@ -165,6 +166,22 @@ fn again(bytes: &mut [u8], from: usize, size: usize, here: usize) -> Option<usiz
     Some(here + room)
 }
 
+// The byte before `size` that many times more, as often as there is room for; and where they end, if that is all of
+// them. Most groups are one byte, and some of those are there very often: one fill takes less than a copy each time.
+fn repeat_byte(bytes: &mut [u8], size: usize, more: usize) -> Option<usize>
+    requires { (0 < size) × (size ≤ length bytes.old) }
+    ensures value { EndMet (size + more) (length bytes.old) result }
+    ensures bytes_after { bytes.new ≡ sets bytes.old size (replicate more (get_or bytes.old (size - 1) 0)) }
+{
+    let byte = bytes[size - 1];
+    let room = (bytes.len() - size).min(more);
+    bytes[size..size + room].fill(byte);
+    if room < more {
+        return None;
+    }
+    Some(size + room)
+}
+
 // The bytes from `from` to below `size`, that often in all. `next` is where the line goes on.
 #[tactic(auto, using(crate::proofs::Stores::repeats))]
 fn repeat(bytes: &mut [u8], from: usize, size: usize, times: u64, next: usize) -> Option<Step>
@@ -173,6 +190,10 @@ fn repeat(bytes: &mut [u8], from: usize, size: usize, times: u64, next: usize) -
 {
     if times == 0 {
         return Some(Step { next, size: from });
+    }
+    if size - from == 1 {
+        let end = repeat_byte(bytes, size, (times - 1) as usize)?;
+        return Some(Step { next, size: end });
     }
     let mut here = size;
     for _ in 1..times {

@@ -9,12 +9,12 @@ use Rattle.wire.specs.BigEndian.{joined, be}
 use Rattle.wire.specs.Laws.{be_length, joined_snoc, sets_none}
 
 -- one byte more
-pub joined_more : (s : List ℕ) (i u v b : ℕ) → i < length s → b ≡ get_or s i 0 → b < 256
-    → v ≡ joined u (take i s) % 2 ^ 64
-    → v * 256 % 2 ^ 64 + b ≡ joined u (take (i + 1) s) % 2 ^ 64
-joined_more s i u v b h e l f =
+pub joined_more : (s : List ℕ) (i u v w b : ℕ) → i < length s → b ≡ get_or s i 0 → b < 256
+    → v ≡ joined u (take i s) % 2 ^ 64 → w ≡ v * 256 % 2 ^ 64
+    → w + b ≡ joined u (take (i + 1) s) % 2 ^ 64
+joined_more s i u v w b h e l f x =
     let more = ap (joined u) (take_more s i 0 h) ∙ joined_snoc (take i s) u (get_or s i 0) in
-    omega (arith, e, f, more)
+    omega (arith, e, f, x, more)
 
 -- ---- a number's bytes are stored: they do not fit, or all of them are
 pub none_stored : (l : List ℕ) (i n v : ℕ) → length l < i + n

@@ -11,8 +11,8 @@ use Rattle.flow.specs.OverlayLaws.{stored_out, stored_sets, length_stored, store
 use Rattle.std.specs.Prelude.{Result, Ok, Err}
 use Rattle.scalar.specs.declared.Unwritten.{Unwritten}
 use Rattle.scalar.specs.declared.Unwritten.TheVariants.{NoRoom, NoSuchForm}
-use Rattle.scalar.specs.Answers.{report, report_of, output_of}
-use Rattle.scalar.proofs.AnswerLaws.{report_none, report_stored, report_over, output_some}
+use Rattle.scalar.specs.Answers.{report, report_of, output_of, length_of}
+use Rattle.scalar.proofs.AnswerLaws.{report_none, report_stored, report_over, output_some, length_none, length_some}
 use Rattle.writer.specs.declared.size.Size.{Size}
 use Rattle.writer.specs.declared.progress.NoRecord.{NoRecord}
 use Rattle.writer.specs.Lent.{over_longest}
@@ -81,3 +81,11 @@ module _ (out : List ℕ) (s : ℕ) (out' : List ℕ) where
       → (report a ≡ report_of o (length out) s) × (out' ≡ output_of o out s) → PutBy a s r → PutMet o out s r out'
   form_put none a r t p = none_put a r (t.0 ∙ report_none (length out) s) p
   form_put (some w) a r t p = some_put w (t.1 ∙ output_some out s w) a r t.0 p
+
+-- ---- a form that was said to have n bytes
+pub size_put : (o : Option (List ℕ)) (out : List ℕ) (s n : ℕ) (out' : List ℕ) (x : Size)
+    → ((0 < n) × (n ≡ length_of o)) × (out' ≡ output_of o out s) → x.bytes ≡ min (s + n) over_longest
+    → PutMet o out s (Ok x) out'
+size_put none out s n out' x h g = absurd (omega (arith, h.0.0, h.0.1, length_none))
+size_put (some w) out s n out' x h g =
+    bytes_put out s out' w (h.1 ∙ output_some out s w) n (h.0.1 ∙ length_some w) x g

@@ -25,6 +25,7 @@ fn sort_of(kind: Kind) -> Option<Sort>
 }
 
 // The number of this kind of the row r.
+#[inline(always)]
 fn put_value(out: &mut [u8], sort: Sort, r: Row, size: Size) -> Result<Size, NoRecord>
     ensures { NumberMet sort r out.old size.bytes result out.new }
 {
@@ -45,6 +46,7 @@ fn put_content(source: &[u8], out: &mut [u8], r: Row, size: Size) -> Result<Size
 }
 
 // The reference of the row r, where so many numbers are given.
+#[inline(always)]
 fn put_reference(out: &mut [u8], r: Row, references: u64, size: Size) -> Result<Size, NoRecord>
     ensures { ReferenceMet r references out.old size.bytes result out.new }
 {
@@ -58,7 +60,9 @@ fn put_reference(out: &mut [u8], r: Row, references: u64, size: Size) -> Result<
     crate::puts::put_int(out, r.first, at)
 }
 
-// The value of the row r, which is no list, map or object, where so many references are given.
+// The value of the row r, which is no list, map or object, where so many references are given. Each instance of the core
+// has it inlined, and so the numbers, which are most of a record's values.
+#[inline(always)]
 pub(crate) fn put_leaf(
     source: &[u8],
     out: &mut [u8],

@@ -19,20 +19,24 @@ pub(crate) fn put_byte(out: &mut [u8], b: u8, size: Size) -> Size
     size.grown(1)
 }
 
-// How many bytes there are then, by what writing some came to: those that found no room count too.
+// How many bytes there are then, by what writing some came to: those that found no room count too. It grows in one place:
+// with a call in each arm ints take longer.
+#[inline(always)]
 fn put_by(written: Result<usize, Unwritten>, size: Size) -> Result<Size, NoRecord>
     ensures { PutBy written size.bytes result }
 {
-    match written {
-        Ok(more) => Ok(size.grown(more)),
-        Err(Unwritten::NoRoom { needed }) => Ok(size.grown(needed)),
-        Err(Unwritten::NoSuchForm) => Err(NoRecord),
-    }
+    let more = match written {
+        Ok(more) => more,
+        Err(Unwritten::NoRoom { needed }) => needed,
+        Err(Unwritten::NoSuchForm) => return Err(NoRecord),
+    };
+    Ok(size.grown(more))
 }
 
 // ---- numbers
 
 // A number of this kind in its shortest form.
+#[inline(always)]
 pub(crate) fn put_number(
     out: &mut [u8],
     sort: Sort,
@@ -41,14 +45,21 @@ pub(crate) fn put_number(
 ) -> Result<Size, NoRecord>
     ensures { PutMet (shortest (forms_of sort) value) out.old size.bytes result out.new }
 {
-    put_by(numbers::write_number(sort, value, out, size.bytes), size)
+    let Some(more) = numbers::put_number(sort, value, out, size.bytes) else {
+        return Err(NoRecord);
+    };
+    Ok(size.grown(more))
 }
 
-// An int in its shortest form.
+// An int in its shortest form. Not by put_number: so much would be inlined then that put_leaf is no longer.
+#[inline(always)]
 pub(crate) fn put_int(out: &mut [u8], value: u64, size: Size) -> Result<Size, NoRecord>
     ensures { PutMet (shortest (forms_of kinds.Int) value) out.old size.bytes result out.new }
 {
-    put_number(out, Sort::Int, value, size)
+    let Some(more) = numbers::stores::put_int(value, out, size.bytes) else {
+        return Err(NoRecord);
+    };
+    Ok(size.grown(more))
 }
 
 // ---- texts and byte strings

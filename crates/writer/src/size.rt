@@ -16,6 +16,7 @@ pub(crate) struct Size {
 
 impl Size {
     // With so many bytes more.
+    #[inline(always)]
     pub fn grown(self, more: usize) -> Size
         ensures { result.bytes ≡ min (self.bytes + more) over_longest }
     {

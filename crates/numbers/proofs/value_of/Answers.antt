@@ -1,13 +1,13 @@
 -- Each arm's callee computes the value of its rule.
-use Rattle.std.proofs.Common.{arith, w64}
+use Rattle.std.proofs.Common.{w64}
 use borrow.Author.Rules.{sfits_of}
 use mir.ValLaws.{to_z-of_z}
 use Rattle.scalar.proofs.RuleLaws.{value_exactly, value_plain, value_offset, value_signed}
-use Rattle.scalar.specs.declared.Rule.TheVariants.{Offset}
-use Rattle.scalar.proofs.Signed.{minus_bits}
-use Rattle.numbers.specs.Answers.{Takes}
 use Rattle.scalar.proofs.RuleLaws.{value_minutes, value_byte, value_pair, value_float}
 use Rattle.numbers.proofs.value_of.Goals as goal
+
+pub less-requires : goal.less-requires
+less-requires c = rw c.in-Offset.is at c.requires
 
 pub signed_32-requires : goal.signed_32-requires
 signed_32-requires c = rw c.in-Signed.is at c.requires
@@ -31,9 +31,7 @@ pub returns-in-Plain : goal.returns-in-Plain
 returns-in-Plain c = rw (c.in-Plain.is, value_plain)
 
 pub returns-in-Offset : goal.returns-in-Offset
-returns-in-Offset c =
-    let takes : Takes (Offset c.in-Offset.k) c.args.u = rw c.in-Offset.is at c.requires in
-    rw (c.in-Offset.is, value_offset, minus_bits c.args.u c.in-Offset.k takes.0 (omega arith))
+returns-in-Offset c = rw (c.in-Offset.is, value_offset) c.less.ensures
 
 pub returns-in-Signed : goal.returns-in-Signed
 returns-in-Signed c = rw (

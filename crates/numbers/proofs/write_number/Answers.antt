@@ -1,25 +1,22 @@
--- `numbers::write_number` meets its contract: kind by kind.
-use Rattle.scalar.proofs.FormLaws.{forms_null, forms_false, forms_true}
-use Rattle.numbers.proofs.Writing.{written_kind, written_forms}
+-- There is no form, or it has no room, or it is stored.
+use Rattle.numbers.proofs.Writing.{told_none, told_over, told_stored}
 use Rattle.numbers.proofs.write_number.Goals as goal
 
-pub returns-in-Null : goal.returns-in-Null
-returns-in-Null c = written_forms _ c.in-Null.is forms_null c.write_single.ensures
+pub returns-in_err-size : goal.returns-in_err-size
+returns-in_err-size c =
+    let e = c.in_err-size.ensures in
+    let put = c.put_number.ensures in
+    (told_none _ _ _ _ _ put _ _ c.from_residual.ensures.1 e.value e.ok_part, put.1)
 
-pub returns-in-False : goal.returns-in-False
-returns-in-False c = written_forms _ c.in-False.is forms_false c.write_single-in-False.ensures
+pub returns-in_err-room : goal.returns-in_err-room
+returns-in_err-room c =
+    let put = c.put_number.ensures in (
+      told_over _ _ _ _ _ put _ c.in_ok-size.ensures.ok_part _ _ c.from_residual-in_err-room.ensures.1
+          c.in_err-room.ensures,
+      put.1,
+    )
 
-pub returns-in-True : goal.returns-in-True
-returns-in-True c = written_forms _ c.in-True.is forms_true c.write_single-in-True.ensures
-
-pub returns-in-Int : goal.returns-in-Int
-returns-in-Int c = written_kind _ c.in-Int.is c.write_int.ensures
-
-pub returns-in-Long : goal.returns-in-Long
-returns-in-Long c = written_kind _ c.in-Long.is c.write_long.ensures
-
-pub returns-in-Double : goal.returns-in-Double
-returns-in-Double c = written_kind _ c.in-Double.is c.write_double.ensures
-
-pub returns-in-Date : goal.returns-in-Date
-returns-in-Date c = written_kind _ c.in-Date.is c.write_date.ensures
+pub returns : goal.returns
+returns c =
+    let put = c.put_number.ensures in
+    (told_stored _ _ _ _ _ put _ c.in_ok-size.ensures.ok_part c.in_ok-room.ensures, put.1)

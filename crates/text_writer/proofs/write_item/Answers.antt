@@ -9,4 +9,4 @@ returns-then-out-to c = form_not _ _ c.form_size-needed.ensures _ _ (omega arith
 pub returns : goal.returns
 returns c =
     form_whole _ _ c.form_size-needed.ensures _ _ (omega arith) _
-    (c.lay.ensures.holds (omega (arith, c.lay.ensures.long)))
+    (c.store.ensures.holds (omega (arith, c.store.ensures.long)))

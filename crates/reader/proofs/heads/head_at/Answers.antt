@@ -1,13 +1,10 @@
 -- Each way out has its law in proofs/ValueHeads.antt.
-use Rattle.reader.proofs.ValueHeads.{head_bytes, head_full, head_high, head_none, head_number, head_object, head_off, head_opening, head_reference, head_text}
+use Rattle.reader.proofs.ValueHeads.{head_bytes, head_full, head_none, head_number, head_object, head_off, head_opening, head_reference, head_text}
 use Rattle.std.proofs.Common.{rules}
 use Rattle.reader.proofs.heads.head_at.Goals as goal
 
 pub returns-then-message-at : goal.returns-then-message-at
 returns-then-message-at c = search (head_off, rules)
-
-pub returns-then-b-ge128 : goal.returns-then-b-ge128
-returns-then-b-ge128 c = search (head_high, rules)
 
 pub returns-then-allowed-eq0 : goal.returns-then-allowed-eq0
 returns-then-allowed-eq0 c = search (head_full, rules)

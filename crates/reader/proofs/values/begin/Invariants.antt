@@ -4,10 +4,10 @@ use Rattle.reader.proofs.ClassDefinitions.{ReadingDefinitions}
 use Rattle.std.proofs.Common.{length, ◌-◌}
 use Rattle.reader.proofs.values.begin.Given as goal
 
-abbrev pub invariant-loop-slots : goal.invariant-loop-slots
-invariant-loop-slots g l =
+abbrev pub invariant-loop-leaf : goal.invariant-loop-leaf
+invariant-loop-leaf g l =
     ReadingDefinitions g.S.Slot.kept l.message (g.S.Slot.numbers l.initial.slots) l.initial.known l.initial.here
     (g.S.Slot.numbers l.slots) l.known l.here
 
-abbrev pub decreases-loop-slots : goal.decreases-loop-slots
-decreases-loop-slots g l = length l.message - l.here.at
+abbrev pub decreases-loop-leaf : goal.decreases-loop-leaf
+decreases-loop-leaf g l = length l.message - l.here.at

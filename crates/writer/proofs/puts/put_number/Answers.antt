@@ -1,7 +1,9 @@
--- A form by what was reported of it: proofs/PutLaws.antt.
-use borrow.Author.Rules.{rules}
-use Rattle.writer.proofs.PutLaws.{form_put}
+-- A form by how many bytes it has: proofs/PutLaws.antt.
+use Rattle.writer.proofs.PutLaws.{size_put}
 use Rattle.writer.proofs.puts.put_number.Goals as goal
 
+pub returns-in_default : goal.returns-in_default
+returns-in_default c = record { says = c.in_default.ensures.0 }
+
 pub returns : goal.returns
-returns c = search (form_put, rules)
+returns c = size_put _ _ _ _ _ _ c.in-Some.ensures c.grown.ensures
