@@ -1,17 +1,16 @@
 -- What the contracts on texts and byte strings ask at each way out of the code.
-use Rattle.std.proofs.Common.{◌≡◌, ℕ, suc, ◌+◌, ◌-◌, ◌*◌, ◌%◌, ◌^◌, ◌<◌, ◌≤◌, Bool, true, false, T, List, [], ◌∷◌, ◌++◌, map, length, get_or, take, drop, sym, refl, ap, ◌∙◌, subst, append_assoc, arith, length-append, length-drop, length-take, add-one, take-append-drop, length-take-le, w8, w64, Fits, le-leb}
+use Rattle.std.proofs.Common.{◌≡◌, ℕ, suc, ◌+◌, ◌-◌, ◌*◌, ◌%◌, ◌^◌, ◌<◌, ◌≤◌, Bool, true, false, T, List, [], ◌∷◌, ◌++◌, map, length, get_or, take, drop, sym, refl, ap, ◌∙◌, subst, append_assoc, arith, length-append, length-drop, take-append-drop, length-take-le, w8, w64, Fits, le-leb}
 use lib.ListN.{get_or-eq_default}
-use Rattle.std.proofs.Math.Seq.{take-suc}
 use Rattle.std.specs.Prelude.{Some, None, Result, Ok, Err}
 use Rattle.std.specs.declared.option.Option as code
 use Rattle.std.specs.Result.{IsErrAnd, result_unwrap_or}
 use Rattle.std.proofs.lemmas.Result.{err_from_is_err_and}
-use Rattle.flow.specs.Flow.{pick, Bytes, Entry, One, Done, Fault}
+use Rattle.flow.specs.Flow.{pick, Entry, One, Done, Fault}
 use Rattle.flow.specs.Steps.{Answer, renamed}
 use borrow.Author.Tests.{lt-leb}
 use Rattle.flow.specs.Tests.{split, pick_true, pick_false, bytes_drop, bytes_take, bytes_all}
 use Rattle.wire.specs.BigEndian.{joined, wider}
-use Rattle.wire.specs.Laws.{joined_snoc, joined_below}
+use Rattle.wire.specs.Laws.{joined_below}
 use Rattle.scalar.specs.declared.Begun.{Begun}
 use Rattle.scalar.specs.declared.refusals.Refusal.{Refusal}
 use Rattle.scalar.specs.declared.refusals.Refusal.TheVariants.{Cut, Byte, Utf8 as IllFormed}
@@ -405,20 +404,6 @@ module _ (k : Encoding) (n : ℕ) (m : List ℕ) (p : ℕ) where
 
   pub content_cut : k ≡ Binary → p ≤ length m → length m - p < n → Fault 2 (length m) ≡ extent_at (body k n) m p
   content_cut e l h = rw e (sym (octets_fault n m p l h))
-
--- ---- the length that a head says: v, by what its first byte holds, u, and i bytes of s, the one or two after that
-module _ (s : List ℕ) (fit : (i : ℕ) → Fits w8 (get_or s i 0)) (i u : ℕ) {v : ℕ} (e : v ≡ joined u (take i s)) where
-  pub held_few : u < 256 → length s ≤ 2 → v < 2 ^ 24
-  held_few l h = rw e (few (take i s) u (simp length-take (omega arith)) (bytes_take i s (bytes_all s (λ i. (fit i).fits))) l)
-    where
-      few : (t : List ℕ) (u : ℕ) → length t ≤ 2 → Bytes t → u < 256 → joined u t < 2 ^ 24
-      few [] u h b l = omega arith
-      few (x ∷ []) u h b l = omega (arith, b.0)
-      few (x ∷ y ∷ []) u h b l = omega (arith, b.0, b.1.0)
-      few (x ∷ y ∷ z ∷ t) u h b l = absurd (omega arith)
-
-  pub held_more : {b : ℕ} → i < length s → b ≡ get_or s i 0 → v * 256 + b ≡ joined u (take (i + 1) s)
-  held_more l f = rw (add-one i, take-suc s i 0 l, joined_snoc (take i s) u (get_or s i 0)) (omega arith)
 
 -- ---- a chunk's head
 module _ (k : Encoding) (m : List ℕ) (p : ℕ) where

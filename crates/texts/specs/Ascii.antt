@@ -1,6 +1,6 @@
 -- Bytes below 80, each a character of one unit: how many stand at a place, and the test of several at once.
-use Rattle.std.specs.Prelude.{◌≡◌, ℕ, zero, suc, ◌+◌, ◌-◌, ◌*◌, ◌/◌, ◌%◌, ◌<◌, ◌≤◌, min, Bool, true, false, cond, ◌&&◌, List, [], ◌∷◌, ◌++◌, length, take, drop, nat_eq, nat_lt, bit_and, slice_index, slice_index_or, refl}
-use Rattle.std.specs.List.{list_all, prefix_len}
+use Rattle.std.specs.Prelude.{◌≡◌, ℕ, zero, suc, ◌+◌, ◌-◌, ◌*◌, ◌/◌, ◌%◌, ◌<◌, ◌≤◌, min, Bool, true, false, ◌&&◌, List, [], ◌∷◌, ◌++◌, length, take, drop, nat_eq, nat_lt, bit_and, slice_index, slice_index_or, refl}
+use Rattle.std.specs.List.{list_all, fold, prefix_len}
 use Rattle.std.specs.Int.{w32, w64, from_le_bytes}
 use Rattle.std.specs.Simd.{first_chunks}
 use Rattle.std.proofs.Math.Path.{sym, ap}
@@ -13,7 +13,7 @@ use Rattle.std.proofs.lemmas.List.Sums.{prefix_len-le-length, prefix_len_passes,
 use Rattle.std.proofs.lemmas.List.Folds.{list_all-append}
 use Rattle.std.proofs.Math.ListN.{length-take, length-drop}
 use Rattle.std.proofs.Math.Seq.{get_or-drop, length-take-le, take-nil}
-use Rattle.flow.specs.Tests.{by_test, by_cases, split}
+use Rattle.flow.specs.Tests.{by_cases, split}
 
 -- the n bytes of m from p on are ASCII
 pub record Ascii (m : List ℕ) (p n : ℕ) : Type 0 where
@@ -116,6 +116,13 @@ all_blocks n (suc k) s l =
     ap (λ (t : Bool). all_ascii (take n s) && t) (all_blocks n k (drop n s) (omega (arith, length-drop n s)))
     ∙ sym (list_all-append is_ascii (take n s) (drop n s))
     ∙ ap all_ascii (take-append-drop n s)
+
+-- and one after the other
+pub fold_all : (ws : List (List ℕ)) (t : Bool) → fold (λ a w. a && all_ascii w) t ws ≡ (t && list_all all_ascii ws)
+fold_all [] true = refl
+fold_all [] false = refl
+fold_all (w ∷ ws) true = fold_all ws (all_ascii w)
+fold_all (w ∷ ws) false = fold_all ws false
 
 -- a block that is ASCII, or not, and what follows
 run_on : (s t : List ℕ) → all_ascii s ≡ true → ascii_run (s ++ t) ≡ length s + ascii_run t

@@ -1,14 +1,16 @@
 // Texts and byte strings: reading one at a place. The definitions are in scalar's specs/Scalars.antt.
 #![tactic(auto)]
 
-ghost use Rattle.std.specs.Prelude.{◌≡◌, ℕ, ◌+◌, ◌*◌, ◌/◌, ◌%◌, ◌<◌, ◌≤◌, Ok, length, IfSome};
+ghost use Rattle.std.specs.Prelude.{◌≡◌, ℕ, ◌+◌, ◌*◌, ◌/◌, ◌%◌, ◌<◌, ◌≤◌, Ok, length, IfSome, Some, slice_index};
 ghost use Rattle.wire.specs.BigEndian.{joined};
+ghost use Rattle.scalar.specs.declared.Encoding.{Encoding};
 ghost use Rattle.scalar.specs.declared.Encoding.TheVariants as Encoding;
 ghost use Rattle.scalar.specs.Scalars.{char_lead, continued as continuedBy, characters as charactersOf, body as body_of};
 ghost use Rattle.scalar.specs.Scalars.{last_heads, shortest_head};
 ghost use Rattle.scalar.specs.TextShort.{short_to};
-ghost use Rattle.texts.specs.Answers.{told_string, extent_at, told_extent, told_bytes, CharMet, head_form, HeadMet};
-ghost use Rattle.texts.specs.Answers.{ChunkMet, WithinMet, PartsMet, HeadsMet, PassedMet, StringIs, PassedLength};
+ghost use Rattle.texts.specs.Answers.{told_string, extent_at, told_extent, told_bytes, CharMet, starts, head_form};
+ghost use Rattle.texts.specs.Answers.{HeadMet, ChunkMet, WithinMet, PartsMet, HeadsMet, PassedMet, StringIs};
+ghost use Rattle.texts.specs.Answers.{PassedLength};
 ghost use Rattle.scalar.specs.Answers.{measured_at};
 ghost use Rattle.texts.specs.Ascii.{all_ascii, ascii_run, ascii_at, ShortText};
 ghost use Rattle.texts.specs.At.{Opens, Halves, HighHalf};
@@ -249,8 +251,9 @@ fn halved(message: &[u8], at: usize, left: usize) -> Result<CharRead, Refused>
     pair(message, at)
 }
 
-// The character at `at`, where so many units are left. Both walks over characters have it inlined, with the two functions
-// above: by a call, its answer goes through memory for each character.
+// The character at `at`, where so many units are left. Both walks over characters have it inlined, with the two
+// functions above: by a call, its answer goes through memory for each character. Two bytes after the first have an arm of
+// their own, so that their number is known there and no loop is left.
 #[inline(always)]
 fn character(message: &[u8], at: usize, left: usize) -> Result<CharRead, Refused>
     requires { (at ≤ length message.now) × (0 < left) }
@@ -264,6 +267,11 @@ fn character(message: &[u8], at: usize, left: usize) -> Result<CharRead, Refused
         });
     }
     match char_lead(message[at]) {
+        CharLead::Basic {
+            more: 2,
+            from,
+            below,
+        } => opened(message, at, 2, from, below, 1),
         CharLead::Basic { more, from, below } => opened(message, at, more, from, below, 1),
         CharLead::Supplementary { from, below } if 2 <= left => opened(
             message, at, 3, from, below, 2,
@@ -295,13 +303,15 @@ fn eight_ascii(bytes: [u8; 8]) -> bool
     word & 0x8080_8080_8080_8080 == 0
 }
 
-// Whether the block of four words is ASCII.
+// Whether the block of four words is ASCII. One test tells all four: a branch after each word takes longer.
 #[inline(always)]
 fn block_ascii(block: &[u8; 32]) -> bool
     ensures { result ≡ all_ascii block.now }
 {
     let (words, _) = block.as_chunks();
-    words.iter().all(|word| eight_ascii(*word))
+    words
+        .iter()
+        .fold(true, |ascii, word| ascii & eight_ascii(*word))
 }
 
 // How many blocks of four words are ASCII at the start.
@@ -430,47 +440,90 @@ fn head_form(kind: Encoding, b: u8) -> Option<HeadForm>
     Some(HeadForm { more, held, last })
 }
 
-// The length that a head says: what its first byte holds, and up to two bytes more.
+// The length that a head says: what its first byte holds, and up to two bytes more. By cases: with a loop, texts in
+// short chunks took a tenth to a fifth longer.
 fn head_units(held: u8, more: &[u8]) -> usize
     requires { length more.now ≤ 2 }
     ensures { result ≡ joined held more.now }
 {
-    let mut units = usize::from(held);
-    for b in more {
-        units = units * 256 + usize::from(*b);
+    let held = usize::from(held);
+    match more {
+        [a] => held * 256 + usize::from(*a),
+        [a, b] => (held * 256 + usize::from(*a)) * 256 + usize::from(*b),
+        _ => held,
     }
-    units
 }
 
-// The head of the chunk at `at`.
+// The head of the chunk at `at`, whose first byte begins it so.
+#[inline(always)]
+fn head_of(
+    message: &[u8],
+    at: usize,
+    more: usize,
+    held: u8,
+    last: bool,
+) -> Result<HeadRead, Refused>
+    requires { (at < length message.now) × (more ≤ 2) }
+    ensures { (k : Encoding) → Some (starts more held last) ≡ head_form k (slice_index message.now at)
+        → HeadMet k message.now at result }
+{
+    let len = message.len();
+    if len - at <= more {
+        return Err(Refused {
+            refusal: Refusal::Cut,
+            place: len,
+        });
+    }
+    Ok(HeadRead {
+        size: more + 1,
+        units: head_units(held, &message[at + 1..at + 1 + more]),
+        last,
+    })
+}
+
+// The head of the chunk at `at`. Two bytes after the first have an arm of their own, as in `character`.
 fn head(kind: Encoding, message: &[u8], at: usize) -> Result<HeadRead, Refused>
     ensures { HeadMet kind message.now at result }
 {
     let len = message.len();
-    let cut = Refused {
-        refusal: Refusal::Cut,
-        place: len,
-    };
     if len <= at {
-        return Err(cut);
-    }
-    let Some(form) = head_form(kind, message[at]) else {
         return Err(Refused {
+            refusal: Refusal::Cut,
+            place: len,
+        });
+    }
+    match head_form(kind, message[at]) {
+        Some(
+            HeadForm {
+                more: 2,
+                held,
+                last,
+            },
+        ) => head_of(message, at, 2, held, last),
+        Some(HeadForm { more, held, last }) => head_of(message, at, more, held, last),
+        None => Err(Refused {
             refusal: Refusal::Byte,
             place: at,
-        });
-    };
-    if len - at <= form.more {
-        return Err(cut);
+        }),
     }
-    Ok(HeadRead {
-        size: form.more + 1,
-        units: head_units(form.held, &message[at + 1..at + 1 + form.more]),
-        last: form.last,
-    })
 }
 
-// Whether the bytes are ASCII. Up to sixteen are told by the first and the last eight or four of them.
+// Whether the bytes, fewer than four, are ASCII.
+#[inline(always)]
+fn few_ascii(bytes: &[u8]) -> bool
+    requires { length bytes.now < 4 }
+    ensures { result ≡ all_ascii bytes.now }
+{
+    match bytes {
+        [a, b, c] => a.is_ascii() & b.is_ascii() & c.is_ascii(),
+        [a, b] => a.is_ascii() & b.is_ascii(),
+        [a] => a.is_ascii(),
+        _ => true,
+    }
+}
+
+// Whether the bytes are ASCII. Up to three are told without a loop, and up to sixteen by the first and the last eight
+// or four of them.
 #[inline(always)]
 fn short_ascii(bytes: &[u8]) -> bool
     ensures { result ≡ all_ascii bytes.now }
@@ -480,7 +533,9 @@ fn short_ascii(bytes: &[u8]) -> bool
         if let (Some(first), Some(last)) = (bytes.first_chunk(), bytes.last_chunk()) {
             return four_ascii(*first) && four_ascii(*last);
         }
-    } else if n <= 16 {
+        return few_ascii(bytes);
+    }
+    if n <= 16 {
         if let (Some(first), Some(last)) = (bytes.first_chunk(), bytes.last_chunk()) {
             return eight_ascii(*first) && eight_ascii(*last);
         }

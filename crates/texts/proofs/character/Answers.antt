@@ -11,3 +11,6 @@ opened-requires c = search (opens_one, rules)
 
 pub opened-requires-in-Supplementary : goal.opened-requires-in-Supplementary
 opened-requires-in-Supplementary c = search (opens_two, rules)
+
+pub opened-requires-in-Basic : goal.opened-requires-in-Basic
+opened-requires-in-Basic c = search (opens_one, rules)
