@@ -117,7 +117,7 @@ all_blocks n (suc k) s l =
     ∙ sym (list_all-append is_ascii (take n s) (drop n s))
     ∙ ap all_ascii (take-append-drop n s)
 
--- and one after the other
+-- all of several words by a fold, after others that gave t
 pub fold_all : (ws : List (List ℕ)) (t : Bool) → fold (λ a w. a && all_ascii w) t ws ≡ (t && list_all all_ascii ws)
 fold_all [] true = refl
 fold_all [] false = refl

@@ -1,16 +1,14 @@
 // Texts and byte strings: reading one at a place. The definitions are in scalar's specs/Scalars.antt.
 #![tactic(auto)]
 
-ghost use Rattle.std.specs.Prelude.{◌≡◌, ℕ, ◌+◌, ◌*◌, ◌/◌, ◌%◌, ◌<◌, ◌≤◌, Ok, length, IfSome, Some, slice_index};
+ghost use Rattle.std.specs.Prelude.{◌≡◌, ℕ, ◌+◌, ◌*◌, ◌/◌, ◌%◌, ◌<◌, ◌≤◌, Ok, length, IfSome};
 ghost use Rattle.wire.specs.BigEndian.{joined};
-ghost use Rattle.scalar.specs.declared.Encoding.{Encoding};
 ghost use Rattle.scalar.specs.declared.Encoding.TheVariants as Encoding;
 ghost use Rattle.scalar.specs.Scalars.{char_lead, continued as continuedBy, characters as charactersOf, body as body_of};
 ghost use Rattle.scalar.specs.Scalars.{last_heads, shortest_head};
 ghost use Rattle.scalar.specs.TextShort.{short_to};
-ghost use Rattle.texts.specs.Answers.{told_string, extent_at, told_extent, told_bytes, CharMet, starts, head_form};
-ghost use Rattle.texts.specs.Answers.{HeadMet, ChunkMet, WithinMet, PartsMet, HeadsMet, PassedMet, StringIs};
-ghost use Rattle.texts.specs.Answers.{PassedLength};
+ghost use Rattle.texts.specs.Answers.{told_string, extent_at, told_extent, told_bytes, CharMet, head_form, HeadMet};
+ghost use Rattle.texts.specs.Answers.{ChunkMet, WithinMet, PartsMet, HeadsMet, PassedMet, StringIs, PassedLength};
 ghost use Rattle.scalar.specs.Answers.{measured_at};
 ghost use Rattle.texts.specs.Ascii.{all_ascii, ascii_run, ascii_at, ShortText};
 ghost use Rattle.texts.specs.At.{Opens, Halves, HighHalf};
@@ -252,8 +250,8 @@ fn halved(message: &[u8], at: usize, left: usize) -> Result<CharRead, Refused>
 }
 
 // The character at `at`, where so many units are left. Both walks over characters have it inlined, with the two
-// functions above: by a call, its answer goes through memory for each character. Two bytes after the first have an arm of
-// their own, so that their number is known there and no loop is left.
+// functions above: by a call, its answer goes through memory for each character. A character of three bytes has an arm
+// of its own: with their number known, the compiler unrolls the loop of `continued`.
 #[inline(always)]
 fn character(message: &[u8], at: usize, left: usize) -> Result<CharRead, Refused>
     requires { (at ≤ length message.now) × (0 < left) }
@@ -440,72 +438,49 @@ fn head_form(kind: Encoding, b: u8) -> Option<HeadForm>
     Some(HeadForm { more, held, last })
 }
 
-// The length that a head says: what its first byte holds, and up to two bytes more. By cases: with a loop, texts in
-// short chunks took a tenth to a fifth longer.
+// The length that a head says: what its first byte holds, and up to two bytes more, in this order: with a loop, or all
+// cases in one match, strings in short chunks take longer.
 fn head_units(held: u8, more: &[u8]) -> usize
     requires { length more.now ≤ 2 }
     ensures { result ≡ joined held more.now }
 {
     let held = usize::from(held);
-    match more {
-        [a] => held * 256 + usize::from(*a),
-        [a, b] => (held * 256 + usize::from(*a)) * 256 + usize::from(*b),
-        _ => held,
+    let [a, rest @ ..] = more else {
+        return held;
+    };
+    let units = held * 256 + usize::from(*a);
+    match rest {
+        [b] => units * 256 + usize::from(*b),
+        _ => units,
     }
 }
 
-// The head of the chunk at `at`, whose first byte begins it so.
-#[inline(always)]
-fn head_of(
-    message: &[u8],
-    at: usize,
-    more: usize,
-    held: u8,
-    last: bool,
-) -> Result<HeadRead, Refused>
-    requires { (at < length message.now) × (more ≤ 2) }
-    ensures { (k : Encoding) → Some (starts more held last) ≡ head_form k (slice_index message.now at)
-        → HeadMet k message.now at result }
-{
-    let len = message.len();
-    if len - at <= more {
-        return Err(Refused {
-            refusal: Refusal::Cut,
-            place: len,
-        });
-    }
-    Ok(HeadRead {
-        size: more + 1,
-        units: head_units(held, &message[at + 1..at + 1 + more]),
-        last,
-    })
-}
-
-// The head of the chunk at `at`. Two bytes after the first have an arm of their own, as in `character`.
+// The head of the chunk at `at`.
 fn head(kind: Encoding, message: &[u8], at: usize) -> Result<HeadRead, Refused>
     ensures { HeadMet kind message.now at result }
 {
     let len = message.len();
+    let cut = Refused {
+        refusal: Refusal::Cut,
+        place: len,
+    };
     if len <= at {
-        return Err(Refused {
-            refusal: Refusal::Cut,
-            place: len,
-        });
+        return Err(cut);
     }
-    match head_form(kind, message[at]) {
-        Some(
-            HeadForm {
-                more: 2,
-                held,
-                last,
-            },
-        ) => head_of(message, at, 2, held, last),
-        Some(HeadForm { more, held, last }) => head_of(message, at, more, held, last),
-        None => Err(Refused {
+    let Some(form) = head_form(kind, message[at]) else {
+        return Err(Refused {
             refusal: Refusal::Byte,
             place: at,
-        }),
+        });
+    };
+    if len - at <= form.more {
+        return Err(cut);
     }
+    Ok(HeadRead {
+        size: form.more + 1,
+        units: head_units(form.held, &message[at + 1..at + 1 + form.more]),
+        last: form.last,
+    })
 }
 
 // Whether the bytes, fewer than four, are ASCII.
